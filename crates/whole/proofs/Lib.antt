@@ -1,0 +1,4 @@
+pub mod Signed
+pub mod Near
+pub mod Held
+pub mod Machine
