@@ -1,0 +1,94 @@
+-- Laws of the spacing constants (001, 3.4.6), for every unit and every scale: the smallest whole number not below n / s,
+-- as the code divides, is q with n ≤ q s < n + s. Assumes nothing.
+use mathlib.Core.Path.{_≡_, sym, ap, _∙_}
+use mathlib.Core.Bool.{Bool, true, false, _&&_}
+use Prim.Native.Nat.{ℕ, _+_, _-_, _*_, _/_, _%_, _≤_, _<_}
+use native.Mathlib.Nat.{div-add-mod', mod-lt, mul-assoc, lt-of-mul-lt-mul-right, add-mul, mul-le-mul-left, zero-mul}
+use native.Mathlib.Omega.{arith}
+use borrow.Author.Tests.{leb-true}
+use lib.Dec.{leb}
+use lib.IntN.{ℤ, pos, natAbs}
+use Rattle.whole.specs.Whole.{ceilDiv}
+use Rattle.whole.proofs.Signed.{Is, is-nat, is-same, is-ceil, is-size}
+use Rattle.arc.specs.Zones.{circle}
+use Rattle.arc.specs.Spacing.{isScale, spacingAt, rowUnit, Scale, SpacingUnit, Spaced, SpacingIs, SpacingFalls, RowsAtLeast}
+
+-- the test as a fact
+pub scale-in : (s : ℕ) → isScale s ≡ true → Scale s
+scale-in s e = go (leb 5000 s) (leb s 20000000) (leb-true 5000 s) (leb-true s 20000000) e
+  where
+    go : (x y : Bool) → (x ≡ true → 5000 ≤ s) → (y ≡ true → s ≤ 20000000) → x && y ≡ true → Scale s
+    go true true f g t = record { least = f t; most = g t }
+    go true false f g t = let z : _≡_ {A = ℕ} 0 1 = cc in absurd (omega arith)
+    go false y f g t = let z : _≡_ {A = ℕ} 0 1 = cc in absurd (omega arith)
+
+module _ (u s : ℕ) (g : Scale s) where
+  q : ℕ
+  q = (u * 1000000 + (s - 1)) / s
+
+  -- as the code divides
+  pub divides : spacingAt u s ≡ 512 * ((u * 1000000 + (s - 1)) / s)
+  unfolding spacingAt
+  divides =
+      let x : ℕ = u * 1000000 in
+      let e : Is (ceilDiv (pos x) s) ((x + (s - 1)) / s) 0 =
+      is-ceil (pos x) s x 0 (omega (arith, g .least)) (is-same (pos x) x 0 x (0 * s) (is-nat x) (omega (arith, zero-mul s))) in
+      let f : natAbs (ceilDiv (pos x) s) ≡ (x + (s - 1)) / s - 0 + (0 - (x + (s - 1)) / s) = is-size (ceilDiv (pos x) s) ((x + (s - 1)) / s) 0 e in
+      ap (λ (n : ℕ). 512 * n) (omega arith)
+
+  enough : u * 1000000 ≤ q * s
+  unfolding q
+  enough =
+      let n : ℕ = u * 1000000 + (s - 1) in
+      omega (arith, div-add-mod' n s, mod-lt n {m = s} (omega (arith, g .least)), g .least)
+
+  close : q * s < u * 1000000 + s
+  unfolding q
+  close = omega (arith, div-add-mod' (u * 1000000 + (s - 1)) s, g .least)
+
+  -- a product with s carries over
+  carried : spacingAt u s * s ≡ 512 * (q * s)
+  unfolding q
+  carried = ap (λ (n : ℕ). n * s) divides ∙ mul-assoc 512 q s
+
+  -- q is below what its product with s is below
+  below : (k : ℕ) → u * 1000000 + s ≤ k * s → q < k
+  below k h = lt-of-mul-lt-mul-right s (omega (arith, close))
+
+  at-least : (k : ℕ) → k * s < u * 1000000 + s → k ≤ q
+  at-least k h =
+      let t : k < q + 1 = lt-of-mul-lt-mul-right s (omega (arith, enough, add-mul q 1 s)) in omega arith
+
+  pub spaced : SpacingUnit u → Spaced u s (spacingAt u s)
+  unfolding q
+  spaced w =
+      let e : spacingAt u s ≡ 512 * q = divides in
+      let h : q < 156401 = below 156401 (omega (arith, w .most, g .least)) in
+      let l : 1 ≤ q = at-least 1 (omega (arith, w .least)) in
+      record {
+        whole = omega arith;
+        some = omega arith;
+        below = omega arith;
+        enough = omega (arith, enough, carried);
+        close = omega (arith, close, carried) }
+
+pub spacings : SpacingIs
+spacings u s w g = spaced u s g w
+
+-- the quotient falls as the divisor grows
+pub falls : SpacingFalls
+unfolding q
+falls u s t w g k h =
+    let a : ℕ = q u s g in
+    let b : ℕ = q u t k in
+    let r : b < a + 1 = lt-of-mul-lt-mul-right t (omega (arith, close u t k, enough u s g, mul-le-mul-left a h, add-mul a 1 t)) in
+    let es : spacingAt u s ≡ 512 * a = divides u s g in
+    let et : spacingAt u t ≡ 512 * b = divides u t k in
+    omega arith
+
+pub rows-least : RowsAtLeast
+unfolding q
+rows-least s g =
+    let l : 40 ≤ q 782 s g = at-least 782 s g 40 (omega (arith, g .most)) in
+    let e : spacingAt 782 s ≡ 512 * q 782 s g = divides 782 s g in
+    omega arith

@@ -1,0 +1,90 @@
+-- Pixel spacing constants at scale 1:S (001, 3.4.6; 01, "Units and the zone table"). Definitions, and what they are held to.
+--     001 | here
+--     Asz | a        pixels round a parallel, 360° of longitude
+--     Bs  | b        pixels round a meridian, 360° of latitude
+--     S   | scale
+--     isScale S          5,000 to 20,000,000
+--     spacingAt u S      A or B at 1:S, where A / 512 or B / 512 at 1:1,000,000 is u
+--     columnsOf S zone   what is answered for A, the scale being good: refusal 2
+--     rowsOf S           what `b_constant` answers: refusal 1
+--     spacingOf S zone   what `spacing` answers: refusals 1, 2
+use mathlib.Core.Path.{_≡_}
+use mathlib.Core.Bool.{Bool, cond, _&&_}
+use mathlib.Core.List.{[], _∷_}
+use mathlib.Core.Option.{Option, some, none}
+use Prim.Native.Nat.{ℕ, _+_, _*_, _/_, _≤_, _<_}
+use lib.Dec.{leb}
+use lib.IntN.{ℤ, pos, natAbs}
+use Rattle.whole.specs.Whole.{ceilDiv}
+use Rattle.arc.specs.declared.ConstantAnswer.{ConstantAnswer}
+use Rattle.arc.specs.declared.SpacingAnswer.{SpacingAnswer}
+use Rattle.arc.specs.Refusals.{refusal, Report, answered, refusedWith}
+use Rattle.arc.specs.Zones.{circle, Row, rowOf}
+
+abbrev pub isScale : ℕ → Bool
+isScale s = leb 5000 s && leb s 20000000
+
+-- 512 times the smallest whole number not below u × 1,000,000 / S
+unfoldable pub spacingAt : ℕ → ℕ → ℕ
+spacingAt u s = 512 * natAbs (ceilDiv (pos (u * 1000000)) s)
+
+-- B / 512 is 782 everywhere
+abbrev pub rowUnit : ℕ
+rowUnit = 782
+
+abbrev pub columnsIn : ℕ → Option Row → ConstantAnswer
+columnsIn s (some r) = ConstantAnswer.Pixels (spacingAt (r .unit) s)
+columnsIn s none = ConstantAnswer.Refused (refusal 2)
+
+abbrev pub columnsOf : ℕ → ℕ → ConstantAnswer
+columnsOf s zone = columnsIn s (rowOf zone)
+
+abbrev pub rowsOf : ℕ → ConstantAnswer
+rowsOf s = cond (isScale s) (ConstantAnswer.Pixels (spacingAt rowUnit s)) (ConstantAnswer.Refused (refusal 1))
+
+abbrev pub withRows : ℕ → ConstantAnswer → SpacingAnswer
+withRows s (ConstantAnswer.Pixels a) = SpacingAnswer.Constants a (spacingAt rowUnit s)
+withRows s (ConstantAnswer.Refused r) = SpacingAnswer.Refused r
+
+-- 1, 2
+abbrev pub spacingOf : ℕ → ℕ → SpacingAnswer
+spacingOf s zone = cond (isScale s) (withRows s (columnsOf s zone)) (SpacingAnswer.Refused (refusal 1))
+
+-- ---- the paper's number, place and values
+
+abbrev pub constantReport : ConstantAnswer → Report
+constantReport (ConstantAnswer.Pixels a) = answered (pos a ∷ [])
+constantReport (ConstantAnswer.Refused r) = refusedWith r 1
+
+abbrev pub spacingReport : SpacingAnswer → Report
+spacingReport (SpacingAnswer.Constants a b) = answered (pos a ∷ pos b ∷ [])
+spacingReport (SpacingAnswer.Refused r) = refusedWith r 2
+
+-- ---- what a spacing is held to, for every unit and scale: proved in proofs/Spaced.antt
+
+pub record Scale (s : ℕ) : Type 0 where
+  pub least : 5000 ≤ s
+  pub most : s ≤ 20000000
+
+pub record SpacingUnit (u : ℕ) : Type 0 where
+  pub least : 1 ≤ u
+  pub most : u ≤ 782
+
+-- a multiple of 512, below H, not below the exact value u × 512 × 1,000,000 / S and less than 512 above it
+pub record Spaced (u s x : ℕ) : Type 0 where
+  pub whole : x ≡ 512 * (x / 512)
+  pub some : 512 ≤ x
+  pub below : x < circle
+  pub enough : 512 * (u * 1000000) ≤ x * s
+  pub close : x * s < 512 * (u * 1000000) + 512 * s
+
+abbrev pub SpacingIs : Type 0
+SpacingIs = (u s : ℕ) → SpacingUnit u → Scale s → Spaced u s (spacingAt u s)
+
+-- a smaller scale never has the wider spacing
+abbrev pub SpacingFalls : Type 0
+SpacingFalls = (u s t : ℕ) → SpacingUnit u → Scale s → Scale t → s ≤ t → spacingAt u t ≤ spacingAt u s
+
+-- B is at least 20,480
+abbrev pub RowsAtLeast : Type 0
+RowsAtLeast = (s : ℕ) → Scale s → 20480 ≤ spacingAt rowUnit s

@@ -1,0 +1,26 @@
+// Constants of the whole system.
+// The circle, in hundredths of an arc-second (01, "Units and the zone table").
+pub struct Circle;
+
+impl Circle {
+    pub const H: u64 = 129_600_000;
+    pub const HALF: u64 = 64_800_000;
+    pub const QUARTER: u64 = 32_400_000;
+    pub const DEGREE: u64 = 360_000;
+}
+
+// A tile (01, "Tiles").
+pub struct Tile;
+
+impl Tile {
+    pub const SIDE: u64 = 128;
+    pub const BYTES: u64 = 49_152;
+}
+
+// The scales served: 1:LEAST to 1:MOST.
+pub struct Scales;
+
+impl Scales {
+    pub const LEAST: u64 = 5_000;
+    pub const MOST: u64 = 20_000_000;
+}
