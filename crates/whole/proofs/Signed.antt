@@ -175,3 +175,10 @@ is-raise k (negsuc n) h = omega (arith, ltb-false k (suc n) (sym (is-outside k (
 pub raise-high : (k : ℕ) (z : ℤ) → outside k z ≡ false → raise k z ≤ k + k
 raise-high k (pos n) h = omega (arith, ltb-false k n (sym (is-outside k (pos n)) ∙ h))
 raise-high k (negsuc n) h = omega arith
+
+-- the range tested by a number that is the size
+pub outside-size : (k : ℕ) (z : ℤ) (n : ℕ) → n ≡ natAbs z → k < n → outside k z ≡ true
+outside-size k z n e h = is-outside k z ∙ lt-ltb k (natAbs z) (omega arith)
+
+pub inside-size : (k : ℕ) (z : ℤ) (n : ℕ) → n ≡ natAbs z → n ≤ k → outside k z ≡ false
+inside-size k z n e h = is-outside k z ∙ le-ltb k (natAbs z) (omega arith)

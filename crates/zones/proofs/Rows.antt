@@ -1,0 +1,91 @@
+-- The table by a row's place in it, 0 to 8. Two lists that are alike when mapped are alike at each place, so each column of
+-- the table is one equation that computes. Assumes nothing.
+use mathlib.Core.Path.{_≡_, refl, sym, ap, _∙_, subst}
+use mathlib.Core.Bool.{Bool, true, false, cond, not, _&&_, _||_}
+use mathlib.Core.List.{List, [], _∷_, map}
+use mathlib.Core.Logic.{_⊎_, inl, inr, ⊎-elim}
+use mathlib.Core.Option.{Option, some, none}
+use Prim.Native.Nat.{ℕ, zero, suc, _+_, _-_, _*_, _≤_, _<_, zero-le}
+use native.Mathlib.Numerals.{add-one}
+use native.Mathlib.Omega.{arith}
+use borrow.Author.Tests.{ltb-true}
+use lib.Dec.{leb, ltb, eqb}
+use lib.ListN.{length, getD}
+use Rattle.arc.specs.Zones.{degree, Row, row, table, rowOf, isPolar}
+use Rattle.zones.specs.Lists.{upFrom}
+use Rattle.zones.specs.Basic.{from, to, rowHolding}
+use Rattle.zones.proofs.Holding.{noRow, reach, linked, Held, held, holding}
+
+pub agree : {A B C : Type 0} (f : A → C) (g : B → C) (k : List A) (l : List B) (d : A) (e : B) → map f k ≡ map g l
+    → (i : ℕ) → i < length k → f (getD k i d) ≡ g (getD l i e)
+agree f g [] l d e p i h = absurd (omega arith)
+agree f g (a ∷ k) [] d e p i h = absurd (omega (arith, ap length p))
+agree f g (a ∷ k) (b ∷ l) d e p zero h = cc
+agree f g (a ∷ k) (b ∷ l) d e p (suc i) h = agree f g k l d e (cc) i (omega arith)
+
+pub upFrom-at : (a n i d : ℕ) → i < n → getD (upFrom a n) i d ≡ a + i
+upFrom-at a zero i d h = absurd (omega arith)
+upFrom-at a (suc n) zero d h = omega arith
+upFrom-at a (suc n) (suc i) d h = let e = upFrom-at (a + 1) n i d (omega arith) in omega arith
+
+abbrev pub rowAt : ℕ → Row
+rowAt i = getD table i noRow
+
+-- the limits as the code lists them
+abbrev pub tos : List ℕ
+tos = 11520000 ∷ 17280000 ∷ 20160000 ∷ 23040000 ∷ 24480000 ∷ 25920000 ∷ 27360000 ∷ 28800000 ∷ 32400000 ∷ []
+
+abbrev pub froms : List ℕ
+froms = 0 ∷ 11520000 ∷ 17280000 ∷ 20160000 ∷ 23040000 ∷ 24480000 ∷ 25920000 ∷ 27360000 ∷ 28800000 ∷ []
+
+module _ (i : ℕ) (h : i < 9) where
+  -- a column of the table as a function of the row's place
+  column : {C : Type 0} (f : Row → C) (g : ℕ → C) (a : ℕ) → map f table ≡ map g (upFrom a 9) → f (rowAt i) ≡ g (a + i)
+  column f g a e = agree f g table (upFrom a 9) noRow 0 e i h ∙ ap g (upFrom-at a 9 i 0 h)
+
+  pub northern-at : rowAt i .northern ≡ 1 + i
+  northern-at = column (λ (r : Row). r .northern) (λ (n : ℕ). n) 1 refl
+
+  pub southern-at : rowAt i .southern ≡ 10 + i
+  southern-at = column (λ (r : Row). r .southern) (λ (n : ℕ). n) 10 refl
+
+  pub row-north : rowOf (1 + i) ≡ some (rowAt i)
+  row-north = sym (column some rowOf 1 refl)
+
+  pub row-south : rowOf (10 + i) ≡ some (rowAt i)
+  row-south = sym (column some rowOf 10 refl)
+
+  pub polar-at : isPolar (rowAt i .northern) ≡ eqb (1 + i) 9
+  polar-at = column (λ (r : Row). isPolar (r .northern)) (λ (n : ℕ). eqb n 9) 1 refl
+
+  pub last-at : eqb (rowAt i .poleward) 90 ≡ eqb (1 + i) 9
+  last-at = column (λ (r : Row). eqb (r .poleward) 90) (λ (n : ℕ). eqb n 9) 1 refl
+
+  pub from-to : from (rowAt i) < to (rowAt i)
+  from-to = ltb-true (from (rowAt i)) (to (rowAt i)) (column (λ (r : Row). ltb (from r) (to r)) (λ (n : ℕ). true) 0 refl)
+
+  pub to-at : to (rowAt i) ≡ getD tos i 0
+  to-at = agree to (λ (n : ℕ). n) table tos noRow 0 refl i h
+
+  pub from-at : from (rowAt i) ≡ getD froms i 0
+  from-at = agree from (λ (n : ℕ). n) table froms noRow 0 refl i h
+
+-- the row that holds a size, and its place
+pub place : (size : ℕ) → Held table size
+place size = held size table 0 refl zero-le
+
+-- by its poleward limits
+pub by-reach : (size : ℕ) → rowHolding size ≡ reach table size
+by-reach size = holding size table 0 refl zero-le
+
+pub is-place : (size : ℕ) → rowHolding size ≡ rowAt (place size .at)
+is-place size = by-reach size ∙ place size .is
+
+-- its number, 1 to 9, and that of its southern zone
+pub northern-is : (size : ℕ) → rowHolding size .northern ≡ 1 + place size .at
+northern-is size = ap (λ (r : Row). r .northern) (is-place size) ∙ northern-at (place size .at) (place size .in-list)
+
+pub southern-is : (size : ℕ) → rowHolding size .southern ≡ rowHolding size .northern + 9
+southern-is size =
+    let e : rowHolding size .southern ≡ 10 + place size .at = ap (λ (r : Row). r .southern) (is-place size) ∙ southern-at (place size .at) (place size .in-list) in
+    omega (arith, northern-is size)
