@@ -1,2 +1,3 @@
 pub mod Spaced
 pub mod Table
+pub mod Answered

@@ -11,7 +11,7 @@ use lib.IntN.{ℤ, pos, natAbs}
 use Rattle.whole.specs.Whole.{ceilDiv}
 use Rattle.whole.proofs.Signed.{Is, is-nat, is-same, is-ceil, is-size}
 use Rattle.arc.specs.Zones.{circle}
-use Rattle.arc.specs.Spacing.{isScale, spacingAt, rowUnit, Scale, SpacingUnit, Spaced, SpacingIs, SpacingFalls, RowsAtLeast}
+use Rattle.arc.specs.Spacing.{isScale, spacingAt, rowUnit, Scale, SpacingUnit, Spaced, Grid, SpacingIs, SpacingFalls, RowsAtLeast}
 
 -- the test as a fact
 pub scale-in : (s : ℕ) → isScale s ≡ true → Scale s
@@ -71,6 +71,14 @@ module _ (u s : ℕ) (g : Scale s) where
         below = omega arith;
         enough = omega (arith, enough, carried);
         close = omega (arith, close, carried) }
+
+  pub grid : SpacingUnit u → Grid (spacingAt u s)
+  unfolding q
+  grid w =
+      let e : spacingAt u s ≡ 512 * q = divides in
+      let h : q < 156401 = below 156401 (omega (arith, w .most, g .least)) in
+      let p = spaced w in
+      record { whole = p .whole; some = p .some; most = omega arith }
 
 pub spacings : SpacingIs
 spacings u s w g = spaced u s g w

@@ -78,6 +78,20 @@ pub record Spaced (u s x : ℕ) : Type 0 where
   pub enough : 512 * (u * 1000000) ≤ x * s
   pub close : x * s < 512 * (u * 1000000) + 512 * s
 
+-- what the grid's arithmetic leans on: a multiple of 512, none above B at 1:5,000
+pub record Grid (x : ℕ) : Type 0 where
+  pub whole : x ≡ 512 * (x / 512)
+  pub some : 512 ≤ x
+  pub most : x ≤ 80076800
+
+-- what `spacing` answers is such a pair
+pub record Grids (a b : ℕ) : Type 0 where
+  pub columns : Grid a
+  pub rows : Grid b
+
+abbrev pub GridsIs : Type 0
+GridsIs = (s zone a b : ℕ) → spacingOf s zone ≡ SpacingAnswer.Constants a b → Grids a b
+
 abbrev pub SpacingIs : Type 0
 SpacingIs = (u s : ℕ) → SpacingUnit u → Scale s → Spaced u s (spacingAt u s)
 

@@ -1,6 +1,8 @@
 -- The zone table (01, "Units and the zone table"; 001, Tables 3-1 and 3-5). Definitions only.
 --     circle             H, the circle, in hundredths of an arc-second
+--     half, quarter      180° and 90°, the limits of a longitude and a latitude
 --     degree             a degree
+--     tile               128 pixels, the side of a tile
 --     Row                a row of the table: its two zones, its limits in degrees, and A / 512 at 1:1,000,000
 --     table              the rows
 --     rowOf zone         the row of a zone, none where the number is no zone's
@@ -15,8 +17,17 @@ use lib.Dec.{eqb}
 abbrev pub circle : ℕ
 circle = 129600000
 
+abbrev pub half : ℕ
+half = 64800000
+
+abbrev pub quarter : ℕ
+quarter = 32400000
+
 abbrev pub degree : ℕ
 degree = 360000
+
+abbrev pub tile : ℕ
+tile = 128
 
 pub record Row : Type 0 where
   pub northern : ℕ

@@ -1,5 +1,4 @@
 -- The basic zone of a latitude (001, 3.3.3; 01, "Units and the zone table"). Definitions only.
---     quarter            90° in hundredths of an arc-second, the limit of a latitude
 --     from r, to r       a row's equatorward and poleward limit
 --     holds r size       a latitude of that size lies between the row's limits
 --     rowHolding size    the row that holds it
@@ -14,11 +13,8 @@ use lib.IntN.{ℤ, pos, natAbs}
 use lib.Signed.{ltZ}
 use Rattle.whole.specs.Whole.{outside}
 use Rattle.arc.specs.Refusals.{refusal, Report, answered, refusedWith}
-use Rattle.arc.specs.Zones.{degree, Row, row, table}
+use Rattle.arc.specs.Zones.{degree, quarter, Row, row, table}
 use Rattle.zones.specs.declared.ZoneAnswer.{ZoneAnswer}
-
-abbrev pub quarter : ℕ
-quarter = 32400000
 
 abbrev pub from : Row → ℕ
 from r = r .equatorward * degree

@@ -14,10 +14,10 @@ use Rattle.arc.specs.declared.Refusal.{Refusal}
 use Rattle.arc.specs.declared.Verdict.{Verdict}
 use Rattle.arc.specs.declared.ConstantAnswer.{ConstantAnswer}
 use Rattle.arc.specs.Refusals.{refusal, Report}
+use Rattle.arc.specs.Zones.{quarter}
 use Rattle.arc.specs.Spacing.{rowsOf}
 use Rattle.zones.specs.declared.RectangleAnswer.{RectangleAnswer}
 use Rattle.zones.specs.Lists.{those, upFrom, padded, reportIn, someFrom}
-use Rattle.zones.specs.Basic.{quarter}
 use Rattle.zones.specs.Cover.{covers}
 
 -- south, south + 1, .., north: one more than their difference

@@ -1,0 +1,82 @@
+-- Origins on the tile grid (001, 3.4.5; 01, "Origins and the zone grid"). Definitions, and what they are held to.
+--     001 | here
+--     (φUL, λUL) | lat, lon    an upper left point
+--     (φ0, λ0)   | pso, lso    the origin's two angles, as a card stores them (002: PSO, LSO)
+--     rowTiles b lat     n, the smallest whole number with 128 × n × H ≥ lat × B
+--     columnTiles a lon  m, the greatest whole number with 128 × m × H ≤ lon × A
+--     stored x k         the nearest hundredth to 128 × k × H / x, x being A or B
+--     originOf a b lat lon     the origin of an upper left point
+--     alignOf S zone lat lon   what `align` answers: refusals 1, 2, 3, 4, 5
+use mathlib.Core.Path.{_≡_}
+use mathlib.Core.Bool.{Bool, false, cond}
+use mathlib.Core.List.{[], _∷_}
+use Prim.Native.Nat.{ℕ, _*_, _/_}
+use lib.IntN.{ℤ, pos, negℤ, _*ℤ_}
+use lib.Signed.{_≤ℤ_}
+use Rattle.whole.specs.Whole.{floorDiv, nearest, ceilDiv, outside, Greatest, Smallest}
+use Rattle.arc.specs.declared.SpacingAnswer.{SpacingAnswer}
+use Rattle.arc.specs.Refusals.{refusal, Report, answered, refusedWith}
+use Rattle.arc.specs.Zones.{circle, half, quarter, tile, isPolar}
+use Rattle.arc.specs.Spacing.{spacingOf, Grid}
+use Rattle.origin.specs.declared.Origin.{Origin}
+use Rattle.origin.specs.declared.OriginAnswer.{OriginAnswer}
+
+abbrev pub rowTiles : ℕ → ℤ → ℤ
+rowTiles b lat = ceilDiv (lat *ℤ pos b) (tile * circle)
+
+abbrev pub columnTiles : ℕ → ℤ → ℤ
+columnTiles a lon = floorDiv (lon *ℤ pos a) (tile * circle)
+
+unfoldable pub stored : ℕ → ℤ → ℤ
+stored x k = nearest (pos tile *ℤ k *ℤ pos circle) x
+
+unfoldable pub originOf : ℕ → ℕ → ℤ → ℤ → Origin
+originOf a b lat lon =
+    record {
+      n = rowTiles b lat;
+      m = columnTiles a lon;
+      pso = stored b (rowTiles b lat);
+      lso = stored a (columnTiles a lon) }
+
+-- 3, 4, 5
+abbrev pub alignIn : ℕ → SpacingAnswer → ℤ → ℤ → OriginAnswer
+alignIn zone (SpacingAnswer.Constants a b) lat lon =
+    cond (isPolar zone) (OriginAnswer.Refused (refusal 3))
+    (cond (outside quarter lat) (OriginAnswer.Refused (refusal 4))
+    (cond (outside half lon) (OriginAnswer.Refused (refusal 5))
+    (OriginAnswer.Aligned (originOf a b lat lon))))
+alignIn zone (SpacingAnswer.Refused r) lat lon = OriginAnswer.Refused r
+
+-- 1, 2, 3, 4, 5
+abbrev pub alignOf : ℕ → ℕ → ℤ → ℤ → OriginAnswer
+alignOf s zone lat lon = alignIn zone (spacingOf s zone) lat lon
+
+-- the paper's number, place and values: n, m and the two stored angles
+abbrev pub originReport : OriginAnswer → Report
+originReport (OriginAnswer.Aligned o) = answered (o .n ∷ o .m ∷ o .pso ∷ o .lso ∷ [])
+originReport (OriginAnswer.Refused r) = refusedWith r 4
+
+-- ---- what an origin is held to: proved in proofs/Aligned.antt
+
+-- n and m as the paper states them
+pub record Aligned (a b : ℕ) (lat lon : ℤ) (o : Origin) : Type 0 where
+  pub n-smallest : Smallest (λ k. (lat *ℤ pos b) ≤ℤ (pos tile *ℤ k *ℤ pos circle)) (o .n)
+  pub m-greatest : Greatest (λ k. (pos tile *ℤ k *ℤ pos circle) ≤ℤ (lon *ℤ pos a)) (o .m)
+  pub pso-stored : o .pso ≡ stored b (o .n)
+  pub lso-stored : o .lso ≡ stored a (o .m)
+
+abbrev pub AlignedIs : Type 0
+AlignedIs = (a b : ℕ) (lat lon : ℤ) → Aligned a b lat lon (originOf a b lat lon)
+
+-- accepted: −B/512 ≤ n ≤ B/512 and −A/256 ≤ m ≤ A/256
+pub record OnGrid (a b : ℕ) (n m : ℤ) : Type 0 where
+  pub n-low : negℤ (pos (b / 512)) ≤ℤ n
+  pub n-high : n ≤ℤ pos (b / 512)
+  pub m-low : negℤ (pos (a / 256)) ≤ℤ m
+  pub m-high : m ≤ℤ pos (a / 256)
+
+-- alignment never leaves the range
+abbrev pub AlignedOnGrid : Type 0
+AlignedOnGrid =
+    (a b : ℕ) → Grid a → Grid b → (lat lon : ℤ) → outside quarter lat ≡ false → outside half lon ≡ false
+    → OnGrid a b (originOf a b lat lon .n) (originOf a b lat lon .m)

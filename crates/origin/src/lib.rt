@@ -1,0 +1,78 @@
+// Origins: a whole number of 128-pixel tiles from the Equator and from the zero meridian (001, 3.4.5).
+use arc::{Circle, Refusal, SpacingAnswer, Tile};
+use whole::Counted;
+ghost use mathlib.Core.Path.{_≡_};
+ghost use Prim.Native.Nat.{_*_, _≤_};
+ghost use lib.IntN.{pos, _-ℤ_};
+ghost use Rattle.whole.specs.Whole.{near};
+ghost use Rattle.arc.specs.declared.SpacingAnswer.{SpacingAnswer};
+ghost use Rattle.arc.specs.Spacing.{Grid};
+ghost use Rattle.origin.specs.Origin.{originOf, alignIn, alignOf};
+
+// An origin: n and m in tiles, and the angles that a card stores for them.
+pub struct Origin {
+    pub n: i64,
+    pub m: i64,
+    pub pso: i64,
+    pub lso: i64,
+}
+
+pub enum OriginAnswer {
+    Aligned(Origin),
+    Refused(Refusal),
+}
+
+// 128 × H: a tile in hundredths of an arc-second, times the pixels of the circle.
+const TILE_ANGLE: u64 = Tile::SIDE * Circle::H;
+
+// The nearest hundredth to 128 × tiles × H / spacing, both counted from the pole or from 180° west.
+fn stored_at(tiles: u64, spacing: u64) -> u64
+    requires { ⌜ Grid spacing ⌝ ∗ ⌜ 128 * tiles ≤ spacing ⌝ }
+    ensures { λ r. ⌜ r ≡ near (tiles * 16588800000) spacing ⌝ }
+{
+    (2 * (tiles * TILE_ANGLE) + spacing) / (2 * spacing)
+}
+
+// The origin of a point north of the South Pole and east of 180° west by these angles.
+fn origin_at(a: u64, b: u64, north: u64, east: u64) -> Origin
+    requires { ⌜ Grid a ⌝ ∗ ⌜ Grid b ⌝ ∗ ⌜ north ≤ 64800000 ⌝ ∗ ⌜ east ≤ 129600000 ⌝ }
+    ensures { λ r. ⌜ r ≡ originOf a b (pos north -ℤ pos 32400000) (pos east -ℤ pos 64800000) ⌝ }
+{
+    let rows = (north * b + (TILE_ANGLE - 1)) / TILE_ANGLE;
+    let columns = east * a / TILE_ANGLE;
+    let pso = stored_at(rows, b);
+    let lso = stored_at(columns, a);
+    Origin {
+        n: whole::difference(rows as u32, (b / 512) as u32),
+        m: whole::difference(columns as u32, (a / 256) as u32),
+        pso: whole::difference(pso as u32, 32_400_000),
+        lso: whole::difference(lso as u32, 64_800_000),
+    }
+}
+
+// Alignment, the spacing being known. Refuses 3, 4, 5.
+fn align_in(a: u64, b: u64, zone: u64, lat: i64, lon: i64) -> OriginAnswer
+    requires { ⌜ Grid a ⌝ ∗ ⌜ Grid b ⌝ }
+    ensures { λ r. ⌜ r ≡ alignIn zone (SpacingAnswer.Constants a b) lat lon ⌝ }
+{
+    if (zone == 9) | (zone == 18) {
+        return OriginAnswer::Refused(arc::refused(3));
+    }
+    let Counted::From(north) = whole::count_from(lat, 32_400_000) else {
+        return OriginAnswer::Refused(arc::refused(4));
+    };
+    let Counted::From(east) = whole::count_from(lon, 64_800_000) else {
+        return OriginAnswer::Refused(arc::refused(5));
+    };
+    OriginAnswer::Aligned(origin_at(a, b, north, east))
+}
+
+// The origin of an upper left point, at scale 1:S in a zone. Refuses 1, 2, 3, 4, 5.
+pub fn align(scale: u64, zone: u64, lat: i64, lon: i64) -> OriginAnswer
+    ensures { λ r. ⌜ r ≡ alignOf scale zone lat lon ⌝ }
+{
+    match arc::spacing(scale, zone) {
+        SpacingAnswer::Constants { a, b } => align_in(a, b, zone, lat, lon),
+        SpacingAnswer::Refused(r) => OriginAnswer::Refused(r),
+    }
+}
