@@ -14,6 +14,7 @@ use lib.ListN.{length, getD}
 use Rattle.arc.specs.Zones.{degree, Row, row, table, rowOf, isPolar}
 use Rattle.zones.specs.Lists.{upFrom}
 use Rattle.zones.specs.Basic.{from, to, rowHolding}
+use Rattle.zones.specs.Stretch.{rowAt}
 use Rattle.zones.proofs.Holding.{noRow, reach, linked, Held, held, holding}
 
 pub agree : {A B C : Type 0} (f : A → C) (g : B → C) (k : List A) (l : List B) (d : A) (e : B) → map f k ≡ map g l
@@ -27,9 +28,6 @@ pub upFrom-at : (a n i d : ℕ) → i < n → getD (upFrom a n) i d ≡ a + i
 upFrom-at a zero i d h = absurd (omega arith)
 upFrom-at a (suc n) zero d h = omega arith
 upFrom-at a (suc n) (suc i) d h = let e = upFrom-at (a + 1) n i d (omega arith) in omega arith
-
-abbrev pub rowAt : ℕ → Row
-rowAt i = getD table i noRow
 
 -- the limits as the code lists them
 abbrev pub tos : List ℕ

@@ -5,8 +5,10 @@ ghost use mathlib.Core.Path.{_≡_};
 ghost use Prim.Native.Nat.{_+_, _-_, _*_, _<_, _≤_};
 ghost use lib.IntN.{ℤ, pos, natAbs};
 ghost use Rattle.zones.specs.Basic.{rowHolding, basicZoneOf};
-ghost use Rattle.zones.specs.Cover.{coverAt, coverOf, refusedCover};
-ghost use Rattle.zones.specs.Rectangle.{rectangleOf};
+ghost use Rattle.zones.specs.Cover.{firstZone, listed, coverAt, coverOf, refusedCover};
+ghost use Rattle.arc.specs.Zones.{quarter};
+ghost use Rattle.zones.specs.Rectangle.{rectangleAt, rectangleOf, refusedRectangle, coversSome};
+ghost use Rattle.zones.specs.Stretch.{rowAt, coverFrom, meets, Rowed};
 
 // The basic zone.
 pub enum ZoneAnswer {
@@ -73,4 +75,74 @@ pub fn basic_zone(lat: i64) -> ZoneAnswer
         return ZoneAnswer::Zone(zone + 9);
     }
     ZoneAnswer::Zone(zone)
+}
+
+// The rows' limits, equator to pole (001, Table 3-1).
+const EQUATORWARD: [u64; 9] = [
+    Zone1::EQUATORWARD,
+    Zone2::EQUATORWARD,
+    Zone3::EQUATORWARD,
+    Zone4::EQUATORWARD,
+    Zone5::EQUATORWARD,
+    Zone6::EQUATORWARD,
+    Zone7::EQUATORWARD,
+    Zone8::EQUATORWARD,
+    Zone9::EQUATORWARD,
+];
+const POLEWARD: [u64; 9] = [
+    Zone1::POLEWARD,
+    Zone2::POLEWARD,
+    Zone3::POLEWARD,
+    Zone4::POLEWARD,
+    Zone5::POLEWARD,
+    Zone6::POLEWARD,
+    Zone7::POLEWARD,
+    Zone8::POLEWARD,
+    Zone9::POLEWARD,
+];
+
+// 1024 × H: 1024 rows of overlap, times B (001, 3.3.3).
+const OVERLAP: u64 = 1024 * Circle::H;
+
+// A refusal of a cover, its slots 0.
+fn no_cover(r: Refusal) -> CoverAnswer
+    ensures { λ a. ⌜ a ≡ refusedCover r ⌝ }
+{
+    CoverAnswer {
+        verdict: Verdict::Refused(r),
+        length: 0,
+        zones: [0; 6],
+    }
+}
+
+// 1 or 10: the hemisphere's first zone.
+fn first_zone(lat: i64) -> u64
+    ensures { λ r. ⌜ r ≡ firstZone lat ⌝ }
+{
+    if lat < 0 { 10 } else { 1 }
+}
+
+// The zones from row `row` equatorward that cover a size which that row holds.
+fn cover_from(b: u64, first: u64, row: usize, size: u64) -> CoverAnswer
+    requires { ⌜ Rowed b first row size ⌝ }
+    ensures { λ a. ⌜ a ≡ listed (coverFrom b first row size) ⌝ }
+{
+    let mut zones = [0u64; 6];
+    zones[0] = first + (row as u64);
+    let mut length = 1;
+    let mut left = row;
+    while 0 < left {
+        let limit = POLEWARD[left - 1];
+        if OVERLAP <= (size - limit) * b {
+            break;
+        }
+        left -= 1;
+        zones[length] = first + (left as u64);
+        length += 1;
+    }
+    CoverAnswer {
+        verdict: Verdict::Accepted,
+        length: length as u64,
+        zones,
+    }
 }

@@ -1,0 +1,35 @@
+-- How the code asks of a row and of sizes of latitude: the laws that tie this to cover and rectangle are in proofs/. Definitions only.
+--     rowAt i            the table's row at place i, 0 to 8
+--     reaches b r size   the row and its overlap do not end before a latitude of that size
+--     coverFrom b first i size    the zones from the row at i equatorward that reach the size; the row's zones are first + 0, first + 1, ..
+--     meets b r low high the row covers some size from low to high
+--     Rowed              what `cover_from` is handed
+use Prim.Native.Nat.{ℕ, _+_, _-_, _*_, _≤_, _<_}
+use mathlib.Core.Bool.{Bool, _&&_, _||_}
+use mathlib.Core.List.{List, _∷_}
+use lib.Dec.{leb, ltb}
+use lib.ListN.{getD}
+use Rattle.arc.specs.Zones.{circle, quarter, Row, row, table, isPolar}
+use Rattle.zones.specs.Lists.{those, downFrom}
+use Rattle.zones.specs.Basic.{from, to}
+
+abbrev pub rowAt : ℕ → Row
+rowAt i = getD table i (row 0 0 0 0 0)
+
+abbrev pub reaches : ℕ → Row → ℕ → Bool
+reaches b r size = (ltb size (to r) || isPolar (r .northern)) || ltb ((size - to r) * b) (1024 * circle)
+
+unfoldable pub coverFrom : ℕ → ℕ → ℕ → ℕ → List ℕ
+coverFrom b first i size = (first + i) ∷ those (λ zone. reaches b (rowAt (zone - first)) size) (downFrom first i)
+
+unfoldable pub meets : ℕ → Row → ℕ → ℕ → Bool
+meets b r low high = leb (from r) high && reaches b r low
+
+-- B at some scale, the first zone of a hemisphere, and a row that starts no farther than the size
+pub record Rowed (b first i size : ℕ) : Type 0 where
+  pub rows-least : 20480 ≤ b
+  pub rows-most : b ≤ 80076800
+  pub zone : first ≤ 10
+  pub in-table : i < 9
+  pub low : from (rowAt i) ≤ size
+  pub high : size ≤ quarter
