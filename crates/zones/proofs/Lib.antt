@@ -2,3 +2,4 @@ pub mod Holding
 pub mod Rows
 pub mod Filled
 pub mod Order
+pub mod Covering

@@ -66,7 +66,7 @@ module _ (b first i size : ℕ) (g : Rowed b first i size) (j : ℕ) (h : j < i)
       go true e = ltb-true i (j + 6) e
       go false e =
           absurd
-          (omega (arith, l, six-apart j i (ltb-false i (j + 6) e) (g .in-table), g .low, mul-le-mul-left (size - to (rowAt j)) (g .rows-least)))
+          (omega (arith, l, six-apart j i (ltb-false i (j + 6) e) (g .in-table), g .low, mul-le-mul-left (size - to (rowAt j)) (g .rows .least)))
 
 -- where a row does not reach the size, none farther from it does
 pub fades : (b first i size : ℕ) → Rowed b first i size → (j : ℕ) → j < i → reaches b (rowAt j) size ≡ false

@@ -3,7 +3,7 @@
 --     reaches b r size   the row and its overlap do not end before a latitude of that size
 --     coverFrom b first i size    the zones from the row at i equatorward that reach the size; the row's zones are first + 0, first + 1, ..
 --     meets b r low high the row covers some size from low to high
---     Rowed              what `cover_from` is handed
+--     Rows, Rowed        what the code's parts are handed
 use Prim.Native.Nat.{ℕ, _+_, _-_, _*_, _≤_, _<_}
 use mathlib.Core.Bool.{Bool, _&&_, _||_}
 use mathlib.Core.List.{List, _∷_}
@@ -25,10 +25,14 @@ coverFrom b first i size = (first + i) ∷ those (λ zone. reaches b (rowAt (zon
 unfoldable pub meets : ℕ → Row → ℕ → ℕ → Bool
 meets b r low high = leb (from r) high && reaches b r low
 
--- B at some scale, the first zone of a hemisphere, and a row that starts no farther than the size
+-- B at some scale
+pub record Rows (b : ℕ) : Type 0 where
+  pub least : 20480 ≤ b
+  pub most : b ≤ 80076800
+
+-- the first zone of a hemisphere, and a row that starts no farther than the size
 pub record Rowed (b first i size : ℕ) : Type 0 where
-  pub rows-least : 20480 ≤ b
-  pub rows-most : b ≤ 80076800
+  pub rows : Rows b
   pub zone : first ≤ 10
   pub in-table : i < 9
   pub low : from (rowAt i) ≤ size

@@ -8,7 +8,7 @@ ghost use Rattle.zones.specs.Basic.{rowHolding, basicZoneOf};
 ghost use Rattle.zones.specs.Cover.{firstZone, listed, coverAt, coverOf, refusedCover};
 ghost use Rattle.arc.specs.Zones.{quarter};
 ghost use Rattle.zones.specs.Rectangle.{rectangleAt, rectangleOf, refusedRectangle, coversSome};
-ghost use Rattle.zones.specs.Stretch.{rowAt, coverFrom, meets, Rowed};
+ghost use Rattle.zones.specs.Stretch.{rowAt, coverFrom, meets, Rows, Rowed};
 
 // The basic zone.
 pub enum ZoneAnswer {
@@ -144,5 +144,28 @@ fn cover_from(b: u64, first: u64, row: usize, size: u64) -> CoverAnswer
         verdict: Verdict::Accepted,
         length: length as u64,
         zones,
+    }
+}
+
+// The cover list, B being known. Refuses 4.
+fn cover_at(b: u64, lat: i64) -> CoverAnswer
+    requires { ⌜ Rows b ⌝ }
+    ensures { λ r. ⌜ r ≡ coverAt b lat ⌝ }
+{
+    let size = whole::size(lat);
+    if Circle::QUARTER < size {
+        return no_cover(arc::refused(4));
+    }
+    let row = (northern(size) - 1) as usize;
+    cover_from(b, first_zone(lat), row, size)
+}
+
+// The zones that cover a latitude at scale 1:S, the basic zone first, then equatorward. Refuses 1, 4.
+pub fn cover(scale: u64, lat: i64) -> CoverAnswer
+    ensures { λ r. ⌜ r ≡ coverOf scale lat ⌝ }
+{
+    match arc::b_constant(scale) {
+        ConstantAnswer::Pixels(b) => cover_at(b, lat),
+        ConstantAnswer::Refused(r) => no_cover(r),
     }
 }

@@ -58,7 +58,7 @@ sub-if1 c = limit-low _ _ _ _ (c .before .before .pre) (c .before .loop .left) (
 
 -- src/lib.rt:136:23
 mul-if1 : tie.Need-mul-if1 Inv-loop μ-loop
-mul-if1 c = fits-mul 32400000 80076800 tt (omega (arith, c .before .before .pre .high)) (c .before .before .pre .rows-most)
+mul-if1 c = fits-mul 32400000 80076800 tt (omega (arith, c .before .before .pre .high)) (c .before .before .pre .rows .most)
 
 -- src/lib.rt:139:9
 sub-left : tie.Need-sub-left Inv-loop μ-loop
