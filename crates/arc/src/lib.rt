@@ -4,8 +4,10 @@ ghost use Prim.Native.Nat.{_≤_};
 ghost use Rattle.arc.specs.Refusals.{refusal};
 ghost use Rattle.arc.specs.Spacing.{isScale, spacingAt, rowUnit, columnsOf, rowsOf, spacingOf, Scale};
 
+mod limits;
 mod units;
-pub use units::{Circle, Scales, Tile};
+pub use limits::{EQUATORWARD, POLEWARD};
+pub use units::{Circle, Scales, Tile, is_scale};
 
 // A refusal: its number, and its place (01, "Numbers given in refusal").
 pub struct Refusal {
@@ -194,13 +196,6 @@ pub fn refused(number: u32) -> Refusal
     ensures { λ r. ⌜ r ≡ refusal number ⌝ }
 {
     Refusal { number, at: 0 }
-}
-
-// 5,000 to 20,000,000.
-pub fn is_scale(scale: u64) -> bool
-    ensures { λ r. ⌜ r ≡ isScale scale ⌝ }
-{
-    (Scales::LEAST <= scale) & (scale <= Scales::MOST)
 }
 
 // 512 times the smallest whole number not below unit × 1,000,000 / scale (001, 3.4.6).

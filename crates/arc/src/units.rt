@@ -1,4 +1,7 @@
 // Constants of the whole system.
+ghost use mathlib.Core.Path.{_≡_};
+ghost use Rattle.arc.specs.Spacing.{isScale};
+
 // The circle, in hundredths of an arc-second (01, "Units and the zone table").
 pub struct Circle;
 
@@ -23,4 +26,11 @@ pub struct Scales;
 impl Scales {
     pub const LEAST: u64 = 5_000;
     pub const MOST: u64 = 20_000_000;
+}
+
+// 5,000 to 20,000,000.
+pub fn is_scale(scale: u64) -> bool
+    ensures { λ r. ⌜ r ≡ isScale scale ⌝ }
+{
+    (Scales::LEAST <= scale) & (scale <= Scales::MOST)
 }

@@ -80,3 +80,7 @@ abbrev pub AlignedOnGrid : Type 0
 AlignedOnGrid =
     (a b : ℕ) → Grid a → Grid b → (lat lon : ℤ) → outside quarter lat ≡ false → outside half lon ≡ false
     → OnGrid a b (originOf a b lat lon .n) (originOf a b lat lon .m)
+
+-- a stored angle fixes its tile
+abbrev pub StoredFixes : Type 0
+StoredFixes = (x : ℕ) → Grid x → (k j : ℤ) → stored x k ≡ stored x j → k ≡ j

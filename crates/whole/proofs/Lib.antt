@@ -2,3 +2,4 @@ pub mod Signed
 pub mod Near
 pub mod Held
 pub mod Machine
+pub mod Counts

@@ -46,7 +46,7 @@ module _ (b j : ℕ) (h : j < 9) where
   row-covers size =
       let r = rowAt j in
       rw (last-at j h, polar-at j h, leb-ltb (to r) size)
-      (also (leb (from r) size) (ltb size (to r)) (eqb (1 + j) 9) (ltb ((size - to r) * b) (1024 * circle))
+      (also (leb (from r) size) (ltb size (to r)) (eqb j 8) (ltb ((size - to r) * b) (1024 * circle))
       (λ e. le-leb (from r) size (omega (arith, ltb-false size (to r) e, from-to j h))))
 
   -- on the zone's side

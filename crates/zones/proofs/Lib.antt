@@ -3,3 +3,4 @@ pub mod Rows
 pub mod Filled
 pub mod Order
 pub mod Covering
+pub mod Six

@@ -54,7 +54,7 @@ module _ (b first i size : ℕ) (g : Rowed b first i size) (j : ℕ) (h : j < i)
   ends = omega (arith, to-from j i h (g .in-table), g .low)
 
   pub reaches-is : reaches b (rowAt j) size ≡ ltb ((size - to (rowAt j)) * b) (1024 * circle)
-  reaches-is = rw (le-ltb size (to (rowAt j)) ends, polar-at j (omega (arith, g .in-table)), ne-eqb (1 + j) 9 (λ e. omega (arith, g .in-table)))
+  reaches-is = rw (le-ltb size (to (rowAt j)) ends, polar-at j (omega (arith, g .in-table)), ne-eqb j 8 (λ e. omega (arith, g .in-table)))
 
   -- where it reaches the size, fewer than six rows lie between
   pub near-enough : reaches b (rowAt j) size ≡ true → i < j + 6

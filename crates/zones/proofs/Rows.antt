@@ -6,7 +6,7 @@ use mathlib.Core.List.{List, [], _∷_, map}
 use mathlib.Core.Logic.{_⊎_, inl, inr, ⊎-elim}
 use mathlib.Core.Option.{Option, some, none}
 use Prim.Native.Nat.{ℕ, zero, suc, _+_, _-_, _*_, _≤_, _<_, zero-le}
-use native.Mathlib.Numerals.{add-one}
+use native.Mathlib.Nat.{zero-add}
 use native.Mathlib.Omega.{arith}
 use borrow.Author.Tests.{ltb-true}
 use lib.Dec.{leb, ltb, eqb}
@@ -53,14 +53,17 @@ module _ (i : ℕ) (h : i < 9) where
   pub row-south : rowOf (10 + i) ≡ some (rowAt i)
   row-south = sym (column some rowOf 10 refl)
 
-  pub polar-at : isPolar (rowAt i .northern) ≡ eqb (1 + i) 9
-  polar-at = column (λ (r : Row). isPolar (r .northern)) (λ (n : ℕ). eqb n 9) 1 refl
+  pub polar-at : isPolar (rowAt i .northern) ≡ eqb i 8
+  polar-at = column (λ (r : Row). isPolar (r .northern)) (λ (n : ℕ). eqb n 8) 0 refl ∙ ap (λ (n : ℕ). eqb n 8) (zero-add i)
 
-  pub last-at : eqb (rowAt i .poleward) 90 ≡ eqb (1 + i) 9
-  last-at = column (λ (r : Row). eqb (r .poleward) 90) (λ (n : ℕ). eqb n 9) 1 refl
+  pub last-at : eqb (rowAt i .poleward) 90 ≡ eqb i 8
+  last-at = column (λ (r : Row). eqb (r .poleward) 90) (λ (n : ℕ). eqb n 8) 0 refl ∙ ap (λ (n : ℕ). eqb n 8) (zero-add i)
 
   pub from-to : from (rowAt i) < to (rowAt i)
   from-to = ltb-true (from (rowAt i)) (to (rowAt i)) (column (λ (r : Row). ltb (from r) (to r)) (λ (n : ℕ). true) 0 refl)
+
+  pub to-least : 1 < to (rowAt i)
+  to-least = ltb-true 1 (to (rowAt i)) (column (λ (r : Row). ltb 1 (to r)) (λ (n : ℕ). true) 0 refl)
 
   pub to-at : to (rowAt i) ≡ getD tos i 0
   to-at = agree to (λ (n : ℕ). n) table tos noRow 0 refl i h

@@ -1,5 +1,4 @@
 pub mod Lists
 pub mod Basic
 pub mod Cover
-pub mod Rectangle
 pub mod Stretch

@@ -1,13 +1,12 @@
--- How the code asks of a row and of sizes of latitude: the laws that tie this to cover and rectangle are in proofs/. Definitions only.
+-- How the code asks of a row and a size of latitude: the laws that tie this to cover and rectangle are in proofs/. Definitions only.
 --     rowAt i            the table's row at place i, 0 to 8
 --     reaches b r size   the row and its overlap do not end before a latitude of that size
 --     coverFrom b first i size    the zones from the row at i equatorward that reach the size; the row's zones are first + 0, first + 1, ..
---     meets b r low high the row covers some size from low to high
 --     Rows, Rowed        what the code's parts are handed
 use Prim.Native.Nat.{ℕ, _+_, _-_, _*_, _≤_, _<_}
-use mathlib.Core.Bool.{Bool, _&&_, _||_}
+use mathlib.Core.Bool.{Bool, _||_}
 use mathlib.Core.List.{List, _∷_}
-use lib.Dec.{leb, ltb}
+use lib.Dec.{ltb}
 use lib.ListN.{getD}
 use Rattle.arc.specs.Zones.{circle, quarter, Row, row, table, isPolar}
 use Rattle.zones.specs.Lists.{those, downFrom}
@@ -21,9 +20,6 @@ reaches b r size = (ltb size (to r) || isPolar (r .northern)) || ltb ((size - to
 
 unfoldable pub coverFrom : ℕ → ℕ → ℕ → ℕ → List ℕ
 coverFrom b first i size = (first + i) ∷ those (λ zone. reaches b (rowAt (zone - first)) size) (downFrom first i)
-
-unfoldable pub meets : ℕ → Row → ℕ → ℕ → Bool
-meets b r low high = leb (from r) high && reaches b r low
 
 -- B at some scale
 pub record Rows (b : ℕ) : Type 0 where

@@ -1,14 +1,11 @@
 // Which zones hold or cover a latitude, or a rectangle (001, 3.3.3).
 use arc::{Circle, ConstantAnswer, Refusal, Verdict, Zone1, Zone2, Zone3, Zone4, Zone5, Zone6, Zone7, Zone8, Zone9};
-use whole::Counted;
 ghost use mathlib.Core.Path.{_≡_};
 ghost use Prim.Native.Nat.{_+_, _-_, _*_, _<_, _≤_};
 ghost use lib.IntN.{ℤ, pos, natAbs};
 ghost use Rattle.zones.specs.Basic.{rowHolding, basicZoneOf};
 ghost use Rattle.zones.specs.Cover.{firstZone, listed, coverAt, coverOf, refusedCover};
-ghost use Rattle.arc.specs.Zones.{quarter};
-ghost use Rattle.zones.specs.Rectangle.{rectangleAt, rectangleOf, refusedRectangle, coversSome};
-ghost use Rattle.zones.specs.Stretch.{rowAt, coverFrom, meets, Rows, Rowed};
+ghost use Rattle.zones.specs.Stretch.{coverFrom, Rows, Rowed};
 
 // The basic zone.
 pub enum ZoneAnswer {
@@ -21,13 +18,6 @@ pub struct CoverAnswer {
     pub verdict: Verdict,
     pub length: u64,
     pub zones: [u64; 6],
-}
-
-// The zones of a rectangle: the first `length` slots, the others 0.
-pub struct RectangleAnswer {
-    pub verdict: Verdict,
-    pub length: u64,
-    pub zones: [u64; 18],
 }
 
 // The northern zone whose limits hold a size of latitude (001, Table 3-1).
@@ -77,30 +67,6 @@ pub fn basic_zone(lat: i64) -> ZoneAnswer
     ZoneAnswer::Zone(zone)
 }
 
-// The rows' limits, equator to pole (001, Table 3-1).
-const EQUATORWARD: [u64; 9] = [
-    Zone1::EQUATORWARD,
-    Zone2::EQUATORWARD,
-    Zone3::EQUATORWARD,
-    Zone4::EQUATORWARD,
-    Zone5::EQUATORWARD,
-    Zone6::EQUATORWARD,
-    Zone7::EQUATORWARD,
-    Zone8::EQUATORWARD,
-    Zone9::EQUATORWARD,
-];
-const POLEWARD: [u64; 9] = [
-    Zone1::POLEWARD,
-    Zone2::POLEWARD,
-    Zone3::POLEWARD,
-    Zone4::POLEWARD,
-    Zone5::POLEWARD,
-    Zone6::POLEWARD,
-    Zone7::POLEWARD,
-    Zone8::POLEWARD,
-    Zone9::POLEWARD,
-];
-
 // 1024 × H: 1024 rows of overlap, times B (001, 3.3.3).
 const OVERLAP: u64 = 1024 * Circle::H;
 
@@ -132,7 +98,7 @@ fn cover_from(b: u64, first: u64, row: usize, size: u64) -> CoverAnswer
     let mut length = 1;
     let mut left = row;
     while 0 < left {
-        let limit = POLEWARD[left - 1];
+        let limit = arc::POLEWARD[left - 1];
         if OVERLAP <= (size - limit) * b {
             break;
         }

@@ -16,15 +16,15 @@ use Rattle.arc.specs.declared.ConstantAnswer.{ConstantAnswer}
 use Rattle.arc.specs.Refusals.{refusal, Report}
 use Rattle.arc.specs.Zones.{quarter}
 use Rattle.arc.specs.Spacing.{rowsOf}
-use Rattle.zones.specs.declared.RectangleAnswer.{RectangleAnswer}
+use Rattle.rectangle.specs.declared.RectangleAnswer.{RectangleAnswer}
 use Rattle.zones.specs.Lists.{those, upFrom, padded, reportIn, someFrom}
 use Rattle.zones.specs.Cover.{covers}
 
 -- south, south + 1, .., north: one more than their difference
 abbrev pub coversSome : ℕ → ℤ → ℤ → ℕ → Bool
 coversSome b south north zone = someFrom (λ lat. covers b lat zone) south (natAbs (north -ℤ south) + 1)
 
-abbrev pub rectangleZones : ℕ → ℤ → ℤ → List ℕ
+unfoldable pub rectangleZones : ℕ → ℤ → ℤ → List ℕ
 rectangleZones b south north = those (coversSome b south north) (upFrom 1 18)
 
 -- eighteen slots, those that are not used 0; all 0 in a refusal

@@ -1,0 +1,43 @@
+-- The spacing is asked first, and a pair of constants that it answers is on the grid, as `align_in` requires. Assumes nothing.
+use mathlib.Core.Path.{_≡_, sym, _∙_}
+use mir.Syntax.{w64}
+use mir.ValLaws.{toZ-ofZ}
+use Rattle.arc.specs.declared.SpacingAnswer.{SpacingAnswer}
+use Rattle.arc.specs.Spacing.{spacingOf}
+use Rattle.arc.proofs.Answered.{answered-grids}
+use borrow.Author.Needs.{needs}
+use Rattle.origin.proofs.align.Statement.{statement}
+use Rattle.origin.proofs.align.Tie as tie
+
+spaced : (c : tie.After-known-told)
+    → spacingOf (c .before .before .before .before .args .scale) (c .before .before .before .before .args .zone) ≡ SpacingAnswer.Constants (c .before .a .given .0 .0) (c .before .a .given .0 .1 .0)
+spaced c = sym (c .before .before .before .spacing .ensures) ∙ c .before .a .given .1
+
+spacing-requires : tie.Need-spacing-requires
+spacing-requires c κs = search needs
+
+enum-known-a : tie.Need-enum-known-a
+enum-known-a c = search needs
+
+align-in-requires : tie.Need-align-in-requires
+align-in-requires c κs =
+    let s = c .before .before .before .before in
+    let g = answered-grids (s .args .scale) (s .args .zone) _ _ (spaced c) in
+    (g .columns, g .rows)
+
+enum-known-r : tie.Need-enum-known-r
+enum-known-r c = search needs
+
+returns : tie.Need-returns
+returns c =
+    let s = c .before .before .before .before .before in
+    rw (spaced (c .before))
+    (rw (toZ-ofZ w64 (s .args .lat) (s .fits .lat), toZ-ofZ w64 (s .args .lon) (s .fits .lon)) at (c .align-in .ensures))
+
+returns-2 : tie.Need-returns-2
+returns-2 c = rw (sym (c .before .before .before .spacing .ensures) ∙ c .before .r .given .1)
+
+pub align-spec : {M : Type 1} → statement M
+align-spec =
+    tie.close
+    (tie.spec spacing-requires enum-known-a align-in-requires enum-known-r returns returns-2)

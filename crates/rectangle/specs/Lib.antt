@@ -1,0 +1,2 @@
+pub mod Rectangle
+pub mod Stretch

@@ -1,0 +1,20 @@
+-- How the code asks of a row and a stretch of sizes of latitude: the law that ties it to the rectangle is in proofs/. Definitions only.
+--     meets b r low high     the row covers some size from low to high
+--     Sides                  what `covers_some` is handed
+use Prim.Native.Nat.{ℕ, _≤_}
+use mathlib.Core.Bool.{Bool, _&&_}
+use lib.Dec.{leb}
+use Rattle.arc.specs.Zones.{circle, Row}
+use Rattle.zones.specs.Basic.{from}
+use Rattle.zones.specs.Stretch.{reaches, Rows}
+
+unfoldable pub meets : ℕ → Row → ℕ → ℕ → Bool
+meets b r low high = leb (from r) high && reaches b r low
+
+-- a zone, and a rectangle whose edges are counted from the South Pole
+pub record Sides (b zone south north : ℕ) : Type 0 where
+  pub rows : Rows b
+  pub some-zone : 1 ≤ zone
+  pub last-zone : zone ≤ 18
+  pub order : south ≤ north
+  pub pole : north ≤ 64800000

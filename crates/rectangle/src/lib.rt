@@ -1,0 +1,123 @@
+// The zones that cover some latitude of a rectangle (001, 3.3.3).
+use arc::{Circle, ConstantAnswer, Refusal, Verdict};
+use whole::Counted;
+ghost use mathlib.Core.Path.{_≡_};
+ghost use Prim.Native.Nat.{_-_, _<_, _≤_};
+ghost use lib.IntN.{pos, _-ℤ_};
+ghost use Rattle.arc.specs.Zones.{quarter};
+ghost use Rattle.zones.specs.Stretch.{rowAt, Rows};
+ghost use Rattle.rectangle.specs.Rectangle.{coversSome, rectangleZones, listed, refusedRectangle, rectangleAt, rectangleOf};
+ghost use Rattle.rectangle.specs.Stretch.{meets, Sides};
+
+// The zones of a rectangle: the first `length` slots, the others 0.
+pub struct RectangleAnswer {
+    pub verdict: Verdict,
+    pub length: u64,
+    pub zones: [u64; 18],
+}
+
+// 1024 × H: 1024 rows of overlap, times B (001, 3.3.3).
+const OVERLAP: u64 = 1024 * Circle::H;
+
+// A refusal of a rectangle, its slots 0.
+fn no_rectangle(r: Refusal) -> RectangleAnswer
+    ensures { λ a. ⌜ a ≡ refusedRectangle r ⌝ }
+{
+    RectangleAnswer {
+        verdict: Verdict::Refused(r),
+        length: 0,
+        zones: [0; 18],
+    }
+}
+
+// a − b, and 0 where b is the larger.
+fn less(a: u64, b: u64) -> u64
+    ensures { λ r. ⌜ r ≡ a - b ⌝ }
+{
+    if a < b {
+        return 0;
+    }
+    a - b
+}
+
+// Whether a row covers some size of latitude from low to high.
+fn row_meets(b: u64, row: usize, low: u64, high: u64) -> bool
+    requires { ⌜ Rows b ⌝ ∗ ⌜ row < 9 ⌝ ∗ ⌜ low ≤ 64800000 ⌝ }
+    ensures { λ r. ⌜ r ≡ meets b (rowAt row) low high ⌝ }
+{
+    let from = arc::EQUATORWARD[row];
+    let to = arc::POLEWARD[row];
+    if high < from {
+        return false;
+    }
+    if (low < to) | (row == 8) {
+        return true;
+    }
+    less(low, to) * b < OVERLAP
+}
+
+// Whether a zone covers some latitude of a rectangle whose edges are counted from the South Pole.
+fn covers_some(b: u64, zone: u64, south: u64, north: u64) -> bool
+    requires { ⌜ Sides b zone south north ⌝ }
+    ensures { λ r. ⌜ r ≡ coversSome b (pos south -ℤ pos quarter) (pos north -ℤ pos quarter) zone ⌝ }
+{
+    if zone <= 9 {
+        if north < Circle::QUARTER {
+            return false;
+        }
+        return row_meets(b, (zone - 1) as usize, less(south, Circle::QUARTER), north - Circle::QUARTER);
+    }
+    if Circle::QUARTER <= south {
+        return false;
+    }
+    row_meets(b, (zone - 10) as usize, less(Circle::QUARTER, north), Circle::QUARTER - south)
+}
+
+// The list, the edges counted from the South Pole.
+fn zones_of(b: u64, south: u64, north: u64) -> RectangleAnswer
+    requires { ⌜ Rows b ⌝ ∗ ⌜ south ≤ north ⌝ ∗ ⌜ north ≤ 64800000 ⌝ }
+    ensures { λ a. ⌜ a ≡ listed (rectangleZones b (pos south -ℤ pos quarter) (pos north -ℤ pos quarter)) ⌝ }
+{
+    let mut zones = [0u64; 18];
+    let mut length = 0;
+    let mut zone = 1;
+    while zone < 19 {
+        if covers_some(b, zone, south, north) {
+            zones[length] = zone;
+            length += 1;
+        }
+        zone += 1;
+    }
+    RectangleAnswer {
+        verdict: Verdict::Accepted,
+        length: length as u64,
+        zones,
+    }
+}
+
+// The list, B being known. Refuses south 4, north 4, 16.
+fn rectangle_at(b: u64, south: i64, north: i64) -> RectangleAnswer
+    requires { ⌜ Rows b ⌝ }
+    ensures { λ r. ⌜ r ≡ rectangleAt b south north ⌝ }
+{
+    let Counted::From(s) = whole::count_from(south, 32_400_000) else {
+        return no_rectangle(arc::refused(4));
+    };
+    let Counted::From(n) = whole::count_from(north, 32_400_000) else {
+        return no_rectangle(arc::refused(4));
+    };
+    if n < s {
+        return no_rectangle(arc::refused(16));
+    }
+    zones_of(b, s, n)
+}
+
+// The zones covering some latitude from south to north, in ascending number, at scale 1:S. Refuses 1, south 4, north 4, 16.
+pub fn rectangle(scale: u64, south: i64, north: i64) -> RectangleAnswer
+    ensures { λ r. ⌜ r ≡ rectangleOf scale south north ⌝ }
+{
+    match arc::b_constant(scale) {
+        ConstantAnswer::Pixels(b) => rectangle_at(b, south, north),
+        ConstantAnswer::Refused(r) => no_rectangle(r),
+    }
+}
