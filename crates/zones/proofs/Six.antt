@@ -1,5 +1,5 @@
 -- At most six zones cover a latitude: the basic zone, and equatorward of it only rows fewer than six away reach it. Assumes nothing.
-use mathlib.Core.Path.{_≡_, refl, sym, ap, _∙_}
+use mathlib.Core.Path.{_≡_, refl, sym, ap, _∙_, subst⁻¹}
 use mathlib.Core.Bool.{Bool, true, false, cond}
 use mathlib.Core.List.{List, _∷_}
 use Prim.Native.Nat.{ℕ, zero, suc, _+_, _-_, _≤_, _<_}
@@ -39,7 +39,7 @@ pub six-at-most : AtMostSix
 six-at-most s g lat e =
     let p = place (natAbs lat) in
     let u = grid rowUnit s g (record { least = omega arith; most = omega arith }) in
-    rw (cover-is (spacingAt rowUnit s) lat)
+    subst⁻¹ (λ (l : List ℕ). length l ≤ 6) (cover-is (spacingAt rowUnit s) lat)
     (at-most-six (spacingAt rowUnit s) (firstZone lat) (p .at) (natAbs lat)
     (record {
       rows = record { least = rows-least s g; most = u .most };
