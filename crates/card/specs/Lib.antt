@@ -1,0 +1,9 @@
+pub mod Text
+pub mod Layout
+pub mod Extents
+pub mod Read
+pub mod Write
+pub mod Grid
+pub mod NoDrift
+pub mod Offset
+pub mod RoundTrips

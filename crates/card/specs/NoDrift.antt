@@ -1,0 +1,107 @@
+-- Demand 3: down any list of accepted cards of one scale and zone a pixel's position goes from card to card with no drift
+-- (01, "Origins and the zone grid"). Definitions only; the proof is proofs/Chain.antt.
+--     HasPlace k u v r c         pixel (r, c) has the place (u, v) of the zone grid
+--     TilesHave, ChartHas        a pixel of the card's tiles, of its chart rectangle, has the place
+--     Close a b u v lat lon      the position is within half a hundredth of the exact place
+--     Visit, visit               what one later card does
+--     walk lat lon ks            the visits down the list, each with the position last answered
+--     NoDrift                    the demand
+use mathlib.Core.Path.{_≡_}
+use mathlib.Core.Bool.{Bool, true}
+use mathlib.Core.List.{List, [], _∷_}
+use mathlib.Core.Logic.{_⊎_}
+use Prim.Native.Nat.{ℕ, _*_, _≤_}
+use lib.IntN.{ℤ, pos, natAbs, _+ℤ_, _-ℤ_, _*ℤ_}
+use Rattle.arc.specs.declared.Refusal.{Refusal}
+use Rattle.arc.specs.Refusals.{refusal}
+use Rattle.arc.specs.Zones.{circle}
+use Rattle.card.specs.declared.Card.{Card}
+use Rattle.card.specs.declared.PositionAnswer.{PositionAnswer}
+use Rattle.card.specs.declared.PixelAnswer.{PixelAnswer}
+use Rattle.card.specs.Read.{Accepted}
+use Rattle.card.specs.Grid.{placeRow, placeColumn, inTiles, inChart, positionOf, pixelOf}
+
+pub record HasPlace (k : Card) (u v r c : ℤ) : Type 0 where
+  pub row : placeRow k r ≡ u
+  pub column : placeColumn k c ≡ v
+
+-- a rectangle has a place when one of its pixels has it
+pub record TilesHave (k : Card) (u v : ℤ) : Type 0 where
+  pub r : ℤ
+  pub c : ℤ
+  pub within : inTiles k r c ≡ true
+  pub at : HasPlace k u v r c
+
+pub record ChartHas (k : Card) (u v : ℤ) : Type 0 where
+  pub r : ℤ
+  pub c : ℤ
+  pub within : inChart k r c ≡ true
+  pub at : HasPlace k u v r c
+
+-- |lat − u H / B| ≤ 1 / 2, and |lon + some whole circles − v H / A| ≤ 1 / 2, multiplied out
+pub record Close (a b : ℕ) (u v lat lon : ℤ) : Type 0 where
+  pub latitude : 2 * natAbs (lat *ℤ pos b -ℤ u *ℤ pos circle) ≤ b
+  pub circles : ℤ
+  pub longitude : 2 * natAbs ((lon +ℤ circles *ℤ pos circle) *ℤ pos a -ℤ v *ℤ pos circle) ≤ a
+
+-- a later card is asked for the pixel at the position last answered and, where it gives one, for that pixel's position
+pub data Visit : Type 0 where
+  gave : ℤ → ℤ → PositionAnswer → Visit
+  refused : Refusal → Visit
+
+abbrev pub visitWith : Card → PixelAnswer → Visit
+visitWith k (PixelAnswer.At r c) = gave r c (positionOf k r c)
+visitWith k (PixelAnswer.Refused e) = refused e
+
+abbrev pub visit : Card → ℤ → ℤ → Visit
+visit k lat lon = visitWith k (pixelOf k lat lon)
+
+-- the position that goes on to the next card: the one last answered
+abbrev pub latitudeAfter : ℤ → Visit → ℤ
+latitudeAfter lat (gave r c (PositionAnswer.At lat′ lon′)) = lat′
+latitudeAfter lat (gave r c (PositionAnswer.Refused e)) = lat
+latitudeAfter lat (refused e) = lat
+
+abbrev pub longitudeAfter : ℤ → Visit → ℤ
+longitudeAfter lon (gave r c (PositionAnswer.At lat′ lon′)) = lon′
+longitudeAfter lon (gave r c (PositionAnswer.Refused e)) = lon
+longitudeAfter lon (refused e) = lon
+
+abbrev pub walk : ℤ → ℤ → List Card → List Visit
+walk lat lon [] = []
+walk lat lon (k ∷ ks) =
+    visit k lat lon ∷ walk (latitudeAfter lat (visit k lat lon)) (longitudeAfter lon (visit k lat lon)) ks
+
+-- what holds of a visit, (u, v) being the first pixel's place and (lat, lon) its position: a pixel is given only in the chart, at that
+-- same place, and its position is the same two numbers; else the chart does not have the place, and the refusal is 12 where no pixel of
+-- the card's tiles has it, else 13
+abbrev pub Right : ℤ → ℤ → ℤ → ℤ → Card → Visit → Type 0
+Right u v lat lon k (gave r c answer) =
+    (inChart k r c ≡ true) × HasPlace k u v r c × (answer ≡ PositionAnswer.At lat lon)
+Right u v lat lon k (refused e) =
+    (ChartHas k u v → ⊥) × (((e ≡ refusal 12) × (TilesHave k u v → ⊥)) ⊎ ((e ≡ refusal 13) × TilesHave k u v))
+
+-- R holds of each card and its visit
+abbrev pub Each : (Card → Visit → Type 0) → List Card → List Visit → Type 0
+Each R [] [] = Unit {0}
+Each R [] (x ∷ xs) = ⊥
+Each R (k ∷ ks) [] = ⊥
+Each R (k ∷ ks) (x ∷ xs) = R k x × Each R ks xs
+
+abbrev pub Every : (Card → Type 0) → List Card → Type 0
+Every P [] = Unit {0}
+Every P (k ∷ ks) = P k × Every P ks
+
+-- the first card answers the pixel's position, close to the exact place, and so it goes down the whole list
+pub record Walked (first : Card) (rest : List Card) (r c : ℤ) : Type 0 where
+  pub lat : ℤ
+  pub lon : ℤ
+  pub answered : positionOf first r c ≡ PositionAnswer.At lat lon
+  pub close : Close (first .a) (first .b) (placeRow first r) (placeColumn first c) lat lon
+  pub each : Each (Right (placeRow first r) (placeColumn first c) lat lon) rest (walk lat lon rest)
+
+-- any list of one or more accepted cards of one scale and one zone, and any pixel in the first card's chart rectangle
+abbrev pub NoDrift : Type 0
+NoDrift =
+    (scale zone : ℕ) (first : Card) (rest : List Card) → Every (Accepted scale zone) (first ∷ rest)
+    → (r c : ℤ) → inChart first r c ≡ true → Walked first rest r c

@@ -1,0 +1,111 @@
+-- Writing a card: 1, 2, 3, 6, then NFL, NFC (8), BAD (7), then 10, 11 (01, "Numbers given in refusal"). Definitions only.
+--     digits w v             the w digits of v, zero-filled
+--     angleText d z          ±DDDMMSS.SS or ±DDMMSS.SS; zero carries a plus
+--     Value                  what a subfield holds
+--     valuesOf a b r         the record's values in the layout's order
+--     cardText a b r         the 98 bytes
+--     writeOf S zone r out   what writing answers
+--     outOf S zone r out     what the output then holds
+use Prim.Native.Nat.{ℕ, zero, suc, _+_, _/_, _%_, _^_}
+use mathlib.Core.List.{List, [], _∷_, _++_}
+use mathlib.Core.Bool.{Bool, cond, _&&_}
+use lib.Dec.{leb}
+use lib.ListN.{length, drop}
+use lib.IntN.{ℤ, pos, natAbs}
+use lib.Signed.{ltZ}
+use Rattle.arc.specs.declared.Verdict.{Verdict}
+use Rattle.arc.specs.declared.SpacingAnswer.{SpacingAnswer}
+use Rattle.arc.specs.Refusals.{refusal, refusalAt}
+use Rattle.arc.specs.Zones.{isPolar}
+use Rattle.arc.specs.Spacing.{spacingOf}
+use Rattle.origin.specs.Origin.{stored}
+use Rattle.card.specs.declared.Subfield.{Subfield}
+use Rattle.card.specs.declared.Record.{Record}
+use Rattle.card.specs.Text.{nameLaid}
+use Rattle.card.specs.Layout.{NFL, NFC, BAD, layout, orElse}
+use Rattle.card.specs.Extents.{onGrid, extentsHold}
+
+abbrev pub digits : ℕ → ℕ → List ℕ
+digits zero v = []
+digits (suc w) v = (48 + v / 10 ^ w % 10) ∷ digits w v
+
+-- the sign, the degrees, the minutes, the seconds, the dot and the hundredths of a size z
+abbrev pub sizeText : ℕ → ℕ → List ℕ
+sizeText d z = digits d (z / 360000) ++ digits 2 (z / 6000 % 60) ++ digits 2 (z / 100 % 60) ++ (46 ∷ []) ++ digits 2 (z % 100)
+
+unfoldable pub angleText : ℕ → ℤ → List ℕ
+angleText d z = cond (ltZ z (pos 0)) 45 43 ∷ sizeText d (natAbs z)
+
+pub data Value : Type 0 where
+  counted : ℕ → Value
+  angle : ℕ → ℤ → Value
+  named : List ℕ → Value
+  flagged : Bool → Value
+
+-- the bytes of a value in a subfield of width w
+abbrev pub textOf : ℕ → Value → List ℕ
+textOf w (counted v) = digits w v
+textOf w (angle d z) = angleText d z
+textOf w (named s) = s
+textOf w (flagged t) = cond t 89 78 ∷ []
+
+-- the subfields' bytes, one after the other
+abbrev pub written : List Subfield → List Value → List ℕ
+written [] vs = []
+written (f ∷ fs) [] = []
+written (f ∷ fs) (v ∷ vs) = textOf (f .width) v ++ written fs vs
+
+-- STR ARV BRV LSO PSO NUL NUS NLL NLS NFL NFC PNC PNL COD ROD POR PCB PVB BAD TIF
+unfoldable pub valuesOf : ℕ → ℕ → Record → List Value
+valuesOf a b r =
+    counted 3 ∷ counted a ∷ counted b ∷ angle 3 (stored a (r .m)) ∷ angle 2 (stored b (r .n)) ∷
+    counted (r .nul) ∷ counted (r .nus) ∷ counted (r .nll) ∷ counted (r .nls) ∷ counted (r .nfl) ∷ counted (r .nfc) ∷
+    counted 128 ∷ counted 128 ∷ counted 0 ∷ counted 1 ∷ counted 0 ∷ counted 0 ∷ counted 8 ∷ named (r .bad) ∷ flagged (r .tif) ∷ []
+
+unfoldable pub cardText : ℕ → ℕ → Record → List ℕ
+cardText a b r = written layout (valuesOf a b r)
+
+abbrev pub test : Bool → ℕ → ℕ → Verdict
+test ok number place = cond ok Verdict.Accepted (Verdict.Refused (refusalAt number place))
+
+-- the first of several that refuses
+abbrev pub first : List Verdict → Verdict
+first [] = Verdict.Accepted
+first (v ∷ vs) = orElse v (first vs)
+
+-- NFL, NFC (8), BAD (7), 10, 11
+unfoldable pub recordTests : ℕ → ℕ → Record → List Verdict
+recordTests a b r =
+    test (leb 1 (r .nfl) && leb (r .nfl) 999) 8 (NFL .at) ∷
+    test (leb 1 (r .nfc) && leb (r .nfc) 999) 8 (NFC .at) ∷
+    test (nameLaid (r .bad)) 7 (BAD .at) ∷
+    test (onGrid a b (r .n) (r .m)) 10 0 ∷
+    test (extentsHold a b (r .n) (r .nul) (r .nus) (r .nll) (r .nls) (r .nfl) (r .nfc)) 11 0 ∷
+    []
+
+-- 3, 6, then these, the output having n bytes
+abbrev pub writeIn : ℕ → SpacingAnswer → Record → ℕ → Verdict
+writeIn zone (SpacingAnswer.Constants a b) r n =
+    cond (isPolar zone) (Verdict.Refused (refusal 3))
+    (cond (leb 98 n) (first (recordTests a b r)) (Verdict.Refused (refusal 6)))
+writeIn zone (SpacingAnswer.Refused e) r n = Verdict.Refused e
+
+-- 1, 2, then these
+unfoldable pub writeOf : ℕ → ℕ → Record → List ℕ → Verdict
+writeOf scale zone r out = writeIn zone (spacingOf scale zone) r (length out)
+
+-- the card, and the output past 98 bytes as it was
+abbrev pub over : List ℕ → List ℕ → List ℕ
+over card out = card ++ drop (length card) out
+
+abbrev pub textFor : SpacingAnswer → Record → List ℕ
+textFor (SpacingAnswer.Constants a b) r = cardText a b r
+textFor (SpacingAnswer.Refused e) r = []
+
+-- everything unchanged on a refusal
+abbrev pub outAfter : Verdict → List ℕ → List ℕ → List ℕ
+outAfter Verdict.Accepted card out = over card out
+outAfter (Verdict.Refused e) card out = out
+
+unfoldable pub outOf : ℕ → ℕ → Record → List ℕ → List ℕ
+outOf scale zone r out = outAfter (writeOf scale zone r out) (textFor (spacingOf scale zone) r) out

@@ -1,0 +1,85 @@
+// The card value, and the questions put to it (001, 3.4.3 to 3.4.5; 002, 3.17.1).
+use arc::{Refusal, Verdict};
+ghost use mathlib.Core.Path.{_≡_};
+
+// What may stand in a subfield (01, "The image card, 98 bytes").
+pub enum Kind {
+    Number { low: u64, high: u64 },
+    Angle { degrees: usize, limit: u64 },
+    Name,
+    Flag,
+}
+
+pub struct Subfield {
+    pub at: usize,
+    pub width: usize,
+    pub kind: Kind,
+}
+
+// The value of an accepted card. "Card" and "chart" are document 01's words.
+pub struct Card {
+    pub scale: u64,
+    pub zone: u64,
+    pub a: u64,
+    pub b: u64,
+    pub n: i64,
+    pub m: i64,
+    pub nul: u64,
+    pub nus: u64,
+    pub nll: u64,
+    pub nls: u64,
+    pub nfl: u64,
+    pub nfc: u64,
+    pub bad: [u8; 12],
+    pub tif: bool,
+    // 128n and 128m, counted from the South Pole and from 180° west
+    pub north: u64,
+    pub east: u64,
+}
+
+// What reading answers: the card is all 0 in a refusal.
+pub struct Reading {
+    pub verdict: Verdict,
+    pub card: Card,
+}
+
+// What is written on a card.
+pub struct Record {
+    pub n: i64,
+    pub m: i64,
+    pub nul: u64,
+    pub nus: u64,
+    pub nll: u64,
+    pub nls: u64,
+    pub nfl: u64,
+    pub nfc: u64,
+    pub bad: [u8; 12],
+    pub tif: bool,
+}
+
+// A place of the zone grid.
+pub enum PlaceAnswer {
+    At { row: i64, column: i64 },
+    Refused(Refusal),
+}
+
+pub enum PositionAnswer {
+    At { lat: i64, lon: i64 },
+    Refused(Refusal),
+}
+
+pub enum PixelAnswer {
+    At { row: i64, column: i64 },
+    Refused(Refusal),
+}
+
+// An offset from a centre, in whole hundredths of an arc-second.
+pub struct Offset {
+    pub lat: f64,
+    pub lon: f64,
+}
+
+pub enum OffsetAnswer {
+    At(Offset),
+    Refused(Refusal),
+}
