@@ -1,5 +1,5 @@
 -- What an answered pair of constants is: the scale is good, the zone has a row, and its unit is one of the table's. Assumes nothing.
-use mathlib.Core.Path.{_≡_, refl, sym, ap, _∙_}
+use mathlib.Core.Path.{_≡_, refl}
 use mathlib.Core.Bool.{Bool, true, false, cond, _&&_}
 use mathlib.Core.List.{List, [], _∷_}
 use mathlib.Core.Option.{Option, some, none}
@@ -11,7 +11,7 @@ use Rattle.arc.specs.declared.ConstantAnswer.{ConstantAnswer}
 use Rattle.arc.specs.declared.SpacingAnswer.{SpacingAnswer}
 use Rattle.arc.specs.Refusals.{refusal}
 use Rattle.arc.specs.Zones.{Row, table, hasZone, rowIn, rowOf}
-use Rattle.arc.specs.Spacing.{isScale, spacingAt, rowUnit, columnsIn, columnsOf, rowsOf, withRows, spacingOf, Scale, SpacingUnit, Grid, Grids, GridsIs}
+use Rattle.arc.specs.Spacing.{isScale, spacingAt, rowUnit, columnsIn, rowsOf, withRows, spacingOf, Scale, SpacingUnit, GridsIs}
 use Rattle.arc.proofs.Spaced.{scale-in, grid}
 
 -- the units of a table are in range

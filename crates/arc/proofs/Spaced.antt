@@ -1,17 +1,16 @@
 -- Laws of the spacing constants (001, 3.4.6), for every unit and every scale: the smallest whole number not below n / s,
 -- as the code divides, is q with n ≤ q s < n + s. Assumes nothing.
-use mathlib.Core.Path.{_≡_, sym, ap, _∙_}
+use mathlib.Core.Path.{_≡_, ap, _∙_}
 use mathlib.Core.Bool.{Bool, true, false, _&&_}
-use Prim.Native.Nat.{ℕ, _+_, _-_, _*_, _/_, _%_, _≤_, _<_}
+use Prim.Native.Nat.{ℕ, _+_, _-_, _*_, _/_, _≤_, _<_}
 use native.Mathlib.Nat.{div-add-mod', mod-lt, mul-assoc, lt-of-mul-lt-mul-right, add-mul, mul-le-mul-left, zero-mul}
 use native.Mathlib.Omega.{arith}
 use borrow.Author.Tests.{leb-true}
 use lib.Dec.{leb}
-use lib.IntN.{ℤ, pos, natAbs}
+use lib.IntN.{pos, natAbs}
 use Rattle.whole.specs.Whole.{ceilDiv}
 use Rattle.whole.proofs.Signed.{Is, is-nat, is-same, is-ceil, is-size}
-use Rattle.arc.specs.Zones.{circle}
-use Rattle.arc.specs.Spacing.{isScale, spacingAt, rowUnit, Scale, SpacingUnit, Spaced, Grid, SpacingIs, SpacingFalls, RowsAtLeast}
+use Rattle.arc.specs.Spacing.{isScale, spacingAt, Scale, SpacingUnit, Spaced, Grid, SpacingIs, SpacingFalls, RowsAtLeast}
 
 -- the test as a fact
 pub scale-in : (s : ℕ) → isScale s ≡ true → Scale s

@@ -7,7 +7,7 @@
 --     table              the rows
 --     rowOf zone         the row of a zone, none where the number is no zone's
 --     isPolar zone       zone 9 or 18
-use Prim.Native.Nat.{ℕ, _*_}
+use Prim.Native.Nat.{ℕ}
 use mathlib.Core.Bool.{Bool, cond, _||_}
 use mathlib.Core.List.{List, [], _∷_}
 use mathlib.Core.Option.{Option, some, none}

@@ -1,13 +1,14 @@
 // The ARC system's zones and pixel spacing (001, Table 3-1, 3.4.6).
 ghost use mathlib.Core.Path.{_≡_};
-ghost use Prim.Native.Nat.{_≤_};
 ghost use Rattle.arc.specs.Refusals.{refusal};
-ghost use Rattle.arc.specs.Spacing.{isScale, spacingAt, rowUnit, columnsOf, rowsOf, spacingOf, Scale};
+ghost use Rattle.arc.specs.Spacing.{rowsOf, spacingOf};
 
 mod limits;
 mod units;
+mod zone;
 pub use limits::{EQUATORWARD, POLEWARD};
 pub use units::{Circle, Scales, Tile, is_scale};
+pub use zone::{Meridian, Zone1, Zone2, Zone3, Zone4, Zone5, Zone6, Zone7, Zone8, Zone9};
 
 // A refusal: its number, and its place (01, "Numbers given in refusal").
 pub struct Refusal {
@@ -33,196 +34,11 @@ pub enum SpacingAnswer {
     Refused(Refusal),
 }
 
-// B, the same in every zone (001, Table 3-3).
-pub struct Meridian;
-
-impl Meridian {
-    pub const UNIT: u64 = 782;
-
-    fn spacing(scale: u64) -> u64
-        requires { ⌜ Scale scale ⌝ }
-        ensures { λ r. ⌜ r ≡ spacingAt rowUnit scale ⌝ }
-    {
-        spacing_of(Self::UNIT, scale)
-    }
-}
-
-// Zones 1 and 10.
-pub struct Zone1;
-
-impl Zone1 {
-    pub const EQUATORWARD: u64 = 0 * Circle::DEGREE;
-    pub const POLEWARD: u64 = 32 * Circle::DEGREE;
-    pub const UNIT: u64 = 722;
-
-    fn spacing(scale: u64) -> u64
-        requires { ⌜ Scale scale ⌝ }
-        ensures { λ r. ⌜ r ≡ spacingAt 722 scale ⌝ }
-    {
-        spacing_of(Self::UNIT, scale)
-    }
-}
-
-// Zones 2 and 11.
-pub struct Zone2;
-
-impl Zone2 {
-    pub const EQUATORWARD: u64 = 32 * Circle::DEGREE;
-    pub const POLEWARD: u64 = 48 * Circle::DEGREE;
-    pub const UNIT: u64 = 591;
-
-    fn spacing(scale: u64) -> u64
-        requires { ⌜ Scale scale ⌝ }
-        ensures { λ r. ⌜ r ≡ spacingAt 591 scale ⌝ }
-    {
-        spacing_of(Self::UNIT, scale)
-    }
-}
-
-// Zones 3 and 12.
-pub struct Zone3;
-
-impl Zone3 {
-    pub const EQUATORWARD: u64 = 48 * Circle::DEGREE;
-    pub const POLEWARD: u64 = 56 * Circle::DEGREE;
-    pub const UNIT: u64 = 480;
-
-    fn spacing(scale: u64) -> u64
-        requires { ⌜ Scale scale ⌝ }
-        ensures { λ r. ⌜ r ≡ spacingAt 480 scale ⌝ }
-    {
-        spacing_of(Self::UNIT, scale)
-    }
-}
-
-// Zones 4 and 13.
-pub struct Zone4;
-
-impl Zone4 {
-    pub const EQUATORWARD: u64 = 56 * Circle::DEGREE;
-    pub const POLEWARD: u64 = 64 * Circle::DEGREE;
-    pub const UNIT: u64 = 389;
-
-    fn spacing(scale: u64) -> u64
-        requires { ⌜ Scale scale ⌝ }
-        ensures { λ r. ⌜ r ≡ spacingAt 389 scale ⌝ }
-    {
-        spacing_of(Self::UNIT, scale)
-    }
-}
-
-// Zones 5 and 14.
-pub struct Zone5;
-
-impl Zone5 {
-    pub const EQUATORWARD: u64 = 64 * Circle::DEGREE;
-    pub const POLEWARD: u64 = 68 * Circle::DEGREE;
-    pub const UNIT: u64 = 319;
-
-    fn spacing(scale: u64) -> u64
-        requires { ⌜ Scale scale ⌝ }
-        ensures { λ r. ⌜ r ≡ spacingAt 319 scale ⌝ }
-    {
-        spacing_of(Self::UNIT, scale)
-    }
-}
-
-// Zones 6 and 15.
-pub struct Zone6;
-
-impl Zone6 {
-    pub const EQUATORWARD: u64 = 68 * Circle::DEGREE;
-    pub const POLEWARD: u64 = 72 * Circle::DEGREE;
-    pub const UNIT: u64 = 268;
-
-    fn spacing(scale: u64) -> u64
-        requires { ⌜ Scale scale ⌝ }
-        ensures { λ r. ⌜ r ≡ spacingAt 268 scale ⌝ }
-    {
-        spacing_of(Self::UNIT, scale)
-    }
-}
-
-// Zones 7 and 16.
-pub struct Zone7;
-
-impl Zone7 {
-    pub const EQUATORWARD: u64 = 72 * Circle::DEGREE;
-    pub const POLEWARD: u64 = 76 * Circle::DEGREE;
-    pub const UNIT: u64 = 215;
-
-    fn spacing(scale: u64) -> u64
-        requires { ⌜ Scale scale ⌝ }
-        ensures { λ r. ⌜ r ≡ spacingAt 215 scale ⌝ }
-    {
-        spacing_of(Self::UNIT, scale)
-    }
-}
-
-// Zones 8 and 17.
-pub struct Zone8;
-
-impl Zone8 {
-    pub const EQUATORWARD: u64 = 76 * Circle::DEGREE;
-    pub const POLEWARD: u64 = 80 * Circle::DEGREE;
-    pub const UNIT: u64 = 161;
-
-    fn spacing(scale: u64) -> u64
-        requires { ⌜ Scale scale ⌝ }
-        ensures { λ r. ⌜ r ≡ spacingAt 161 scale ⌝ }
-    {
-        spacing_of(Self::UNIT, scale)
-    }
-}
-
-// Zones 9 and 18.
-pub struct Zone9;
-
-impl Zone9 {
-    pub const EQUATORWARD: u64 = 80 * Circle::DEGREE;
-    pub const POLEWARD: u64 = 90 * Circle::DEGREE;
-    pub const UNIT: u64 = 782;
-
-    fn spacing(scale: u64) -> u64
-        requires { ⌜ Scale scale ⌝ }
-        ensures { λ r. ⌜ r ≡ spacingAt 782 scale ⌝ }
-    {
-        spacing_of(Self::UNIT, scale)
-    }
-}
-
 // The refusal of a number, its place 0.
 pub fn refused(number: u32) -> Refusal
     ensures { λ r. ⌜ r ≡ refusal number ⌝ }
 {
     Refusal { number, at: 0 }
-}
-
-// 512 times the smallest whole number not below unit × 1,000,000 / scale (001, 3.4.6).
-fn spacing_of(unit: u64, scale: u64) -> u64
-    requires { ⌜ Scale scale ⌝ ∗ ⌜ unit ≤ 782 ⌝ }
-    ensures { λ r. ⌜ r ≡ spacingAt unit scale ⌝ }
-{
-    512 * ((unit * 1_000_000 + (scale - 1)) / scale)
-}
-
-// A of a zone. Refuses 2.
-fn columns(scale: u64, zone: u64) -> ConstantAnswer
-    requires { ⌜ Scale scale ⌝ }
-    ensures { λ r. ⌜ r ≡ columnsOf scale zone ⌝ }
-{
-    match zone {
-        1 | 10 => ConstantAnswer::Pixels(Zone1::spacing(scale)),
-        2 | 11 => ConstantAnswer::Pixels(Zone2::spacing(scale)),
-        3 | 12 => ConstantAnswer::Pixels(Zone3::spacing(scale)),
-        4 | 13 => ConstantAnswer::Pixels(Zone4::spacing(scale)),
-        5 | 14 => ConstantAnswer::Pixels(Zone5::spacing(scale)),
-        6 | 15 => ConstantAnswer::Pixels(Zone6::spacing(scale)),
-        7 | 16 => ConstantAnswer::Pixels(Zone7::spacing(scale)),
-        8 | 17 => ConstantAnswer::Pixels(Zone8::spacing(scale)),
-        9 | 18 => ConstantAnswer::Pixels(Zone9::spacing(scale)),
-        _ => ConstantAnswer::Refused(refused(2)),
-    }
 }
 
 // B at scale 1:S. Refuses 1.
@@ -232,7 +48,7 @@ pub fn b_constant(scale: u64) -> ConstantAnswer
     if !is_scale(scale) {
         return ConstantAnswer::Refused(refused(1));
     }
-    ConstantAnswer::Pixels(Meridian::spacing(scale))
+    ConstantAnswer::Pixels(zone::rows(scale))
 }
 
 // A and B at scale 1:S in a zone. Refuses 1, 2.
@@ -242,8 +58,8 @@ pub fn spacing(scale: u64, zone: u64) -> SpacingAnswer
     if !is_scale(scale) {
         return SpacingAnswer::Refused(refused(1));
     }
-    let b = Meridian::spacing(scale);
-    match columns(scale, zone) {
+    let b = zone::rows(scale);
+    match zone::columns(scale, zone) {
         ConstantAnswer::Pixels(a) => SpacingAnswer::Constants { a, b },
         ConstantAnswer::Refused(r) => SpacingAnswer::Refused(r),
     }

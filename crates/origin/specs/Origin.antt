@@ -8,7 +8,7 @@
 --     originOf a b lat lon     the origin of an upper left point
 --     alignOf S zone lat lon   what `align` answers: refusals 1, 2, 3, 4, 5
 use mathlib.Core.Path.{_≡_}
-use mathlib.Core.Bool.{Bool, false, cond}
+use mathlib.Core.Bool.{false, cond}
 use mathlib.Core.List.{[], _∷_}
 use Prim.Native.Nat.{ℕ, _*_, _/_}
 use lib.IntN.{ℤ, pos, negℤ, _*ℤ_}

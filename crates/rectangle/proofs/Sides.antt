@@ -6,13 +6,13 @@ use Prim.Native.Nat.{ℕ, zero, suc, _+_, _-_, _*_, _≤_, _<_}
 use native.Mathlib.Nat.{mul-le-mul-right}
 use native.Mathlib.Omega.{arith}
 use borrow.Author.Tests.{ltb-true, ltb-false, lt-ltb, le-ltb, le-leb, leb-true, ne-eqb}
-use lib.Dec.{leb, ltb, eqb}
-use lib.IntN.{ℤ, pos, negsuc, natAbs, _-ℤ_}
+use lib.Dec.{leb, ltb}
+use lib.IntN.{ℤ, pos, negsuc, _-ℤ_}
 use lib.Signed.{_≤ℤ_}
 use Rattle.whole.proofs.Signed.{is-nat, is-difference, is-le, le-is}
 use Rattle.arc.specs.Zones.{circle, quarter, isPolar, Row}
 use Rattle.zones.specs.Basic.{from, to, holds}
-use Rattle.zones.specs.Cover.{overlaps, coversIn, covers, firstZone}
+use Rattle.zones.specs.Cover.{overlaps, coversIn, covers}
 use Rattle.zones.specs.Stretch.{rowAt, reaches}
 use Rattle.zones.proofs.Holding.{both}
 use Rattle.zones.proofs.Rows.{from-to, northern-at, southern-at, row-north, row-south, to-least}

@@ -1,15 +1,13 @@
 -- "Covers some latitude in it": the count from the south edge meets such a latitude exactly where there is one. Assumes nothing.
-use mathlib.Core.Path.{_≡_, refl, sym, ap, _∙_, subst}
+use mathlib.Core.Path.{_≡_, refl, sym, ap, _∙_}
 use mathlib.Core.Bool.{Bool, true, false, _||_}
 use Prim.Native.Nat.{ℕ, zero, suc, _+_, _-_, _≤_, _<_}
-use native.Mathlib.Numerals.{add-one}
 use native.Mathlib.Omega.{arith}
 use lib.IntN.{ℤ, pos, natAbs, sucℤ, _+ℤ_, _-ℤ_, +ℤ-idr, sucℤ-+ℤ, +ℤ-sucℤ}
-use lib.Signed.{_≤ℤ_}
 use Rattle.whole.proofs.Signed.{Is, over, under, is-parts, is-nat, is-add, is-minus, is-equal, is-le, le-is, is-size}
 use Rattle.zones.specs.Lists.{someFrom}
 use Rattle.zones.specs.Cover.{covers}
-use Rattle.rectangle.specs.Rectangle.{coversSome, Covered, SomeIs}
+use Rattle.rectangle.specs.Rectangle.{SomeIs}
 
 either : (x y : Bool) → x || y ≡ true → (x ≡ false → y ≡ true)
 either true y e f = let z : _≡_ {A = ℕ} 0 1 = cc in absurd (omega arith)

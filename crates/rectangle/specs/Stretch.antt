@@ -4,7 +4,7 @@
 use Prim.Native.Nat.{ℕ, _≤_}
 use mathlib.Core.Bool.{Bool, _&&_}
 use lib.Dec.{leb}
-use Rattle.arc.specs.Zones.{circle, Row}
+use Rattle.arc.specs.Zones.{Row}
 use Rattle.zones.specs.Basic.{from}
 use Rattle.zones.specs.Stretch.{reaches, Rows}
 

@@ -1,14 +1,13 @@
 -- The definitions of specs/Whole.antt are what they say: each number is written as a difference whose second part is a
 -- multiple of the divisor, and then it is natural division. Assumes nothing.
-use mathlib.Core.Path.{_≡_, sym, ap, _∙_, subst, subst⁻¹}
-use mathlib.Core.Bool.{Bool, false}
+use mathlib.Core.Path.{_≡_, sym, _∙_, subst⁻¹}
 use Prim.Native.Nat.{ℕ, _+_, _-_, _*_, _/_, _%_, _≤_, _<_}
 use native.Mathlib.Nat.{add-mul, div-add-mod', mod-lt, lt-of-mul-lt-mul-right, le-mul-of-pos-right}
 use native.Mathlib.Omega.{arith}
 use borrow.Author.Tests.{ltb-false, le-ltb}
 use lib.IntN.{ℤ, pos, negℤ, natAbs, _+ℤ_, _-ℤ_, _*ℤ_}
-use lib.Signed.{_≤ℤ_, _<ℤ_}
-use Rattle.whole.specs.Whole.{floorDiv, nearest, near, ceilDiv, modulo, outside, Greatest, Smallest, FloorIs, CeilIs, Near, NearestIs, Modulo, ModuloIs, OutsideIs}
+use lib.Signed.{_≤ℤ_}
+use Rattle.whole.specs.Whole.{floorDiv, nearest, near, ceilDiv, modulo, Greatest, Smallest, FloorIs, CeilIs, Near, NearestIs, Modulo, ModuloIs, OutsideIs}
 use Rattle.whole.proofs.Signed.{Is, over, under, is-parts, is-same, is-equal, is-nat, is-neg, is-add, is-minus, is-mul, is-lmul, is-le, le-is, is-lt, is-floor, is-ceil, is-modulo, is-outside}
 use Rattle.whole.proofs.Near.{near-low, near-high, is-nearest}
 

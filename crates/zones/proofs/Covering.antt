@@ -2,22 +2,21 @@
 -- the latitude's size and reaches it; on the other side it covers none. Assumes nothing.
 use mathlib.Core.Path.{_≡_, refl, sym, ap, ap₂, _∙_}
 use mathlib.Core.Bool.{Bool, true, false, cond, not, _&&_, _||_}
-use mathlib.Core.List.{List, [], _∷_}
+use mathlib.Core.List.{List, _∷_}
 use mathlib.Core.Option.{some}
 use Prim.Native.Nat.{ℕ, zero, suc, _+_, _-_, _*_, _≤_, _<_}
 use native.Mathlib.Omega.{arith}
-use borrow.Author.Tests.{ltb-true, ltb-false, le-leb, lt-leb, le-ltb, eq-eqb, ne-eqb}
+use borrow.Author.Tests.{ltb-true, ltb-false, le-leb, lt-leb, eq-eqb}
 use lib.Dec.{leb, ltb, eqb}
-use lib.ListN.{length}
-use lib.IntN.{ℤ, pos, negsuc, natAbs}
+use lib.IntN.{ℤ, pos, natAbs}
 use lib.Signed.{ltZ}
-use Rattle.arc.specs.Zones.{circle, quarter, Row, rowOf, isPolar}
+use Rattle.arc.specs.Zones.{circle, rowOf}
 use Rattle.arc.specs.declared.ConstantAnswer.{ConstantAnswer}
 use Rattle.arc.specs.Spacing.{rowsOf, rowUnit}
 use Rattle.arc.proofs.Spaced.{grid, rows-least}
 use Rattle.arc.proofs.Answered.{rows-from}
 use Rattle.zones.specs.Lists.{those, downFrom}
-use Rattle.zones.specs.Basic.{from, to, holds, rowHolding, zoneOn, basicZone}
+use Rattle.zones.specs.Basic.{from, to, holds, zoneOn, basicZone}
 use Rattle.zones.specs.Cover.{overlaps, coversIn, covers, firstZone, coverZones}
 use Rattle.zones.specs.Stretch.{rowAt, reaches, coverFrom, Rows}
 use Rattle.zones.proofs.Rows.{northern-at, southern-at, row-north, row-south, polar-at, last-at, from-to, place, is-place}

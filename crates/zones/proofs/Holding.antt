@@ -1,16 +1,16 @@
 -- The row that holds a size, found by poleward limits alone: in a table whose rows follow one another up to 90°, the first
 -- row that holds a size is the first whose poleward limit lies beyond it. Assumes nothing.
-use mathlib.Core.Path.{_≡_, refl, sym, ap, _∙_, subst}
+use mathlib.Core.Path.{_≡_, refl}
 use mathlib.Core.Bool.{Bool, true, false, cond, not, _&&_, _||_}
 use mathlib.Core.List.{List, [], _∷_}
 use mathlib.Core.Logic.{_⊎_, inl, inr, ⊎-map}
-use Prim.Native.Nat.{ℕ, zero, suc, _+_, _*_, _≤_, _<_}
+use Prim.Native.Nat.{ℕ, suc, _+_, _*_, _≤_, _<_}
 use native.Mathlib.Omega.{arith}
-use borrow.Author.Tests.{eqb-true, ltb-true, ltb-false, le-leb, lt-ltb, not-true}
-use lib.Dec.{leb, ltb, eqb}
+use borrow.Author.Tests.{eqb-true, ltb-true, ltb-false, le-leb, not-true}
+use lib.Dec.{ltb, eqb}
 use lib.ListN.{length, getD}
-use Rattle.arc.specs.Zones.{degree, Row, row, table}
-use Rattle.zones.specs.Basic.{from, to, holds, firstHolding, rowHolding}
+use Rattle.arc.specs.Zones.{degree, Row, row}
+use Rattle.zones.specs.Basic.{from, to, firstHolding}
 
 abbrev pub noRow : Row
 noRow = row 0 0 0 0 0

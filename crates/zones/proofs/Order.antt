@@ -1,16 +1,16 @@
 -- The rows' order: each starts where the one before it ends, and rows six apart are more than 18° apart, the widest overlap
 -- that any scale has. Assumes nothing.
 use mathlib.Core.Path.{_≡_, refl, sym, ap, _∙_, subst}
-use mathlib.Core.Bool.{Bool, true, false, cond, not, _&&_, _||_}
-use mathlib.Core.List.{List, [], _∷_}
+use mathlib.Core.Bool.{Bool, true, false}
+use mathlib.Core.List.{List, []}
 use Prim.Native.Nat.{ℕ, zero, suc, _+_, _-_, _*_, _≤_, _<_}
-use native.Mathlib.Nat.{lt-of-mul-lt-mul-right, mul-le-mul-left, mul-le-mul-right}
+use native.Mathlib.Nat.{mul-le-mul-left, mul-le-mul-right}
 use native.Mathlib.Omega.{arith}
-use borrow.Author.Tests.{ltb-true, ltb-false, lt-ltb, le-ltb, le-leb, leb-true, ne-eqb, eq-eqb, eqb-true, eqb-false}
-use lib.Dec.{leb, ltb, eqb, lit≤}
-use lib.ListN.{length, getD, set, take, drop}
+use borrow.Author.Tests.{ltb-true, ltb-false, lt-ltb, le-ltb, ne-eqb, eqb-true, eqb-false}
+use lib.Dec.{ltb, eqb, lit≤}
+use lib.ListN.{getD, set, take, drop}
 use lib.Seq.{getD-take}
-use Rattle.arc.specs.Zones.{circle, Row, table, isPolar}
+use Rattle.arc.specs.Zones.{circle, table}
 use Rattle.zones.specs.Lists.{those, downFrom}
 use Rattle.zones.specs.Basic.{from, to}
 use Rattle.zones.specs.Stretch.{rowAt, reaches, coverFrom, Rowed}

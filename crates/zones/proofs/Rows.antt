@@ -1,21 +1,20 @@
 -- The table by a row's place in it, 0 to 8. Two lists that are alike when mapped are alike at each place, so each column of
 -- the table is one equation that computes. Assumes nothing.
-use mathlib.Core.Path.{_≡_, refl, sym, ap, _∙_, subst}
-use mathlib.Core.Bool.{Bool, true, false, cond, not, _&&_, _||_}
+use mathlib.Core.Path.{_≡_, refl, sym, ap, _∙_}
+use mathlib.Core.Bool.{true}
 use mathlib.Core.List.{List, [], _∷_, map}
-use mathlib.Core.Logic.{_⊎_, inl, inr, ⊎-elim}
-use mathlib.Core.Option.{Option, some, none}
-use Prim.Native.Nat.{ℕ, zero, suc, _+_, _-_, _*_, _≤_, _<_, zero-le}
+use mathlib.Core.Option.{some}
+use Prim.Native.Nat.{ℕ, zero, suc, _+_, _<_, zero-le}
 use native.Mathlib.Nat.{zero-add}
 use native.Mathlib.Omega.{arith}
 use borrow.Author.Tests.{ltb-true}
-use lib.Dec.{leb, ltb, eqb}
+use lib.Dec.{ltb, eqb}
 use lib.ListN.{length, getD}
-use Rattle.arc.specs.Zones.{degree, Row, row, table, rowOf, isPolar}
+use Rattle.arc.specs.Zones.{Row, table, rowOf, isPolar}
 use Rattle.zones.specs.Lists.{upFrom}
 use Rattle.zones.specs.Basic.{from, to, rowHolding}
 use Rattle.zones.specs.Stretch.{rowAt}
-use Rattle.zones.proofs.Holding.{noRow, reach, linked, Held, held, holding}
+use Rattle.zones.proofs.Holding.{noRow, reach, Held, held, holding}
 
 pub agree : {A B C : Type 0} (f : A → C) (g : B → C) (k : List A) (l : List B) (d : A) (e : B) → map f k ≡ map g l
     → (i : ℕ) → i < length k → f (getD k i d) ≡ g (getD l i e)

@@ -2,17 +2,16 @@
 use mathlib.Core.Path.{_≡_, refl, sym, ap, _∙_, subst⁻¹}
 use mathlib.Core.Bool.{Bool, true, false, cond}
 use mathlib.Core.List.{List, _∷_}
-use Prim.Native.Nat.{ℕ, zero, suc, _+_, _-_, _≤_, _<_}
+use Prim.Native.Nat.{ℕ, zero, suc, _+_, _-_, _≤_}
 use native.Mathlib.Omega.{arith}
 use lib.ListN.{length}
-use lib.IntN.{ℤ, natAbs}
-use Rattle.whole.specs.Whole.{outside}
+use lib.IntN.{natAbs}
 use Rattle.whole.proofs.Held.{outsides}
 use Rattle.arc.specs.Zones.{quarter}
-use Rattle.arc.specs.Spacing.{rowUnit, spacingAt, Scale}
+use Rattle.arc.specs.Spacing.{rowUnit, spacingAt}
 use Rattle.arc.proofs.Spaced.{grid, rows-least}
 use Rattle.zones.specs.Lists.{those, downFrom}
-use Rattle.zones.specs.Cover.{firstZone, coverZones, AtMostSix}
+use Rattle.zones.specs.Cover.{firstZone, AtMostSix}
 use Rattle.zones.specs.Stretch.{rowAt, reaches, coverFrom, Rowed}
 use Rattle.zones.proofs.Rows.{place}
 use Rattle.zones.proofs.Order.{within, near-enough}

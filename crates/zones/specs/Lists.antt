@@ -6,7 +6,7 @@
 --     reportIn k v n l   the paper's number, place and k values, a length and the slots (01, "Numbers given in refusal")
 --     someFrom f z n     f holds of one of z, z + 1, .., z + n − 1
 use Prim.Native.Nat.{ℕ, zero, suc, _+_, _-_}
-use mathlib.Core.Bool.{Bool, true, false, cond, _||_}
+use mathlib.Core.Bool.{Bool, false, cond, _||_}
 use mathlib.Core.List.{List, [], _∷_, _++_, map}
 use lib.ListN.{length, replicate}
 use lib.IntN.{ℤ, pos, sucℤ}

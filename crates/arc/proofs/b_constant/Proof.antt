@@ -16,12 +16,12 @@ refused-requires c κs = search needs
 returns : tie.Need-returns
 returns c = rw (sym (c .before .before .is-scale .ensures) ∙ not-true _ (c .before .if1 .taken)) (ap ConstantAnswer.Refused (c .refused .ensures))
 
-spacing-requires : tie.Need-spacing-requires
-spacing-requires c κs = scale-in (c .before .before .args .scale) (sym (c .before .is-scale .ensures) ∙ not-false _ (c .if1 .left))
+rows-requires : tie.Need-rows-requires
+rows-requires c κs = scale-in (c .before .before .args .scale) (sym (c .before .is-scale .ensures) ∙ not-false _ (c .if1 .left))
 
 returns-2 : tie.Need-returns-2
-returns-2 c = rw (sym (c .before .before .is-scale .ensures) ∙ not-false _ (c .before .if1 .left)) (ap ConstantAnswer.Pixels (c .spacing .ensures))
+returns-2 c = rw (sym (c .before .before .is-scale .ensures) ∙ not-false _ (c .before .if1 .left)) (ap ConstantAnswer.Pixels (c .rows .ensures))
 
 pub b-constant-spec : {M : Type 1} → statement M
 b-constant-spec =
-    tie.close (tie.spec is-scale-requires refused-requires returns spacing-requires returns-2)
+    tie.close (tie.spec is-scale-requires refused-requires returns rows-requires returns-2)

@@ -6,48 +6,33 @@ use Rattle.arc.proofs.Spaced.{scale-in}
 use borrow.Author.Needs.{needs}
 use Rattle.arc.proofs.spacing.Statement.{statement}
 use Rattle.arc.proofs.spacing.Tie as tie
-use Rattle.arc.proofs.spacing.Reads as reads
-use Rattle.arc.proofs.spacing.Lts as lts
-use Rattle.arc.proofs.Meridian.spacing.Reads as spacing-reads
-use Rattle.arc.proofs.columns.Reads as columns-reads
-use Rattle.arc.proofs.is_scale.Reads as is-scale-reads
-use Rattle.arc.proofs.refused.Reads as refused-reads
 
--- src/lib.rt:247:9
 is-scale-requires : tie.Need-is-scale-requires
 is-scale-requires c κs = search needs
 
--- src/lib.rt:248:39
 refused-requires : tie.Need-refused-requires
 refused-requires c κs = search needs
 
--- src/lib.rt:248:9
 returns : tie.Need-returns
 returns c = rw (sym (c .before .before .is-scale .ensures) ∙ not-true _ (c .before .if1 .taken)) (ap SpacingAnswer.Refused (c .refused .ensures))
 
--- src/lib.rt:250:9
-spacing-requires : tie.Need-spacing-requires
-spacing-requires c κs = scale-in (c .before .before .args .scale) (sym (c .before .is-scale .ensures) ∙ not-false _ (c .if1 .left))
+rows-requires : tie.Need-rows-requires
+rows-requires c κs = scale-in (c .before .before .args .scale) (sym (c .before .is-scale .ensures) ∙ not-false _ (c .if1 .left))
 
--- src/lib.rt:251:11
 columns-requires : tie.Need-columns-requires
 columns-requires c κs = scale-in (c .before .before .before .args .scale) (sym (c .before .before .is-scale .ensures) ∙ not-false _ (c .before .if1 .left))
 
--- src/lib.rt:252:32
 enum-known-a : tie.Need-enum-known-a
 enum-known-a c = search needs
 
--- src/lib.rt:253:33
 enum-known-r : tie.Need-enum-known-r
 enum-known-r c = search needs
 
--- src/lib.rt:244:1
 returns-2 : tie.Need-returns-2
 returns-2 c =
     rw (sym (c .before .before .before .before .before .before .is-scale .ensures) ∙ not-false _ (c .before .before .before .before .before .if1 .left), sym (c .before .before .before .columns .ensures) ∙ c .before .a .given .1)
-    (ap (SpacingAnswer.Constants (c .before .a .given .0 .0)) (c .before .before .before .before .spacing .ensures))
+    (ap (SpacingAnswer.Constants (c .before .a .given .0 .0)) (c .before .before .before .before .rows .ensures))
 
--- src/lib.rt:244:1
 returns-3 : tie.Need-returns-3
 returns-3 c = rw (sym (c .before .before .before .before .before .before .is-scale .ensures) ∙ not-false _ (c .before .before .before .before .before .if1 .left), sym (c .before .before .before .columns .ensures) ∙ c .before .r .given .1)
 
@@ -58,7 +43,7 @@ spacing-spec =
     is-scale-requires
     refused-requires
     returns
-    spacing-requires
+    rows-requires
     columns-requires
     enum-known-a
     enum-known-r

@@ -1,21 +1,15 @@
 -- A northern zone asks of the part of the rectangle from the Equator north, a southern one of the part south of it, each by its row. Assumes nothing.
-use mathlib.Core.Path.{_≡_, sym, ap, _∙_, subst}
+use mathlib.Core.Path.{_≡_, sym, ap, _∙_}
 use Prim.Native.Nat.{ℕ, _+_, _-_}
 use native.Mathlib.Omega.{arith}
 use Rattle.arc.specs.Zones.{quarter}
 use Rattle.zones.specs.Stretch.{rowAt}
-use Rattle.rectangle.specs.Rectangle.{coversSome}
 use Rattle.rectangle.specs.Stretch.{meets}
 use Rattle.rectangle.proofs.Sides.{north-is, north-none, south-is, south-none}
 use borrow.Author.Needs.{needs}
 use Rattle.rectangle.proofs.covers_some.Statement.{statement}
 use Rattle.rectangle.proofs.covers_some.Tie as tie
-use Rattle.rectangle.proofs.covers_some.Reads as reads
-use Rattle.rectangle.proofs.covers_some.Lts as lts
-use Rattle.rectangle.proofs.less.Reads as less-reads
-use Rattle.rectangle.proofs.row_meets.Reads as row-meets-reads
 
--- src/lib.rt:66:13
 returns : tie.Need-returns
 returns c =
     let a = c .before .before .args in
@@ -23,19 +17,15 @@ returns c =
     let e : a .zone ≡ 1 + j = omega (arith, c .before .before .pre .some-zone, c .before .if1 .taken) in
     rw e (sym (north-none (a .b) j (omega (arith, c .before .if1 .taken)) (a .south) (a .north) (c .before .before .pre .order) (c .if2 .taken)))
 
--- src/lib.rt:68:30
 sub-row-meets : tie.Need-sub-row-meets
 sub-row-meets c = search needs
 
--- src/lib.rt:68:50
 less-requires : tie.Need-less-requires
 less-requires c κs = search needs
 
--- src/lib.rt:68:9
 row-meets-requires : tie.Need-row-meets-requires
 row-meets-requires c κs = search needs
 
--- src/lib.rt:68:9
 returns-2 : tie.Need-returns-2
 returns-2 c =
     let a = c .before .before .before .before .args in
@@ -46,7 +36,6 @@ returns-2 c =
     ∙ ap (λ (n : ℕ). meets (a .b) (rowAt j) n (a .north - quarter)) (c .before .less .ensures)
     ∙ sym (north-is (a .b) j (omega (arith, c .before .before .before .if1 .taken)) (a .south) (a .north) (c .before .before .before .before .pre .order) (c .before .before .if2 .left)))
 
--- src/lib.rt:71:9
 returns-3 : tie.Need-returns-3
 returns-3 c =
     let a = c .before .before .args in
@@ -54,23 +43,18 @@ returns-3 c =
     let e : a .zone ≡ 10 + j = omega (arith, c .before .before .pre .some-zone, c .before .if1 .left) in
     rw e (sym (south-none (a .b) j (omega (arith, c .before .before .pre .last-zone)) (a .south) (a .north) (c .before .before .pre .order) (c .if3 .taken)))
 
--- src/lib.rt:73:19
 sub-row-meets-2 : tie.Need-sub-row-meets-2
 sub-row-meets-2 c = search needs
 
--- src/lib.rt:73:40
 less-requires-2 : tie.Need-less-requires-2
 less-requires-2 c κs = search needs
 
--- src/lib.rt:73:70
 sub-row-meets-3 : tie.Need-sub-row-meets-3
 sub-row-meets-3 c = search needs
 
--- src/lib.rt:73:5
 row-meets-requires-2 : tie.Need-row-meets-requires-2
 row-meets-requires-2 c κs = search needs
 
--- src/lib.rt:60:1
 returns-4 : tie.Need-returns-4
 returns-4 c =
     let a = c .before .before .before .before .args in

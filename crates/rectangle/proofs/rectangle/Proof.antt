@@ -1,5 +1,5 @@
 -- B comes first, with its refusal, and then `rectangle_at` answers. Assumes nothing.
-use mathlib.Core.Path.{_≡_, sym, ap₂, _∙_}
+use mathlib.Core.Path.{sym, ap₂, _∙_}
 use mir.Syntax.{w64}
 use mir.ValLaws.{toZ-ofZ}
 use Rattle.zones.proofs.Covering.{rows-of}
@@ -7,39 +7,27 @@ use Rattle.rectangle.specs.Rectangle.{rectangleAt}
 use borrow.Author.Needs.{needs}
 use Rattle.rectangle.proofs.rectangle.Statement.{statement}
 use Rattle.rectangle.proofs.rectangle.Tie as tie
-use Rattle.rectangle.proofs.rectangle.Reads as reads
-use Rattle.rectangle.proofs.rectangle.Lts as lts
-use Rattle.arc.proofs.b_constant.Reads as b-constant-reads
-use Rattle.rectangle.proofs.no_rectangle.Reads as no-rectangle-reads
-use Rattle.rectangle.proofs.rectangle_at.Reads as rectangle-at-reads
 
--- src/lib.rt:119:11
 b-constant-requires : tie.Need-b-constant-requires
 b-constant-requires c κs = search needs
 
--- src/lib.rt:120:32
 enum-known-b : tie.Need-enum-known-b
 enum-known-b c = search needs
 
--- src/lib.rt:120:38
 rectangle-at-requires : tie.Need-rectangle-at-requires
 rectangle-at-requires c κs = rows-of (c .before .before .before .before .args .scale) _ (sym (c .before .before .before .b-constant .ensures) ∙ c .before .b .given .1)
 
--- src/lib.rt:121:33
 enum-known-r : tie.Need-enum-known-r
 enum-known-r c = search needs
 
--- src/lib.rt:121:39
 no-rectangle-requires : tie.Need-no-rectangle-requires
 no-rectangle-requires c κs = search needs
 
--- src/lib.rt:116:1
 returns : tie.Need-returns
 returns c = let s = c .before .before .before .before .before in
     rw (sym (c .before .before .before .before .b-constant .ensures) ∙ c .before .before .b .given .1)
     (c .rectangle-at .ensures ∙ ap₂ (rectangleAt (c .before .before .b .given .0 .0)) (toZ-ofZ w64 (s .args .south) (s .fits .south)) (toZ-ofZ w64 (s .args .north) (s .fits .north)))
 
--- src/lib.rt:116:1
 returns-2 : tie.Need-returns-2
 returns-2 c = rw (sym (c .before .before .before .before .b-constant .ensures) ∙ c .before .before .r .given .1) (c .no-rectangle .ensures)
 

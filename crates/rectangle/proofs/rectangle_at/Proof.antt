@@ -1,40 +1,28 @@
 -- Each test decides one case of `rectangleAt`, in its order, and `count_from` hands over each edge counted from the South Pole. Assumes nothing.
-use mathlib.Core.Path.{_≡_, sym, ap, ap₂, _∙_}
-use lib.IntN.{ℤ, pos, _-ℤ_}
+use mathlib.Core.Path.{ap, ap₂, _∙_}
+use lib.IntN.{ℤ}
 use Rattle.arc.specs.Zones.{quarter}
 use Rattle.whole.proofs.Counts.{Inside, counted-outside, counted-from, counted-lt, counted-le}
 use Rattle.rectangle.specs.Rectangle.{listed, refusedRectangle, rectangleZones}
 use borrow.Author.Needs.{needs}
 use Rattle.rectangle.proofs.rectangle_at.Statement.{statement}
 use Rattle.rectangle.proofs.rectangle_at.Tie as tie
-use Rattle.rectangle.proofs.rectangle_at.Reads as reads
-use Rattle.rectangle.proofs.rectangle_at.Lts as lts
-use Rattle.arc.proofs.refused.Reads as refused-reads
-use Rattle.rectangle.proofs.no_rectangle.Reads as no-rectangle-reads
-use Rattle.rectangle.proofs.zones_of.Reads as zones-of-reads
-use Rattle.whole.proofs.count_from.Reads as count-from-reads
 
--- src/lib.rt:103:28
 count-from-requires : tie.Need-count-from-requires
 count-from-requires c κs = search needs
 
--- src/lib.rt:103:23
 enum-known-s : tie.Need-enum-known-s
 enum-known-s c = search needs
 
--- src/lib.rt:104:29
 enum-told : tie.Need-enum-told
 enum-told c = search needs
 
--- src/lib.rt:104:29
 refused-requires : tie.Need-refused-requires
 refused-requires c κs = search needs
 
--- src/lib.rt:104:9
 no-rectangle-requires : tie.Need-no-rectangle-requires
 no-rectangle-requires c κs = search needs
 
--- src/lib.rt:104:9
 south-in : (c : tie.After-known-told) → Inside quarter (c .before .before .before .before .args .south) (c .before .s .given .0 .0)
 south-in c = let s = c .before .before .before .before in counted-from quarter (s .args .south) (s .fits .south) (c .before .before .before .count-from .ensures) (c .before .s .given .1)
 
@@ -46,52 +34,41 @@ returns c = let s = c .before .before .before .before .before in
     let out = counted-outside quarter (s .args .south) (s .fits .south) (c .before .before .before .before .count-from .ensures) (c .before .before .enum-told .given .1) in
     rw out (c .no-rectangle .ensures ∙ ap refusedRectangle (c .before .refused .ensures))
 
--- src/lib.rt:106:28
 count-from-requires-2 : tie.Need-count-from-requires-2
 count-from-requires-2 c κs = search needs
 
--- src/lib.rt:106:23
 enum-known-n : tie.Need-enum-known-n
 enum-known-n c = search needs
 
--- src/lib.rt:107:29
 enum-told-2 : tie.Need-enum-told-2
 enum-told-2 c = search needs
 
--- src/lib.rt:107:29
 refused-requires-2 : tie.Need-refused-requires-2
 refused-requires-2 c κs = search needs
 
--- src/lib.rt:107:9
 no-rectangle-requires-2 : tie.Need-no-rectangle-requires-2
 no-rectangle-requires-2 c κs = search needs
 
--- src/lib.rt:107:9
 returns-2 : tie.Need-returns-2
 returns-2 c = let s = c .before .before .before .before .before .before .before .before .before in
     let out = counted-outside quarter (s .args .north) (s .fits .north) (c .before .before .before .before .count-from2 .ensures) (c .before .before .enum-told2 .given .1) in
     rw (south-in (c .before .before .before .before .before) .test, out) (c .no-rectangle2 .ensures ∙ ap refusedRectangle (c .before .refused2 .ensures))
 
--- src/lib.rt:110:29
 refused-requires-3 : tie.Need-refused-requires-3
 refused-requires-3 c κs = search needs
 
--- src/lib.rt:110:9
 no-rectangle-requires-3 : tie.Need-no-rectangle-requires-3
 no-rectangle-requires-3 c κs = search needs
 
--- src/lib.rt:110:9
 returns-3 : tie.Need-returns-3
 returns-3 c =
     let p = south-in (c .before .before .before .before .before .before .before) in
     let q = north-in (c .before .before .before) in
     rw (p .test, q .test, counted-lt quarter q p (c .before .before .if1 .taken)) (c .no-rectangle3 .ensures ∙ ap refusedRectangle (c .before .refused3 .ensures))
 
--- src/lib.rt:112:5
 zones-of-requires : tie.Need-zones-of-requires
 zones-of-requires c κs = (c .before .before .before .before .before .before .before .before .before .pre, (c .if1 .left, north-in (c .before) .high))
 
--- src/lib.rt:99:1
 returns-4 : tie.Need-returns-4
 returns-4 c = let s = c .before .before .before .before .before .before .before .before .before .before in
     let p = south-in (c .before .before .before .before .before .before) in

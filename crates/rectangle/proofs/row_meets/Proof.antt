@@ -1,41 +1,33 @@
 -- The code's limits are the table's, and each test decides one part of `meets`. Assumes nothing.
 use mathlib.Core.Path.{_≡_, sym, ap, _∙_}
-use mathlib.Core.Bool.{Bool, true, false, _||_}
-use Prim.Native.Nat.{ℕ, _+_, _-_, _*_, _<_, _≤_}
+use mathlib.Core.Bool.{_||_}
+use Prim.Native.Nat.{ℕ, _-_, _*_, _<_}
 use native.Mathlib.Omega.{arith}
 use borrow.Author.Tests.{le-leb, lt-leb}
 use lib.Dec.{ltb, eqb}
 use lib.ListN.{getD}
 use Rattle.whole.proofs.Machine.{fits-mul}
 use Rattle.arc.specs.Zones.{isPolar, circle}
-use Rattle.zones.specs.Basic.{from, to}
+use Rattle.zones.specs.Basic.{to}
 use Rattle.zones.specs.Stretch.{rowAt}
 use Rattle.zones.proofs.Rows.{tos, from-at, to-at, polar-at}
 use Rattle.rectangle.specs.Stretch.{meets}
 use borrow.Author.Needs.{needs}
 use Rattle.rectangle.proofs.row_meets.Statement.{statement}
 use Rattle.rectangle.proofs.row_meets.Tie as tie
-use Rattle.rectangle.proofs.row_meets.Reads as reads
-use Rattle.rectangle.proofs.row_meets.Lts as lts
-use Rattle.rectangle.proofs.less.Reads as less-reads
 
--- src/lib.rt:48:16
 mul-from : tie.Need-mul-from
 mul-from c = search needs
 
--- src/lib.rt:48:16
 array-read-from : tie.Need-array-read-from
 array-read-from c = search needs
 
--- src/lib.rt:49:14
 mul-to : tie.Need-mul-to
 mul-to c = search needs
 
--- src/lib.rt:49:14
 array-read-to : tie.Need-array-read-to
 array-read-to c = search needs
 
--- src/lib.rt:51:9
 -- the tests `low < to` and `row == 8`
 sooner : (low i : ℕ) (h : i < 9) → ltb low (to (rowAt i)) || isPolar (rowAt i .northern) ≡ ltb low (getD tos i 0) || eqb i 8
 sooner low i h = rw (to-at i h, polar-at i h)
@@ -46,7 +38,6 @@ returns c =
     let a = c .before .args in
     rw (from-at (a .row) (c .before .pre .1 .0), lt-leb _ _ (c .if1 .taken))
 
--- src/lib.rt:54:9
 returns-2 : tie.Need-returns-2
 unfolding meets
 returns-2 c =
@@ -54,15 +45,12 @@ returns-2 c =
     let h = c .before .before .pre .1 .0 in
     rw (from-at (a .row) h, le-leb _ _ (c .before .if1 .left), sooner (a .low) (a .row) h ∙ c .if2 .taken)
 
--- src/lib.rt:56:5
 less-requires : tie.Need-less-requires
 less-requires c κs = search needs
 
--- src/lib.rt:56:5
 mul-result : tie.Need-mul-result
 mul-result c = fits-mul 64800000 80076800 tt (omega (arith, c .less .ensures, c .before .before .before .pre .1 .1)) (c .before .before .before .pre .0 .most)
 
--- src/lib.rt:44:1
 returns-3 : tie.Need-returns-3
 unfolding meets
 returns-3 c =

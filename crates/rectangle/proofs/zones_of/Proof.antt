@@ -1,6 +1,6 @@
 -- Each turn takes the next zone or passes it by, and the list so far with what the rest adds is the whole. Assumes nothing.
-use mathlib.Core.Path.{_≡_, refl, sym, _∙_, ap₂}
-use mathlib.Core.List.{List, []}
+use mathlib.Core.Path.{_≡_, sym, _∙_, ap₂}
+use mathlib.Core.List.{List}
 use mathlib.Core.Logic.{⊎-elim}
 use lib.ListN.{length as count}
 use Rattle.arc.specs.declared.Verdict.{Verdict}
@@ -9,20 +9,12 @@ use Rattle.zones.proofs.Filled.{Sofar, finished}
 use Rattle.rectangle.specs.Rectangle.{coversSome, rectangleZones, listed}
 use Rattle.rectangle.proofs.Turn.{begun, took, left-out}
 use Rattle.rectangle.specs.declared.RectangleAnswer.{RectangleAnswer}
-use mathlib.Core.Path.{_≡_, refl}
-use Prim.Native.Nat.{ℕ, _+_, _-_, _≤_, _<_}
+use Prim.Native.Nat.{ℕ, _-_, _≤_, _<_}
 use native.Mathlib.Omega.{arith}
-use borrow.Author.Needs.{needs}
 use lib.IntN.{pos, _-ℤ_}
 use Rattle.arc.specs.Zones.{quarter}
-use Rattle.zones.specs.Lists.{upFrom}
-use Rattle.zones.proofs.Filled.{Sofar}
-use Rattle.rectangle.specs.Rectangle.{coversSome, rectangleZones}
 use Rattle.rectangle.proofs.zones_of.Statement.{statement}
 use Rattle.rectangle.proofs.zones_of.Tie as tie
-use Rattle.rectangle.proofs.zones_of.Reads as reads
-use Rattle.rectangle.proofs.zones_of.Lts as lts
-use Rattle.rectangle.proofs.covers_some.Reads as covers-some-reads
 
 abbrev Inv-loop : tie.InvT-loop
 Inv-loop b south north zones₀ length₀ zone₀ zones length zone = (1 ≤ zone) × (zone ≤ 19) × (length < zone) × Sofar (coversSome b (pos south -ℤ pos quarter) (pos north -ℤ pos quarter)) 18 (rectangleZones b (pos south -ℤ pos quarter) (pos north -ℤ pos quarter)) (upFrom zone (19 - zone)) zones length
@@ -30,36 +22,28 @@ Inv-loop b south north zones₀ length₀ zone₀ zones length zone = (1 ≤ zon
 abbrev μ-loop : tie.MeasureT-loop
 μ-loop b south north zones₀ length₀ zone₀ zones length zone = 19 - zone
 
--- src/lib.rt:84:5
 loop-holds : tie.Need-loop-holds Inv-loop μ-loop
 loop-holds c = (omega arith, omega arith, omega arith, begun (c .args .b) (c .args .south) (c .args .north))
 
--- src/lib.rt:85:12
 covers-some-requires : tie.Need-covers-some-requires Inv-loop μ-loop
 covers-some-requires c κs = let s = c .before .before in
     record { rows = s .pre .0; some-zone = c .before .loop .inv .0; last-zone = omega arith; order = s .pre .1 .0; pole = s .pre .1 .1 }
 
--- src/lib.rt:86:13
 mul-zones : tie.Need-mul-zones Inv-loop μ-loop
 mul-zones c = omega arith
 
--- src/lib.rt:86:13
 array-write-zones : tie.Need-array-write-zones Inv-loop μ-loop
 array-write-zones c = omega arith
 
--- src/lib.rt:87:13
 add-length : tie.Need-add-length Inv-loop μ-loop
 add-length c = omega arith
 
--- src/lib.rt:89:9
 add-zone : tie.Need-add-zone Inv-loop μ-loop
 add-zone c = omega arith
 
--- src/lib.rt:84:5
 loop-less : tie.Need-loop-less Inv-loop μ-loop
 loop-less c = omega arith
 
--- src/lib.rt:84:5
 loop-again : tie.Need-loop-again Inv-loop μ-loop
 loop-again c =
     let a = c .before .before .before .before .args in
@@ -71,7 +55,6 @@ loop-again c =
     (λ w. rw (w .1, w .2) (omega arith, omega arith, omega arith, left-out (a .b) (a .south) (a .north) (l .zone) (l .zones) (l .length) (c .before .before .loop-test .taken) (i .3) (sym e ∙ w .0 .left)))
     (c .if1 .came)
 
--- src/lib.rt:77:1
 made : (l zs : List ℕ) (n : ℕ) → (zs ≡ padded 18 l) × (n ≡ count l) → _≡_ {A = RectangleAnswer} (record { verdict = Verdict.Accepted; length = n; zones = zs }) (listed l)
 made l zs n p = ap₂ (λ (x : List ℕ) (y : ℕ). record { verdict = Verdict.Accepted; length = y; zones = x }) (p .0) (p .1)
 

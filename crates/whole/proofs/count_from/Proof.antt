@@ -1,3 +1,4 @@
+-- The two tests are those of `outside`, and past them z + limit is not negative and comes back as it was. Assumes nothing.
 use mathlib.Core.Path.{_≡_, ap}
 use mathlib.Core.Bool.{false}
 use lib.IntN.{ℤ, natAbs}
@@ -7,22 +8,16 @@ use Rattle.whole.proofs.Machine.{negated, negated-fits, low-test, high-
 use borrow.Author.Needs.{needs}
 use Rattle.whole.proofs.count_from.Statement.{statement}
 use Rattle.whole.proofs.count_from.Tie as tie
-use Rattle.whole.proofs.count_from.Reads as reads
-use Rattle.whole.proofs.count_from.Lts as lts
 
--- src/lib.rt:33:13
 cast-k : tie.Need-cast-k
 cast-k c = search needs
 
--- src/lib.rt:34:12
 sub-if1 : tie.Need-sub-if1
 sub-if1 c = rw (negated (c .args .limit) (c .fits .limit .fits)) (negated-fits (c .args .limit) (c .fits .limit .fits))
 
--- src/lib.rt:35:9
 returns : tie.Need-returns
 returns c = let s = c .before in rw (low-test (s .args .limit) (s .fits .limit .fits) (s .args .z) (s .fits .z) (c .if1 .taken))
 
--- src/lib.rt:38:9
 returns-2 : tie.Need-returns-2
 returns-2 c = let s = c .before .before in
     rw (low-test (s .args .limit) (s .fits .limit .fits) (s .args .z) (s .fits .z) (c .before .if1 .left), high-test (s .args .limit) (s .fits .limit .fits) (s .args .z) (s .fits .z) (c .if2 .taken))
@@ -32,15 +27,12 @@ inside : (c : tie.Else2) → outside (c .before .before .args .limit) (c .before
 inside c = let s = c .before .before in
     rw (low-test (s .args .limit) (s .fits .limit .fits) (s .args .z) (s .fits .z) (c .before .if1 .left), high-test (s .args .limit) (s .fits .limit .fits) (s .args .z) (s .fits .z) (c .if2 .left))
 
--- src/lib.rt:40:20
 add-t4 : tie.Need-add-t4
 add-t4 c = let s = c .before .before in sum-fits (s .args .limit) (s .fits .limit .fits) (s .args .z) (s .fits .z) (inside c)
 
--- src/lib.rt:40:19
 cast-t6 : tie.Need-cast-t6
 cast-t6 c = let s = c .before .before in sum-casts (s .args .limit) (s .fits .limit .fits) (s .args .z) (s .fits .z) (inside c)
 
--- src/lib.rt:30:1
 returns-3 : tie.Need-returns-3
 returns-3 c = let s = c .before .before in
     rw (inside c) (ap (λ (x : ℤ). From (natAbs x)) (sum-is (s .args .limit) (s .fits .limit .fits) (s .args .z) (s .fits .z) (inside c)))

@@ -1,4 +1,4 @@
-use mathlib.Core.Path.{ap}
+-- A negative z is −(n + 1), and the code adds the one again after the cast. Assumes nothing.
 use Prim.Native.Nat.{_-_}
 use native.Mathlib.Omega.{arith}
 use lib.IntN.{natAbs}
@@ -6,34 +6,25 @@ use Rattle.whole.proofs.Machine.{up-fits, down-fits, down-held, size-su
 use borrow.Author.Needs.{needs}
 use Rattle.whole.proofs.size.Statement.{statement}
 use Rattle.whole.proofs.size.Tie as tie
-use Rattle.whole.proofs.size.Reads as reads
-use Rattle.whole.proofs.size.Lts as lts
 
--- src/lib.rt:17:23
 add-result : tie.Need-add-result
 add-result c = up-fits (c .before .args .z) (c .before .fits .z) (c .if1 .taken)
 
--- src/lib.rt:17:18
 sub-result : tie.Need-sub-result
 sub-result c = down-fits (c .before .args .z) (c .before .fits .z) (c .if1 .taken)
 
--- src/lib.rt:17:17
 cast-result : tie.Need-cast-result
 cast-result c = casts (natAbs (c .before .args .z) - 1) (down-held (c .before .args .z) (c .before .fits .z) (c .if1 .taken)) (omega (arith, size-fits (c .before .args .z) (c .before .fits .z)))
 
--- src/lib.rt:17:16
 add-result-2 : tie.Need-add-result-2
 add-result-2 c = omega (arith, size-sum (c .before .args .z) (c .before .fits .z) (c .if1 .taken), size-fits (c .before .args .z) (c .before .fits .z))
 
--- src/lib.rt:17:9
 returns : tie.Need-returns
 returns c = size-sum (c .before .args .z) (c .before .fits .z) (c .if1 .taken)
 
--- src/lib.rt:19:5
 cast-result-2 : tie.Need-cast-result-2
 cast-result-2 c = casts (natAbs (c .before .args .z)) (whole-held (c .before .args .z) (c .before .fits .z) (c .if1 .left)) (omega (arith, size-fits (c .before .args .z) (c .before .fits .z)))
 
--- src/lib.rt:13:1
 returns-2 : tie.Need-returns-2
 returns-2 c = search needs
 

@@ -7,7 +7,7 @@ use mir.ValLaws.{toZ-ofZ}
 use Rattle.whole.proofs.Signed.{outside-size, inside-size}
 use Rattle.zones.specs.declared.ZoneAnswer.{ZoneAnswer}
 use Rattle.zones.specs.Basic.{rowHolding}
-use Rattle.arc.specs.Zones.{quarter, Row}
+use Rattle.arc.specs.Zones.{quarter}
 use Rattle.zones.proofs.Rows.{northern-is, southern-is, place}
 use Prim.Native.Nat.{ℕ, _+_}
 use borrow.Author.Needs.{needs}

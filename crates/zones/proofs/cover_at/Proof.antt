@@ -1,42 +1,28 @@
 -- The size is tested as the range is; the basic zone's row and the hemisphere's first zone are those of the cover list as `cover_from` goes through it. Assumes nothing.
 use mathlib.Core.Path.{_≡_, sym, ap, _∙_}
 use native.Mathlib.Omega.{arith}
-use lib.IntN.{ℤ, natAbs}
+use lib.IntN.{natAbs}
 use mir.Syntax.{w64}
 use mir.ValLaws.{toZ-ofZ}
-use Prim.Native.Nat.{ℕ, _+_, _-_, _≤_}
+use Prim.Native.Nat.{ℕ, _-_}
 use Rattle.arc.specs.Zones.{quarter}
 use Rattle.whole.proofs.Signed.{outside-size, inside-size}
-use Rattle.zones.specs.Basic.{from}
 use Rattle.zones.specs.Cover.{firstZone, listed, refusedCover}
-use Rattle.zones.specs.Stretch.{rowAt, coverFrom}
 use Rattle.zones.proofs.Rows.{northern-is, place}
 use Rattle.zones.proofs.Covering.{cover-is, first-small}
 use borrow.Author.Needs.{needs}
 use Rattle.zones.proofs.cover_at.Statement.{statement}
 use Rattle.zones.proofs.cover_at.Tie as tie
-use Rattle.zones.proofs.cover_at.Reads as reads
-use Rattle.zones.proofs.cover_at.Lts as lts
-use Rattle.arc.proofs.refused.Reads as refused-reads
-use Rattle.whole.proofs.size.Reads as size-reads
-use Rattle.zones.proofs.cover_from.Reads as cover-from-reads
-use Rattle.zones.proofs.first_zone.Reads as first-zone-reads
-use Rattle.zones.proofs.no_cover.Reads as no-cover-reads
-use Rattle.zones.proofs.northern.Reads as northern-reads
 
--- src/lib.rt:155:9
 size-requires : tie.Need-size-requires
 size-requires c κs = search needs
 
--- src/lib.rt:157:25
 refused-requires : tie.Need-refused-requires
 refused-requires c κs = search needs
 
--- src/lib.rt:157:9
 no-cover-requires : tie.Need-no-cover-requires
 no-cover-requires c κs = search needs
 
--- src/lib.rt:157:9
 sized : (c : tie.After-size) → c .size .result ≡ natAbs (c .before .args .lat)
 sized c = c .size .ensures ∙ ap natAbs (toZ-ofZ w64 (c .before .args .lat) (c .before .fits .lat))
 
@@ -51,19 +37,15 @@ firsts c = c .first-zone .ensures ∙ ap firstZone (toZ-ofZ w64 (c .before .befo
 returns : tie.Need-returns
 returns c = rw (outside-size quarter (c .before .before .before .before .args .lat) _ (sized (c .before .before .before)) (c .before .before .if1 .taken)) (c .no-cover .ensures ∙ ap refusedCover (c .before .refused .ensures))
 
--- src/lib.rt:159:16
 northern-requires : tie.Need-northern-requires
 northern-requires c κs = search needs
 
--- src/lib.rt:159:16
 sub-row : tie.Need-sub-row
 sub-row c = omega (arith, c .northern .ensures, northern-is (c .before .before .size .result))
 
--- src/lib.rt:160:19
 first-zone-requires : tie.Need-first-zone-requires
 first-zone-requires c κs = search needs
 
--- src/lib.rt:160:5
 cover-from-requires : tie.Need-cover-from-requires
 cover-from-requires c κs =
     let p = place (natAbs (c .before .before .before .before .args .lat)) in
@@ -76,7 +58,6 @@ cover-from-requires c κs =
       low = rw (e, z) (p .low);
       high = c .before .before .if1 .left }
 
--- src/lib.rt:151:1
 returns-2 : tie.Need-returns-2
 returns-2 c =
     let a = c .before .before .before .before .before .args in

@@ -1,25 +1,21 @@
 -- Each turn takes the next zone equatorward while it reaches the size, and the list so far with what the rest adds is the whole. It is left at the
 -- Equator or at the first zone that does not reach it, after which none does. Assumes nothing.
 use mathlib.Core.List.{List, _∷_, []}
-use Prim.Native.Nat.{ℕ, _+_, _≤_, _<_, _*_, _-_}
+use Prim.Native.Nat.{ℕ, _+_, _≤_, _<_, _-_}
 use lib.ListN.{set, length as count}
 use Rattle.whole.proofs.Machine.{fits-mul}
 use Rattle.zones.specs.Cover.{listed}
 use Rattle.zones.specs.Lists.{padded, downFrom}
 use Rattle.zones.specs.declared.CoverAnswer.{CoverAnswer}
 use Rattle.arc.specs.declared.Verdict.{Verdict}
-use mathlib.Core.Path.{_≡_, refl, subst, ap₂}
-use Prim.Native.Nat.{_+_, _≤_, _*_, _-_}
+use mathlib.Core.Path.{_≡_, refl, ap₂}
 use native.Mathlib.Omega.{arith}
 use borrow.Author.Needs.{needs}
-use Rattle.zones.specs.Lists.{downFrom}
 use Rattle.zones.specs.Stretch.{coverFrom}
 use Rattle.zones.proofs.Filled.{Sofar, finished}
 use Rattle.zones.proofs.Order.{within, limit-low, took, stopped}
 use Rattle.zones.proofs.cover_from.Statement.{statement}
 use Rattle.zones.proofs.cover_from.Tie as tie
-use Rattle.zones.proofs.cover_from.Reads as reads
-use Rattle.zones.proofs.cover_from.Lts as lts
 
 abbrev Inv-loop : tie.InvT-loop
 Inv-loop b first row size zones₀ length₀ left₀ zones length left = (left ≤ row) × (length + left ≡ row + 1) × Sofar (within b first size) 6 (coverFrom b first row size) (downFrom first left) zones length
@@ -27,44 +23,34 @@ Inv-loop b first row size zones₀ length₀ left₀ zones length left = (left �
 abbrev μ-loop : tie.MeasureT-loop
 μ-loop b first row size zones₀ length₀ left₀ zones length left = left
 
--- src/lib.rt:131:16
 add-zones : tie.Need-add-zones Inv-loop μ-loop
 add-zones c = omega (arith, c .pre .zone, c .pre .in-table)
 
--- src/lib.rt:131:5
 array-write-zones : tie.Need-array-write-zones Inv-loop μ-loop
 array-write-zones c = search needs
 
--- src/lib.rt:134:5
 loop-holds : tie.Need-loop-holds Inv-loop μ-loop
 unfolding coverFrom
 loop-holds c = (omega arith, omega arith, record { so = (c .args .first + c .args .row) ∷ []; joined = refl; filled = refl; count = refl })
 
--- src/lib.rt:135:30
 sub-limit : tie.Need-sub-limit Inv-loop μ-loop
 sub-limit c = omega arith
 
--- src/lib.rt:135:21
 mul-limit : tie.Need-mul-limit Inv-loop μ-loop
 mul-limit c = omega (arith, c .before .before .pre .in-table)
 
--- src/lib.rt:135:21
 array-read-limit : tie.Need-array-read-limit Inv-loop μ-loop
 array-read-limit c = omega (arith, c .before .before .pre .in-table)
 
--- src/lib.rt:136:24
 sub-if1 : tie.Need-sub-if1 Inv-loop μ-loop
 sub-if1 c = limit-low _ _ _ _ (c .before .before .pre) (c .before .loop .left) (c .loop-test .taken) (c .before .loop .inv .0)
 
--- src/lib.rt:136:23
 mul-if1 : tie.Need-mul-if1 Inv-loop μ-loop
 mul-if1 c = fits-mul 32400000 80076800 tt (omega (arith, c .before .before .pre .high)) (c .before .before .pre .rows .most)
 
--- src/lib.rt:139:9
 sub-left : tie.Need-sub-left Inv-loop μ-loop
 sub-left c = omega arith
 
--- src/lib.rt:140:25
 turn : (c : tie.Else1 Inv-loop μ-loop) → let a = c .before .before .before .args in let l = c .before .before .loop in
     (l .length < 6) × Sofar (within (a .b) (a .first) (a .size)) 6 (coverFrom (a .b) (a .first) (a .row) (a .size)) (downFrom (a .first) (l .left - 1)) (set (l .zones) (l .length) (a .first + (l .left - 1))) (l .length + 1)
 turn c = let i = c .before .before .loop .inv in
@@ -73,27 +59,21 @@ turn c = let i = c .before .before .loop .inv in
 add-zones-2 : tie.Need-add-zones-2 Inv-loop μ-loop
 add-zones-2 c = omega (arith, c .before .before .before .pre .zone, c .before .before .before .pre .in-table)
 
--- src/lib.rt:140:9
 mul-zones : tie.Need-mul-zones Inv-loop μ-loop
 mul-zones c = omega (arith, turn c .0)
 
--- src/lib.rt:140:9
 array-write-zones-2 : tie.Need-array-write-zones-2 Inv-loop μ-loop
 array-write-zones-2 c = turn c .0
 
--- src/lib.rt:141:9
 add-length : tie.Need-add-length Inv-loop μ-loop
 add-length c = omega (arith, turn c .0)
 
--- src/lib.rt:134:5
 loop-less : tie.Need-loop-less Inv-loop μ-loop
 loop-less c = omega arith
 
--- src/lib.rt:134:5
 loop-again : tie.Need-loop-again Inv-loop μ-loop
 loop-again c = (omega arith, omega arith, turn c .1)
 
--- src/lib.rt:126:1
 made : (l zs : List ℕ) (n : ℕ) → (zs ≡ padded 6 l) × (n ≡ count l) → _≡_ {A = CoverAnswer} (record { verdict = Verdict.Accepted; length = n; zones = zs }) (listed l)
 made l zs n p = ap₂ (λ (x : List ℕ) (y : ℕ). record { verdict = Verdict.Accepted; length = y; zones = x }) (p .0) (p .1)
 
@@ -103,7 +83,6 @@ returns c =
     let e : c .before .loop .left ≡ 0 = omega arith in
     made (coverFrom (a .b) (a .first) (a .row) (a .size)) _ _ (finished _ 6 _ _ _ _ (c .before .loop .inv .2) (rw e))
 
--- src/lib.rt:126:1
 returns-2 : tie.Need-returns-2 Inv-loop μ-loop
 returns-2 c =
     let a = c .before .before .before .args in

@@ -5,8 +5,8 @@ use native.Mathlib.Omega.{arith}
 use Rattle.arc.proofs.Spaced.{divides}
 use Prim.Native.Nat.{_+_, _-_, _*_}
 use borrow.Author.Needs.{needs}
-use Rattle.arc.proofs.spacing_of.Statement.{statement}
-use Rattle.arc.proofs.spacing_of.Tie as tie
+use Rattle.arc.proofs.zone.spacing_of.Statement.{statement}
+use Rattle.arc.proofs.zone.spacing_of.Tie as tie
 
 mul-result : tie.Need-mul-result
 mul-result c = search needs

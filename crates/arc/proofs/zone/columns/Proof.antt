@@ -4,8 +4,8 @@ use Rattle.arc.specs.declared.ConstantAnswer.the-variants.{Pixels, Refus
 use Rattle.arc.specs.Spacing.{columnsOf}
 use Rattle.arc.proofs.Table.{either, neither}
 use borrow.Author.Needs.{needs}
-use Rattle.arc.proofs.columns.Statement.{statement}
-use Rattle.arc.proofs.columns.Tie as tie
+use Rattle.arc.proofs.zone.columns.Statement.{statement}
+use Rattle.arc.proofs.zone.columns.Tie as tie
 
 spacing-requires : tie.Need-spacing-requires
 spacing-requires c κs = search needs
