@@ -1,4 +1,5 @@
 -- The bytes of a subfield: digits, angles, names (002, 3.17.1; 01, "The image card, 98 bytes"). Definitions only.
+--     bytes t            the bytes of a text, each character's code
 --     part o w s         the w bytes of s from offset o
 --     isDigit, isCapital 0 to 9, A to Z
 --     all f s            f holds of each byte
@@ -9,11 +10,17 @@
 --     angleValid d limit s     minutes and seconds below 60, within the limit, and no minus zero
 --     nameLaid s         eight letters or digits, a dot, three more
 use Prim.Native.Nat.{ℕ, _+_, _*_, _-_}
+use Prim.Native.Char.{code}
+use Prim.Native.String.{String, [] as []ᵗ, _∷_ as _∷ᵗ_}
 use mathlib.Core.List.{List, [], _∷_}
 use mathlib.Core.Bool.{Bool, true, cond, not, _&&_, _||_}
 use lib.ListN.{getD, take, drop}
 use lib.Dec.{leb, ltb, eqb}
 use lib.IntN.{ℤ, pos, negℤ}
+
+abbrev pub bytes : String → List ℕ
+bytes []ᵗ = []
+bytes (c ∷ᵗ t) = code c ∷ bytes t
 
 abbrev pub part : ℕ → ℕ → List ℕ → List ℕ
 part o w s = take w (drop o s)

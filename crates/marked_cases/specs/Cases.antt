@@ -7,12 +7,13 @@ use mathlib.Core.Path.{_≡_}
 use mathlib.Core.List.{List, [], _∷_, _++_, map}
 use Prim.Native.Nat.{ℕ}
 use lib.IntN.{ℤ, pos, negℤ}
-use lib.ListN.{take, drop}
+use lib.ListN.{take}
 use Rattle.arc.specs.Refusals.{Report}
 use Rattle.arc.specs.Spacing.{spacingOf, spacingReport, rowsOf, constantReport}
 use Rattle.zones.specs.Basic.{basicZoneOf, zoneReport}
 use Rattle.zones.specs.Cover.{coverOf, coverReport}
 use Rattle.origin.specs.Origin.{stored}
+use Rattle.card.specs.Text.{bytes}
 use Rattle.card.specs.Read.{readOf}
 use Rattle.card.specs.Grid.{positionOf, positionReport}
 
@@ -27,13 +28,10 @@ AllAs (c ∷ cs) = (c .found ≡ c .stated) × AllAs cs
 abbrev pub case : List ℤ → List ℤ → Case
 case found stated = record { found = found; stated = stated }
 
--- 30036966400400384-0022935.07+113032.23000000000127000255000000002001000128000128, then 01008BASE0101.IMGN
 abbrev pub card : List ℕ
 card =
-    51 ∷ 48 ∷ 48 ∷ 51 ∷ 54 ∷ 57 ∷ 54 ∷ 54 ∷ 52 ∷ 48 ∷ 48 ∷ 52 ∷ 48 ∷ 48 ∷ 51 ∷ 56 ∷ 52 ∷ 45 ∷ 48 ∷ 48 ∷ 50 ∷ 50 ∷ 57 ∷ 51 ∷ 53 ∷ 46 ∷ 48 ∷ 55 ∷
-    43 ∷ 49 ∷ 49 ∷ 51 ∷ 48 ∷ 51 ∷ 50 ∷ 46 ∷ 50 ∷ 51 ∷ 48 ∷ 48 ∷ 48 ∷ 48 ∷ 48 ∷ 48 ∷ 48 ∷ 48 ∷ 48 ∷ 49 ∷ 50 ∷ 55 ∷ 48 ∷ 48 ∷ 48 ∷ 50 ∷ 53 ∷ 53 ∷
-    48 ∷ 48 ∷ 48 ∷ 48 ∷ 48 ∷ 48 ∷ 48 ∷ 48 ∷ 50 ∷ 48 ∷ 48 ∷ 49 ∷ 48 ∷ 48 ∷ 48 ∷ 49 ∷ 50 ∷ 56 ∷ 48 ∷ 48 ∷ 48 ∷ 49 ∷ 50 ∷ 56 ∷
-    48 ∷ 49 ∷ 48 ∷ 48 ∷ 56 ∷ 66 ∷ 65 ∷ 83 ∷ 69 ∷ 48 ∷ 49 ∷ 48 ∷ 49 ∷ 46 ∷ 73 ∷ 77 ∷ 71 ∷ 78 ∷ []
+    bytes "30036966400400384-0022935.07+113032.23000000000127000255000000002001000128000128"
+    ++ bytes "01008BASE0101.IMGN"
 
 -- the length of a cover list and its members, as document 01 writes it
 abbrev pub cover : ℕ → ℤ → List ℤ
