@@ -1,0 +1,149 @@
+-- Reading what was written gives the record back: the record's values fill the layout, so the walk passes and each subfield holds
+-- its value's text, which is read as the value. Assumes nothing.
+use mathlib.Core.Path.{_≡_, refl, sym, ap, _∙_}
+use mathlib.Core.List.{List, []}
+use mathlib.Core.Option.{some}
+use mathlib.Core.Bool.{Bool, true, false, cond, _&&_}
+use Prim.Native.Nat.{ℕ, _/_, _^_, _≤_, _<_}
+use native.Mathlib.Nat.{zero-add}
+use native.Mathlib.Omega.{arith}
+use lib.Dec.{eqb}
+use lib.IntN.{ℤ, natAbs}
+use lib.ListN.{length, getD}
+use borrow.Author.Tests.{eq-eqb}
+use Rattle.whole.specs.Whole.{outside}
+use Rattle.arc.specs.declared.Verdict.{Verdict}
+use Rattle.arc.specs.declared.SpacingAnswer.{SpacingAnswer}
+use Rattle.arc.specs.Zones.{half, quarter, isPolar}
+use Rattle.arc.specs.Spacing.{spacingOf, Grid, Grids}
+use Rattle.arc.proofs.Answered.{answered-grids}
+use Rattle.origin.specs.Origin.{stored}
+use Rattle.origin.proofs.Axis.{Axis, latitudes, longitudes}
+use Rattle.card.specs.declared.Subfield.{Subfield}
+use Rattle.card.specs.declared.Card.{Card}
+use Rattle.card.specs.declared.Record.{Record}
+use Rattle.card.specs.Text.{number, angleOf}
+use Rattle.card.specs.Layout.{STR, ARV, BRV, LSO, PSO, NUL, NUS, NLL, NLS, NFL, NFC, BAD, TIF, layout, bytesOf, walk}
+use Rattle.card.specs.Extents.{extentsHold}
+use Rattle.card.specs.Read.{numberIn, tileOf, cardOf, accepted, withValues, readIn}
+use Rattle.card.specs.Write.{counted, digits, angleText, valuesOf, cardText}
+use Rattle.card.specs.RoundTrips.{recordOf, ReadBack, ReadsBack}
+use Rattle.round_trip.proofs.Bytes.{and-both}
+use Rattle.round_trip.proofs.Digits.{number-digits}
+use Rattle.round_trip.proofs.Angles.{angle-of-text}
+use Rattle.round_trip.proofs.Table.{count-held, angle-held, a-name, a-flag, Along, done, _then_, along-at, Held, Text, length-written, texts, walks}
+use Rattle.round_trip.proofs.Tiles.{tile-at, stored-within}
+use Rattle.round_trip.proofs.Records.{extents, Good, sizes, inverted, text-out}
+
+-- a tile is found from the text of its stored angle
+tile-back : {x t l : ℕ} → Axis x t l → Grid x → (k : ℤ) → outside t k ≡ false → (d : ℕ) → l / 360000 < 10 ^ d
+    → (s : List ℕ) → s ≡ angleText d (stored x k) → tileOf x t (angleOf d s) ≡ some k
+tile-back {x} {t} {l} axis g k h d small s e =
+    rw (e, angle-of-text d (stored x k) (omega (arith, stored-within axis k h))) (tile-at x t g k h)
+
+module _ (a b : ℕ) (r : Record) (g : Grids a b) (ok : Good a b r) (twelve : length (r .bad) ≡ 12) where
+  abbrev card : List ℕ
+  card = cardText a b r
+
+  lon-within : natAbs (stored a (r .m)) ≤ half
+  lon-within = stored-within (longitudes a (g .columns)) (r .m) (ok .m-on)
+
+  lat-within : natAbs (stored b (r .n)) ≤ quarter
+  lat-within = stored-within (latitudes b (g .rows)) (r .n) (ok .n-on)
+
+  held : Along Held layout (valuesOf a b r)
+  unfolding layout valuesOf
+  held =
+      let z = sizes a b r ok in
+      let ga = g .columns .most in
+      let gb = g .rows .most in
+      let x = lon-within in
+      let y = lat-within in
+      count-held (omega arith) then count-held (omega arith) then count-held (omega arith)
+      then angle-held (omega arith) then angle-held (omega arith)
+      then count-held (omega arith) then count-held (omega arith) then count-held (omega arith) then count-held (omega arith)
+      then count-held (omega arith) then count-held (omega arith) then count-held (omega arith) then count-held (omega arith)
+      then count-held (omega arith) then count-held (omega arith) then count-held (omega arith) then count-held (omega arith) then count-held (omega arith)
+      then a-name twelve (ok .name-laid) then a-flag refl then done
+
+  pub long : length card ≡ 98
+  unfolding cardText layout
+  long = sym (zero-add (length card)) ∙ length-written 0 held
+
+  all-texts : Along (Text card) layout (valuesOf a b r)
+  unfolding cardText layout
+  all-texts = texts card 0 [] refl refl refl held
+
+  walked : walk layout card ≡ Verdict.Accepted
+  walked = walks card held all-texts
+
+  text : (i : ℕ) → i < 20 → Text card (getD layout i STR) (getD (valuesOf a b r) i (counted 0))
+  unfolding layout
+  text i h = along-at all-texts i h
+
+  -- a number is read from its digits
+  digits-back : (f : Subfield) (v : ℕ) → bytesOf f card ≡ digits (f .width) v → v < 10 ^ f .width → numberIn f card ≡ v
+  digits-back f v e h = ap number e ∙ number-digits (f .width) v h
+
+  pub lso-text : bytesOf LSO card ≡ angleText 3 (stored a (r .m))
+  unfolding layout valuesOf
+  lso-text = text 3 (omega arith)
+
+  pub pso-text : bytesOf PSO card ≡ angleText 2 (stored b (r .n))
+  unfolding layout valuesOf
+  pso-text = text 4 (omega arith)
+
+  lon-back : tileOf a (a / 256) (angleOf 3 (bytesOf LSO card)) ≡ some (r .m)
+  lon-back = tile-back (longitudes a (g .columns)) (g .columns) (r .m) (ok .m-on) 3 (omega arith) (bytesOf LSO card) lso-text
+
+  lat-back : tileOf b (b / 512) (angleOf 2 (bytesOf PSO card)) ≡ some (r .n)
+  lat-back = tile-back (latitudes b (g .rows)) (g .rows) (r .n) (ok .n-on) 2 (omega arith) (bytesOf PSO card) pso-text
+
+  spacing-back : eqb (numberIn ARV card) a && eqb (numberIn BRV card) b ≡ true
+  unfolding layout valuesOf
+  spacing-back =
+      and-both (eqb (numberIn ARV card) a) (eqb (numberIn BRV card) b)
+      (eq-eqb (numberIn ARV card) a (digits-back ARV a (text 1 (omega arith)) (omega (arith, g .columns .most))))
+      (eq-eqb (numberIn BRV card) b (digits-back BRV b (text 2 (omega arith)) (omega (arith, g .rows .most))))
+
+  module _ (scale zone : ℕ) where
+    abbrev k : Card
+    k = cardOf scale zone a b (r .n) (r .m) card
+
+    same : recordOf k ≡ r
+    unfolding cardOf layout valuesOf
+    same =
+        let z = sizes a b r ok in
+        let e5 = digits-back NUL (r .nul) (text 5 (omega arith)) (omega arith) in
+        let e6 = digits-back NUS (r .nus) (text 6 (omega arith)) (omega arith) in
+        let e7 = digits-back NLL (r .nll) (text 7 (omega arith)) (omega arith) in
+        let e8 = digits-back NLS (r .nls) (text 8 (omega arith)) (omega arith) in
+        let e9 = digits-back NFL (r .nfl) (text 9 (omega arith)) (omega arith) in
+        let e10 = digits-back NFC (r .nfc) (text 10 (omega arith)) (omega arith) in
+        let e18 : bytesOf BAD card ≡ r .bad = text 18 (omega arith) in
+        let e19 : eqb (getD (bytesOf TIF card) 0 0) 89 ≡ r .tif = ap (λ (x : List ℕ). eqb (getD x 0 0) 89) (text 19 (omega arith)) ∙ flag (r .tif) in
+        rw (e5, e6, e7, e8, e9, e10, e18, e19)
+      where
+        flag : (t : Bool) → eqb (cond t 89 78) 89 ≡ t
+        flag true = refl
+        flag false = refl
+
+    extents-back : extentsHold (k .a) (k .b) (k .n) (k .nul) (k .nus) (k .nll) (k .nls) (k .nfl) (k .nfc) ≡ true
+    unfolding cardOf
+    extents-back = ap (extents a b) same ∙ ok .extents-hold
+
+    read : isPolar zone ≡ false → readIn scale zone (SpacingAnswer.Constants a b) card ≡ accepted k
+    unfolding readIn withValues
+    read p = rw (p, eq-eqb (length card) 98 long, walked, spacing-back, lat-back, lon-back, extents-back)
+
+    pub read-back : spacingOf scale zone ≡ SpacingAnswer.Constants a b → isPolar zone ≡ false → ReadBack scale zone r card
+    unfolding cardOf
+    read-back e p = record { card = k; read = rw e (read p); of-scale = refl; of-zone = refl; same = same }
+
+pub reads-back : ReadsBack
+reads-back scale zone r out twelve e =
+    let v = inverted scale zone r out e in
+    let w = v .writes in
+    let g = answered-grids scale zone (v .a) (v .b) (w .spacing) in
+    rw (text-out scale zone r out (v .a) (v .b) w (long (v .a) (v .b) r g (w .is-good) twelve))
+    (read-back (v .a) (v .b) r g (w .is-good) twelve scale zone (w .spacing) (w .no-pole))

@@ -1,0 +1,135 @@
+-- Writing, inverted test by test: it is accepted exactly where the spacing is known, the zone is no pole's, the output has room and
+-- the record passes each test; and the output then starts with the card's text. Assumes nothing.
+use mathlib.Core.Path.{_≡_, refl}
+use mathlib.Core.List.{List}
+use mathlib.Core.Bool.{Bool, true, false, cond, not, _&&_}
+use Prim.Native.Nat.{ℕ, _*_, _/_, _≤_, _<_}
+use native.Mathlib.Omega.{arith}
+use lib.Dec.{leb, ltb}
+use lib.IntN.{pos, negℤ, _-ℤ_}
+use lib.Signed.{leZ}
+use lib.ListN.{length, take, drop}
+use lib.Seq.{take-at}
+use borrow.Author.Tests.{leb-true, ltb-true, le-leb, not-true}
+use Rattle.whole.specs.Whole.{outside}
+use Rattle.arc.specs.declared.Verdict.{Verdict}
+use Rattle.arc.specs.declared.SpacingAnswer.{SpacingAnswer}
+use Rattle.arc.specs.Refusals.{refusal}
+use Rattle.arc.specs.Zones.{isPolar}
+use Rattle.arc.specs.Spacing.{spacingOf}
+use Rattle.card.specs.declared.Record.{Record}
+use Rattle.card.specs.Text.{nameLaid}
+use Rattle.card.specs.Layout.{orElse}
+use Rattle.card.specs.Extents.{onGrid, extentsHold}
+use Rattle.card.specs.Write.{cardText, test, first, recordTests, writeIn, writeOf, outOf}
+use Rattle.round_trip.proofs.Bytes.{and-l, and-r}
+
+-- ---- the record's tests
+
+abbrev pub extents : ℕ → ℕ → Record → Bool
+extents a b r = extentsHold a b (r .n) (r .nul) (r .nus) (r .nll) (r .nls) (r .nfl) (r .nfc)
+
+pub record Good (a b : ℕ) (r : Record) : Type 0 where
+  pub nfl-in : leb 1 (r .nfl) && leb (r .nfl) 999 ≡ true
+  pub nfc-in : leb 1 (r .nfc) && leb (r .nfc) 999 ≡ true
+  pub name-laid : nameLaid (r .bad) ≡ true
+  pub n-on : outside (b / 512) (r .n) ≡ false
+  pub m-on : outside (a / 256) (r .m) ≡ false
+  pub extents-hold : extents a b r ≡ true
+
+tested : (ok : Bool) (n p : ℕ) (v : Verdict) → orElse (test ok n p) v ≡ Verdict.Accepted → (ok ≡ true) × (v ≡ Verdict.Accepted)
+tested true n p v e = (refl, e)
+tested false n p v e = let z : _≡_ {A = ℕ} 0 1 = cc in absurd (omega arith)
+
+module _ (a b : ℕ) (r : Record) where
+  pub good : first (recordTests a b r) ≡ Verdict.Accepted → Good a b r
+  unfolding recordTests
+  good e =
+      let t1 = tested (leb 1 (r .nfl) && leb (r .nfl) 999) 8 62 _ e in
+      let t2 = tested (leb 1 (r .nfc) && leb (r .nfc) 999) 8 65 _ (t1 .1) in
+      let t3 = tested (nameLaid (r .bad)) 7 85 _ (t2 .1) in
+      let t4 = tested (onGrid a b (r .n) (r .m)) 10 0 _ (t3 .1) in
+      let t5 = tested (extents a b r) 11 0 _ (t4 .1) in
+      let n = not (outside (b / 512) (r .n)) in
+      let m = not (outside (a / 256) (r .m)) in
+      record {
+        nfl-in = t1 .0;
+        nfc-in = t2 .0;
+        name-laid = t3 .0;
+        n-on = not-true (outside (b / 512) (r .n)) (and-l n m (t4 .0));
+        m-on = not-true (outside (a / 256) (r .m)) (and-r n m (t4 .0));
+        extents-hold = t5 .0;
+      }
+
+  pub accepts : Good a b r → first (recordTests a b r) ≡ Verdict.Accepted
+  unfolding recordTests
+  accepts g = rw (g .nfl-in, g .nfc-in, g .name-laid, g .n-on, g .m-on, g .extents-hold)
+
+-- the numbers of a good record
+pub record Sizes (r : Record) : Type 0 where
+  pub nfl-least : 1 ≤ r .nfl
+  pub nfl-most : r .nfl ≤ 999
+  pub nfc-least : 1 ≤ r .nfc
+  pub nfc-most : r .nfc ≤ 999
+  pub nul-nll : r .nul ≤ r .nll
+  pub nll-below : r .nll < 128 * r .nfl
+  pub nls-nus : r .nls ≤ r .nus
+  pub nus-below : r .nus < 128 * r .nfc
+
+pub sizes : (a b : ℕ) (r : Record) → Good a b r → Sizes r
+unfolding extentsHold
+sizes a b r g =
+    let e1 = leb (r .nfc) (a / 128) && leZ (negℤ (pos (b / 512))) (r .n -ℤ pos (r .nfl)) in
+    let e2 = leb (r .nul) (r .nll) && ltb (r .nll) (128 * r .nfl) in
+    let e3 = leb (r .nls) (r .nus) && ltb (r .nus) (128 * r .nfc) in
+    let p12 = and-l (e1 && e2) e3 (g .extents-hold) in
+    let p2 = and-r e1 e2 p12 in
+    let p3 = and-r (e1 && e2) e3 (g .extents-hold) in
+    record {
+      nfl-least = leb-true 1 (r .nfl) (and-l _ (leb (r .nfl) 999) (g .nfl-in));
+      nfl-most = leb-true (r .nfl) 999 (and-r (leb 1 (r .nfl)) _ (g .nfl-in));
+      nfc-least = leb-true 1 (r .nfc) (and-l _ (leb (r .nfc) 999) (g .nfc-in));
+      nfc-most = leb-true (r .nfc) 999 (and-r (leb 1 (r .nfc)) _ (g .nfc-in));
+      nul-nll = leb-true (r .nul) (r .nll) (and-l _ (ltb (r .nll) (128 * r .nfl)) p2);
+      nll-below = ltb-true (r .nll) (128 * r .nfl) (and-r (leb (r .nul) (r .nll)) _ p2);
+      nls-nus = leb-true (r .nls) (r .nus) (and-l _ (ltb (r .nus) (128 * r .nfc)) p3);
+      nus-below = ltb-true (r .nus) (128 * r .nfc) (and-r (leb (r .nls) (r .nus)) _ p3);
+    }
+
+-- ---- the questions
+
+pub record Writes (scale zone : ℕ) (r : Record) (out : List ℕ) (a b : ℕ) : Type 0 where
+  pub spacing : spacingOf scale zone ≡ SpacingAnswer.Constants a b
+  pub no-pole : isPolar zone ≡ false
+  pub room : 98 ≤ length out
+  pub is-good : Good a b r
+
+module _ (scale zone : ℕ) (r : Record) (out : List ℕ) where
+  pub record Written : Type 0 where
+    pub a : ℕ
+    pub b : ℕ
+    pub writes : Writes scale zone r out a b
+
+  pub inverted : writeOf scale zone r out ≡ Verdict.Accepted → Written
+  unfolding writeOf
+  inverted e = go (spacingOf scale zone) refl e
+    where
+      in-room : (a b : ℕ) → spacingOf scale zone ≡ SpacingAnswer.Constants a b → (p q : Bool) → isPolar zone ≡ p → leb 98 (length out) ≡ q
+          → cond p (Verdict.Refused (refusal 3)) (cond q (first (recordTests a b r)) (Verdict.Refused (refusal 6))) ≡ Verdict.Accepted → Written
+      in-room a b s true q i j k = let z : _≡_ {A = ℕ} 0 1 = cc in absurd (omega arith)
+      in-room a b s false false i j k = let z : _≡_ {A = ℕ} 0 1 = cc in absurd (omega arith)
+      in-room a b s false true i j k =
+          record { a = a; b = b; writes = record { spacing = s; no-pole = i; room = leb-true 98 (length out) j; is-good = good a b r k } }
+
+      go : (x : SpacingAnswer) → spacingOf scale zone ≡ x → writeIn zone x r (length out) ≡ Verdict.Accepted → Written
+      go (SpacingAnswer.Constants a b) s k = in-room a b s (isPolar zone) (leb 98 (length out)) refl refl k
+      go (SpacingAnswer.Refused f) s k = let z : _≡_ {A = ℕ} 0 1 = cc in absurd (omega arith)
+
+  module _ (a b : ℕ) (w : Writes scale zone r out a b) where
+    pub is-written : writeOf scale zone r out ≡ Verdict.Accepted
+    unfolding writeOf
+    is-written = rw (w .spacing, w .no-pole, le-leb 98 (length out) (w .room)) (accepts a b r (w .is-good))
+
+    pub text-out : length (cardText a b r) ≡ 98 → take 98 (outOf scale zone r out) ≡ cardText a b r
+    unfolding outOf
+    text-out l = rw (is-written, w .spacing) (take-at (cardText a b r) (drop (length (cardText a b r)) out) 98 l)

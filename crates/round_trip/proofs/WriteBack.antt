@@ -1,0 +1,125 @@
+-- Writing what was read gives the bytes back: each subfield that passed is the text of the value read from it, the tiles store the
+-- angles, and the record that a card's value holds passes the tests of writing. Assumes nothing.
+use mathlib.Core.Path.{_≡_, refl, sym, ap, _∙_}
+use mathlib.Core.List.{List, [], _∷_}
+use mathlib.Core.Bool.{Bool, true, false, cond, _&&_}
+use Prim.Native.Nat.{ℕ, _+_, _≤_, _<_}
+use native.Mathlib.Omega.{arith}
+use lib.Dec.{leb, eqb}
+use lib.ListN.{length, getD, take}
+use borrow.Author.Tests.{leb-true, eqb-true}
+use Rattle.arc.specs.Zones.{half, quarter}
+use Rattle.card.specs.declared.Subfield.{Subfield}
+use Rattle.card.specs.declared.Card.{Card}
+use Rattle.card.specs.Text.{all, isDigit, isFlag, angleLaid, angleValid, angleOf}
+use Rattle.card.specs.Layout.{STR, ARV, BRV, LSO, PSO, NUL, NUS, NLL, NLS, NFL, NFC, PNC, PNL, COD, ROD, POR, PCB, PVB, TIF, layout, bytesOf}
+use Rattle.card.specs.Read.{numberIn, cardOf}
+use Rattle.card.specs.Write.{digits, angleText, valuesOf, cardText}
+use Rattle.card.specs.RoundTrips.{recordOf, WrittenBack, WritesBack}
+use Rattle.round_trip.proofs.Bytes.{and-l, and-r, length-part, drop-next}
+use Rattle.round_trip.proofs.Digits.{digits-number}
+use Rattle.round_trip.proofs.Angles.{text-of-angle}
+use Rattle.round_trip.proofs.Table.{Along, done, _then_, Text, Right, right-at, written-back}
+use Rattle.round_trip.proofs.Records.{Good, Writes, is-written, text-out}
+use Rattle.round_trip.proofs.Readings.{Values, Reads, reads}
+
+-- a flag's byte is that of its value
+flag-byte : (x : ℕ) (t : Bool) → eqb x 89 ≡ t → isFlag x ≡ true → x ≡ cond t 89 78
+flag-byte x true q e = eqb-true x 89 q
+flag-byte x false q e = eqb-true x 78 (rw q at e)
+
+module _ (scale zone : ℕ) (s : List ℕ) (k : Card) (d : Reads scale zone s k) where
+  abbrev v : Values scale zone (d .a) (d .b) s k
+  v = d .values
+
+  -- the card's value, as it is read
+  abbrev c : Card
+  c = cardOf scale zone (d .a) (d .b) (v .n) (v .m) s
+
+  -- what passed
+  right : (i : ℕ) → i < 20 → Right s (getD layout i STR)
+  unfolding layout
+  right i h = right-at s layout (d .walked) i h
+
+  -- ---- a subfield's bytes are the text of its value
+
+  length-bytes : (f : Subfield) → f .at + f .width ≤ 98 → length (bytesOf f s) ≡ f .width
+  length-bytes f h = length-part (f .at) (f .width) s (omega (arith, d .long))
+
+  free-text : (f : Subfield) → f .at + f .width ≤ 98 → all isDigit (bytesOf f s) ≡ true → bytesOf f s ≡ digits (f .width) (numberIn f s)
+  free-text f h e = sym (digits-number (f .width) (bytesOf f s) (length-bytes f h) e)
+
+  constant-text : (f : Subfield) (n : ℕ) → f .at + f .width ≤ 98
+      → (all isDigit (bytesOf f s) ≡ true) × (leb n (numberIn f s) && leb (numberIn f s) n ≡ true) → bytesOf f s ≡ digits (f .width) n
+  constant-text f n h r =
+      let x = numberIn f s in
+      let lo = leb-true n x (and-l (leb n x) (leb x n) (r .1)) in
+      let hi = leb-true x n (and-r (leb n x) (leb x n) (r .1)) in
+      free-text f h (r .0) ∙ ap (digits (f .width)) (omega arith)
+
+  angle-text : (f : Subfield) (n limit : ℕ) → (f .at + f .width ≤ 98) × (f .width ≡ n + 8)
+      → (angleLaid n (bytesOf f s) ≡ true) × (angleValid n limit (bytesOf f s) ≡ true) → bytesOf f s ≡ angleText n (angleOf n (bytesOf f s))
+  angle-text f n limit h r = sym (text-of-angle n limit (bytesOf f s) (length-bytes f (h .0) ∙ h .1) (r .0) (r .1))
+
+  flag-text : isFlag (getD (bytesOf TIF s) 0 0) ≡ true → bytesOf TIF s ≡ cond (eqb (getD (bytesOf TIF s) 0 0) 89) 89 78 ∷ []
+  flag-text e =
+      let p : bytesOf TIF s ≡ getD s 97 0 ∷ [] = ap (take 1) (drop-next s 97 (omega (arith, d .long))) in
+      let q : getD (bytesOf TIF s) 0 0 ≡ getD s 97 0 = ap (λ (x : List ℕ). getD x 0 0) p in
+      p ∙ ap (λ (x : ℕ). x ∷ []) (sym q ∙ flag-byte (getD (bytesOf TIF s) 0 0) (eqb (getD (bytesOf TIF s) 0 0) 89) refl e)
+
+  all-texts : Along (Text s) layout (valuesOf (d .a) (d .b) (recordOf c))
+  unfolding layout valuesOf cardOf
+  all-texts =
+      constant-text STR 3 (omega arith) (right 0 (omega arith))
+      then (free-text ARV (omega arith) (right 1 (omega arith) .0) ∙ ap (digits 8) (v .arv))
+      then (free-text BRV (omega arith) (right 2 (omega arith) .0) ∙ ap (digits 8) (v .brv))
+      then (angle-text LSO 3 half (omega arith) (right 3 (omega arith)) ∙ ap (angleText 3) (sym (v .lon .stores)))
+      then (angle-text PSO 2 quarter (omega arith) (right 4 (omega arith)) ∙ ap (angleText 2) (sym (v .lat .stores)))
+      then free-text NUL (omega arith) (right 5 (omega arith) .0)
+      then free-text NUS (omega arith) (right 6 (omega arith) .0)
+      then free-text NLL (omega arith) (right 7 (omega arith) .0)
+      then free-text NLS (omega arith) (right 8 (omega arith) .0)
+      then free-text NFL (omega arith) (right 9 (omega arith) .0)
+      then free-text NFC (omega arith) (right 10 (omega arith) .0)
+      then constant-text PNC 128 (omega arith) (right 11 (omega arith))
+      then constant-text PNL 128 (omega arith) (right 12 (omega arith))
+      then constant-text COD 0 (omega arith) (right 13 (omega arith))
+      then constant-text ROD 1 (omega arith) (right 14 (omega arith))
+      then constant-text POR 0 (omega arith) (right 15 (omega arith))
+      then constant-text PCB 0 (omega arith) (right 16 (omega arith))
+      then constant-text PVB 8 (omega arith) (right 17 (omega arith))
+      then refl
+      then flag-text (right 19 (omega arith) .1)
+      then done
+
+  -- ---- the bytes, and the tests of writing
+
+  text-same : cardText (d .a) (d .b) (recordOf c) ≡ s
+  unfolding cardText layout
+  text-same = written-back s 0 refl (d .long) all-texts
+
+  good : Good (d .a) (d .b) (recordOf c)
+  unfolding layout cardOf
+  good =
+      record {
+        nfl-in = right 9 (omega arith) .1;
+        nfc-in = right 10 (omega arith) .1;
+        name-laid = right 18 (omega arith) .0;
+        n-on = v .lat .on-grid;
+        m-on = v .lon .on-grid;
+        extents-hold = rw (sym (v .whole)) at (v .extents-hold);
+      }
+
+  pub back : (out : List ℕ) → 98 ≤ length out → WrittenBack scale zone c s out
+  back out h =
+      let w : Writes scale zone (recordOf c) out (d .a) (d .b) = record { spacing = d .spacing; no-pole = d .no-pole; room = h; is-good = good } in
+      let l : length (cardText (d .a) (d .b) (recordOf c)) ≡ 98 = ap length text-same ∙ d .long in
+      record {
+        written = is-written scale zone (recordOf c) out (d .a) (d .b) w;
+        same = text-out scale zone (recordOf c) out (d .a) (d .b) w l ∙ text-same;
+      }
+
+pub writes-back : WritesBack
+writes-back scale zone s k out e h =
+    let d = reads scale zone s k e in
+    rw (← d .values .whole) (back scale zone s k d out h)
