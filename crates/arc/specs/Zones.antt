@@ -7,11 +7,14 @@
 --     table              the rows
 --     rowOf zone         the row of a zone, none where the number is no zone's
 --     isPolar zone       zone 9 or 18
-use Prim.Native.Nat.{ℕ}
+--     from r, to r       a row's equatorward and poleward limit, in hundredths of an arc-second
+--     rowAt i            the row at place i, 0 to 8
+use Prim.Native.Nat.{ℕ, _*_}
 use mathlib.Core.Bool.{Bool, cond, _||_}
 use mathlib.Core.List.{List, [], _∷_}
 use mathlib.Core.Option.{Option, some, none}
 use lib.Dec.{eqb}
+use lib.ListN.{getD}
 
 -- H (001 has 360°)
 abbrev pub circle : ℕ
@@ -65,3 +68,16 @@ rowOf zone = rowIn table zone
 
 abbrev pub isPolar : ℕ → Bool
 isPolar zone = eqb zone 9 || eqb zone 18
+
+abbrev pub from : Row → ℕ
+from r = r .equatorward * degree
+
+abbrev pub to : Row → ℕ
+to r = r .poleward * degree
+
+-- no row stands past the last
+abbrev pub noRow : Row
+noRow = row 0 0 0 0 0
+
+abbrev pub rowAt : ℕ → Row
+rowAt i = getD table i noRow

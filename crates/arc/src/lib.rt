@@ -6,7 +6,7 @@ ghost use Rattle.arc.specs.Spacing.{rowsOf, spacingOf};
 mod limits;
 mod units;
 mod zone;
-pub use limits::{EQUATORWARD, POLEWARD};
+pub use limits::{equatorward, poleward};
 pub use units::{Circle, Scales, Tile, is_scale};
 pub use zone::{Meridian, Zone1, Zone2, Zone3, Zone4, Zone5, Zone6, Zone7, Zone8, Zone9};
 

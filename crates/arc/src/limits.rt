@@ -1,7 +1,9 @@
+// The rows' limits (001, Table 3-1).
 use crate::{Zone1, Zone2, Zone3, Zone4, Zone5, Zone6, Zone7, Zone8, Zone9};
+ghost use mathlib.Core.Path.{_≡_};
+ghost use Rattle.arc.specs.Zones.{from, to, rowAt};
 
-// The rows' limits, equator to pole (001, Table 3-1).
-pub const EQUATORWARD: [u64; 9] = [
+const EQUATORWARD: [u64; 9] = [
     Zone1::EQUATORWARD,
     Zone2::EQUATORWARD,
     Zone3::EQUATORWARD,
@@ -12,7 +14,7 @@ pub const EQUATORWARD: [u64; 9] = [
     Zone8::EQUATORWARD,
     Zone9::EQUATORWARD,
 ];
-pub const POLEWARD: [u64; 9] = [
+const POLEWARD: [u64; 9] = [
     Zone1::POLEWARD,
     Zone2::POLEWARD,
     Zone3::POLEWARD,
@@ -23,3 +25,25 @@ pub const POLEWARD: [u64; 9] = [
     Zone8::POLEWARD,
     Zone9::POLEWARD,
 ];
+
+// The equatorward limit of the row at a place, 0 to 8; 0 past them.
+pub fn equatorward(row: u64) -> u64
+    ensures { λ r. ⌜ r ≡ from (rowAt row) ⌝ }
+{
+    if 9 <= row {
+        return 0;
+    }
+    let i = row as usize;
+    EQUATORWARD[i]
+}
+
+// The poleward limit of the row at a place, 0 to 8; 0 past them.
+pub fn poleward(row: u64) -> u64
+    ensures { λ r. ⌜ r ≡ to (rowAt row) ⌝ }
+{
+    if 9 <= row {
+        return 0;
+    }
+    let i = row as usize;
+    POLEWARD[i]
+}

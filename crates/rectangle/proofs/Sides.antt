@@ -10,10 +10,10 @@ use lib.Dec.{leb, ltb}
 use lib.IntN.{ℤ, pos, negsuc, _-ℤ_}
 use lib.Signed.{_≤ℤ_}
 use Rattle.whole.proofs.Signed.{is-nat, is-difference, is-le, le-is}
-use Rattle.arc.specs.Zones.{circle, quarter, isPolar, Row}
-use Rattle.zones.specs.Basic.{from, to, holds}
+use Rattle.arc.specs.Zones.{circle, quarter, isPolar, Row, from, to, rowAt}
+use Rattle.zones.specs.Basic.{holds}
 use Rattle.zones.specs.Cover.{overlaps, coversIn, covers}
-use Rattle.zones.specs.Stretch.{rowAt, reaches}
+use Rattle.zones.specs.Stretch.{reaches}
 use Rattle.zones.proofs.Holding.{both}
 use Rattle.zones.proofs.Rows.{from-to, northern-at, southern-at, row-north, row-south, to-least}
 use Rattle.zones.proofs.Covering.{covers-is}

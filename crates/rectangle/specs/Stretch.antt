@@ -4,8 +4,7 @@
 use Prim.Native.Nat.{ℕ, _≤_}
 use mathlib.Core.Bool.{Bool, _&&_}
 use lib.Dec.{leb}
-use Rattle.arc.specs.Zones.{Row}
-use Rattle.zones.specs.Basic.{from}
+use Rattle.arc.specs.Zones.{Row, from}
 use Rattle.zones.specs.Stretch.{reaches, Rows}
 
 unfoldable pub meets : ℕ → Row → ℕ → ℕ → Bool

@@ -4,8 +4,8 @@ use whole::Counted;
 ghost use mathlib.Core.Path.{_≡_};
 ghost use Prim.Native.Nat.{_-_, _<_, _≤_};
 ghost use lib.IntN.{pos, _-ℤ_};
-ghost use Rattle.arc.specs.Zones.{quarter};
-ghost use Rattle.zones.specs.Stretch.{rowAt, Rows};
+ghost use Rattle.arc.specs.Zones.{quarter, rowAt};
+ghost use Rattle.zones.specs.Stretch.{Rows};
 ghost use Rattle.rectangle.specs.Rectangle.{coversSome, rectangleZones, listed, refusedRectangle, rectangleAt, rectangleOf};
 ghost use Rattle.rectangle.specs.Stretch.{meets, Sides};
 
@@ -41,12 +41,12 @@ fn less(a: u64, b: u64) -> u64
 }
 
 // Whether a row covers some size of latitude from low to high.
-fn row_meets(b: u64, row: usize, low: u64, high: u64) -> bool
+fn row_meets(b: u64, row: u64, low: u64, high: u64) -> bool
     requires { ⌜ Rows b ⌝ ∗ ⌜ row < 9 ⌝ ∗ ⌜ low ≤ 64800000 ⌝ }
     ensures { λ r. ⌜ r ≡ meets b (rowAt row) low high ⌝ }
 {
-    let from = arc::EQUATORWARD[row];
-    let to = arc::POLEWARD[row];
+    let from = arc::equatorward(row);
+    let to = arc::poleward(row);
     if high < from {
         return false;
     }
@@ -65,12 +65,12 @@ fn covers_some(b: u64, zone: u64, south: u64, north: u64) -> bool
         if north < Circle::QUARTER {
             return false;
         }
-        return row_meets(b, (zone - 1) as usize, less(south, Circle::QUARTER), north - Circle::QUARTER);
+        return row_meets(b, zone - 1, less(south, Circle::QUARTER), north - Circle::QUARTER);
     }
     if Circle::QUARTER <= south {
         return false;
     }
-    row_meets(b, (zone - 10) as usize, less(Circle::QUARTER, north), Circle::QUARTER - south)
+    row_meets(b, zone - 10, less(Circle::QUARTER, north), Circle::QUARTER - south)
 }
 
 // The list, the edges counted from the South Pole.

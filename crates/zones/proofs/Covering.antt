@@ -10,15 +10,15 @@ use borrow.Author.Tests.{ltb-true, ltb-false, le-leb, lt-leb, eq-eqb}
 use lib.Dec.{leb, ltb, eqb}
 use lib.IntN.{ℤ, pos, natAbs}
 use lib.Signed.{ltZ}
-use Rattle.arc.specs.Zones.{circle, rowOf}
+use Rattle.arc.specs.Zones.{circle, rowOf, from, to, rowAt}
 use Rattle.arc.specs.declared.ConstantAnswer.{ConstantAnswer}
 use Rattle.arc.specs.Spacing.{rowsOf, rowUnit}
 use Rattle.arc.proofs.Spaced.{grid, rows-least}
 use Rattle.arc.proofs.Answered.{rows-from}
 use Rattle.zones.specs.Lists.{those, downFrom}
-use Rattle.zones.specs.Basic.{from, to, holds, zoneOn, basicZone}
+use Rattle.zones.specs.Basic.{holds, zoneOn, basicZone}
 use Rattle.zones.specs.Cover.{overlaps, coversIn, covers, firstZone, coverZones}
-use Rattle.zones.specs.Stretch.{rowAt, reaches, coverFrom, Rows}
+use Rattle.zones.specs.Stretch.{reaches, coverFrom, Rows}
 use Rattle.zones.proofs.Rows.{northern-at, southern-at, row-north, row-south, polar-at, last-at, from-to, place, is-place}
 use Rattle.zones.proofs.Order.{within, to-from}
 

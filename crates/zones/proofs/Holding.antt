@@ -9,11 +9,8 @@ use native.Mathlib.Omega.{arith}
 use borrow.Author.Tests.{eqb-true, ltb-true, ltb-false, le-leb, not-true}
 use lib.Dec.{ltb, eqb}
 use lib.ListN.{length, getD}
-use Rattle.arc.specs.Zones.{degree, Row, row}
-use Rattle.zones.specs.Basic.{from, to, firstHolding}
-
-abbrev pub noRow : Row
-noRow = row 0 0 0 0 0
+use Rattle.arc.specs.Zones.{degree, Row, from, to, noRow}
+use Rattle.zones.specs.Basic.{firstHolding}
 
 -- the first row whose poleward limit lies beyond the size, else the last
 abbrev pub reach : List Row → ℕ → Row

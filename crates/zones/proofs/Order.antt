@@ -8,14 +8,12 @@ use native.Mathlib.Nat.{mul-le-mul-left, mul-le-mul-right}
 use native.Mathlib.Omega.{arith}
 use borrow.Author.Tests.{ltb-true, ltb-false, lt-ltb, le-ltb, ne-eqb, eqb-true, eqb-false}
 use lib.Dec.{ltb, eqb, lit≤}
-use lib.ListN.{getD, set, take, drop}
+use lib.ListN.{set, take, drop}
 use lib.Seq.{getD-take}
-use Rattle.arc.specs.Zones.{circle, table}
+use Rattle.arc.specs.Zones.{circle, table, from, to, rowAt, noRow}
 use Rattle.zones.specs.Lists.{those, downFrom}
-use Rattle.zones.specs.Basic.{from, to}
-use Rattle.zones.specs.Stretch.{rowAt, reaches, coverFrom, Rowed}
-use Rattle.zones.proofs.Holding.{noRow}
-use Rattle.zones.proofs.Rows.{agree, from-to, polar-at, tos, to-at}
+use Rattle.zones.specs.Stretch.{reaches, coverFrom, Rowed}
+use Rattle.zones.proofs.Rows.{agree, from-to, polar-at}
 use Rattle.zones.proofs.Filled.{Sofar, taken}
 
 pub next-from : (i : ℕ) → i < 8 → from (rowAt (suc i)) ≡ to (rowAt i)
@@ -89,21 +87,18 @@ fades b first i size g j h t (suc n) k =
 abbrev pub within : ℕ → ℕ → ℕ → ℕ → Bool
 within b first size zone = reaches b (rowAt (zone - first)) size
 
-module _ (b first i size : ℕ) (g : Rowed b first i size) (left : ℕ) (some : 0 < left) (most : left ≤ i) where
-  limit-is : getD tos (left - 1) 0 ≡ to (rowAt (left - 1))
-  limit-is = sym (to-at (left - 1) (omega (arith, g .in-table)))
+module _ (b first i size : ℕ) (g : Rowed b first i size) (left : ℕ) (some : 0 < left) (most : left ≤ i) (limit : ℕ) (is : limit ≡ to (rowAt (left - 1))) where
+  pub limit-low : limit ≤ size
+  limit-low = omega (arith, ends b first i size g (left - 1) (omega arith))
 
-  pub limit-low : getD tos (left - 1) 0 ≤ size
-  limit-low = omega (arith, limit-is, ends b first i size g (left - 1) (omega arith))
-
-  test : ltb ((size - getD tos (left - 1) 0) * b) (1024 * circle) ≡ within b first size (first + (left - 1))
+  test : ltb ((size - limit) * b) (1024 * circle) ≡ within b first size (first + (left - 1))
   test =
       let e : first + (left - 1) - first ≡ left - 1 = omega arith in
-      rw (limit-is, e) (sym (reaches-is b first i size g (left - 1) (omega arith)))
+      rw (is, e) (sym (reaches-is b first i size g (left - 1) (omega arith)))
 
   -- it covers: the next slot is one of the six
   module _ (slots : List ℕ) (n : ℕ) (c : n + left ≡ i + 1) (w : Sofar (within b first size) 6 (coverFrom b first i size) (downFrom first left) slots n) where
-    pub took : (size - getD tos (left - 1) 0) * b < 1024 * circle
+    pub took : (size - limit) * b < 1024 * circle
         → (n < 6) × Sofar (within b first size) 6 (coverFrom b first i size) (downFrom first (left - 1)) (set slots n (first + (left - 1))) (n + 1)
     took t =
         let e : first + (left - 1) - first ≡ left - 1 = omega arith in
@@ -115,7 +110,7 @@ module _ (b first i size : ℕ) (g : Rowed b first i size) (left : ℕ) (some : 
         , taken (within b first size) 6 (coverFrom b first i size) (downFrom first (left - 1)) slots n (first + (left - 1))
           (subst (λ (k : ℕ). Sofar (within b first size) 6 (coverFrom b first i size) (downFrom first k) slots n) s w) y l )
 
-  pub stopped : 1024 * circle ≤ (size - getD tos (left - 1) 0) * b → those (within b first size) (downFrom first left) ≡ []
+  pub stopped : 1024 * circle ≤ (size - limit) * b → those (within b first size) (downFrom first left) ≡ []
   stopped t =
       let e : first + (left - 1) - first ≡ left - 1 = omega arith in
       fades b first i size g (left - 1) (omega arith)

@@ -10,11 +10,10 @@ use native.Mathlib.Omega.{arith}
 use borrow.Author.Tests.{ltb-true}
 use lib.Dec.{ltb, eqb}
 use lib.ListN.{length, getD}
-use Rattle.arc.specs.Zones.{Row, table, rowOf, isPolar}
+use Rattle.arc.specs.Zones.{Row, table, rowOf, isPolar, from, to, rowAt, noRow}
 use Rattle.zones.specs.Lists.{upFrom}
-use Rattle.zones.specs.Basic.{from, to, rowHolding}
-use Rattle.zones.specs.Stretch.{rowAt}
-use Rattle.zones.proofs.Holding.{noRow, reach, Held, held, holding}
+use Rattle.zones.specs.Basic.{rowHolding}
+use Rattle.zones.proofs.Holding.{reach, Held, held, holding}
 
 pub agree : {A B C : Type 0} (f : A → C) (g : B → C) (k : List A) (l : List B) (d : A) (e : B) → map f k ≡ map g l
     → (i : ℕ) → i < length k → f (getD k i d) ≡ g (getD l i e)
@@ -27,13 +26,6 @@ pub upFrom-at : (a n i d : ℕ) → i < n → getD (upFrom a n) i d ≡ a + i
 upFrom-at a zero i d h = absurd (omega arith)
 upFrom-at a (suc n) zero d h = omega arith
 upFrom-at a (suc n) (suc i) d h = let e = upFrom-at (a + 1) n i d (omega arith) in omega arith
-
--- the limits as the code lists them
-abbrev pub tos : List ℕ
-tos = 11520000 ∷ 17280000 ∷ 20160000 ∷ 23040000 ∷ 24480000 ∷ 25920000 ∷ 27360000 ∷ 28800000 ∷ 32400000 ∷ []
-
-abbrev pub froms : List ℕ
-froms = 0 ∷ 11520000 ∷ 17280000 ∷ 20160000 ∷ 23040000 ∷ 24480000 ∷ 25920000 ∷ 27360000 ∷ 28800000 ∷ []
 
 module _ (i : ℕ) (h : i < 9) where
   -- a column of the table as a function of the row's place
@@ -63,12 +55,6 @@ module _ (i : ℕ) (h : i < 9) where
 
   pub to-least : 1 < to (rowAt i)
   to-least = ltb-true 1 (to (rowAt i)) (column (λ (r : Row). ltb 1 (to r)) (λ (n : ℕ). true) 0 refl)
-
-  pub to-at : to (rowAt i) ≡ getD tos i 0
-  to-at = agree to (λ (n : ℕ). n) table tos noRow 0 refl i h
-
-  pub from-at : from (rowAt i) ≡ getD froms i 0
-  from-at = agree from (λ (n : ℕ). n) table froms noRow 0 refl i h
 
 -- the row that holds a size, and its place
 pub place : (size : ℕ) → Held table size

@@ -1,11 +1,10 @@
 -- The basic zone of a latitude (001, 3.3.3; 01, "Units and the zone table"). Definitions only.
---     from r, to r       a row's equatorward and poleward limit
 --     holds r size       a latitude of that size lies between the row's limits
 --     rowHolding size    the row that holds it
 --     zoneOn lat r       the row's zone on the latitude's side of the Equator
 --     basicZone lat      the basic zone
 --     basicZoneOf lat    what `basic_zone` answers: refusal 4
-use Prim.Native.Nat.{ℕ, _*_}
+use Prim.Native.Nat.{ℕ}
 use mathlib.Core.Bool.{Bool, cond, _&&_, _||_}
 use mathlib.Core.List.{List, [], _∷_}
 use lib.Dec.{leb, ltb, eqb}
@@ -13,14 +12,8 @@ use lib.IntN.{ℤ, pos, natAbs}
 use lib.Signed.{ltZ}
 use Rattle.whole.specs.Whole.{outside}
 use Rattle.arc.specs.Refusals.{refusal, Report, answered, refusedWith}
-use Rattle.arc.specs.Zones.{degree, quarter, Row, row, table}
+use Rattle.arc.specs.Zones.{quarter, Row, table, from, to, noRow}
 use Rattle.zones.specs.declared.ZoneAnswer.{ZoneAnswer}
-
-abbrev pub from : Row → ℕ
-from r = r .equatorward * degree
-
-abbrev pub to : Row → ℕ
-to r = r .poleward * degree
 
 -- a limit belongs to the poleward zone, and 90° to the polar zones
 abbrev pub holds : Row → ℕ → Bool
@@ -28,7 +21,7 @@ holds r size = leb (from r) size && (ltb size (to r) || eqb (r .poleward) 90)
 
 -- the first row of a list that holds a size; no size up to 90° is left without one
 unfoldable pub firstHolding : List Row → ℕ → Row
-firstHolding [] size = row 0 0 0 0 0
+firstHolding [] size = noRow
 firstHolding (r ∷ rs) size = cond (holds r size) r (firstHolding rs size)
 
 abbrev pub rowHolding : ℕ → Row

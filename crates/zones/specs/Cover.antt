@@ -18,11 +18,11 @@ use Rattle.arc.specs.declared.Refusal.{Refusal}
 use Rattle.arc.specs.declared.Verdict.{Verdict}
 use Rattle.arc.specs.declared.ConstantAnswer.{ConstantAnswer}
 use Rattle.arc.specs.Refusals.{refusal, Report}
-use Rattle.arc.specs.Zones.{circle, quarter, Row, rowOf, isPolar}
+use Rattle.arc.specs.Zones.{circle, quarter, Row, rowOf, isPolar, to}
 use Rattle.arc.specs.Spacing.{rowsOf, rowUnit, spacingAt, Scale}
 use Rattle.zones.specs.declared.CoverAnswer.{CoverAnswer}
 use Rattle.zones.specs.Lists.{those, downFrom, padded, reportIn}
-use Rattle.zones.specs.Basic.{to, holds, zoneOn, basicZone}
+use Rattle.zones.specs.Basic.{holds, zoneOn, basicZone}
 
 -- a non-polar zone with poleward limit P: |lat| at least P and (|lat| − P) × B < 1024 × H
 abbrev pub overlaps : ℕ → Row → ℕ → Bool

@@ -1,5 +1,4 @@
 -- How the code asks of a row and a size of latitude: the laws that tie this to cover and rectangle are in proofs/. Definitions only.
---     rowAt i            the table's row at place i, 0 to 8
 --     reaches b r size   the row and its overlap do not end before a latitude of that size
 --     coverFrom b first i size    the zones from the row at i equatorward that reach the size; the row's zones are first + 0, first + 1, ..
 --     Rows, Rowed        what the code's parts are handed
@@ -7,13 +6,8 @@ use Prim.Native.Nat.{ℕ, _+_, _-_, _*_, _≤_, _<_}
 use mathlib.Core.Bool.{Bool, _||_}
 use mathlib.Core.List.{List, _∷_}
 use lib.Dec.{ltb}
-use lib.ListN.{getD}
-use Rattle.arc.specs.Zones.{circle, quarter, Row, row, table, isPolar}
+use Rattle.arc.specs.Zones.{circle, quarter, Row, isPolar, from, to, rowAt}
 use Rattle.zones.specs.Lists.{those, downFrom}
-use Rattle.zones.specs.Basic.{from, to}
-
-abbrev pub rowAt : ℕ → Row
-rowAt i = getD table i (row 0 0 0 0 0)
 
 abbrev pub reaches : ℕ → Row → ℕ → Bool
 reaches b r size = (ltb size (to r) || isPolar (r .northern)) || ltb ((size - to r) * b) (1024 * circle)

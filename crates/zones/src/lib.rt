@@ -98,7 +98,7 @@ fn cover_from(b: u64, first: u64, row: usize, size: u64) -> CoverAnswer
     let mut length = 1;
     let mut left = row;
     while 0 < left {
-        let limit = arc::POLEWARD[left - 1];
+        let limit = arc::poleward((left - 1) as u64);
         if OVERLAP <= (size - limit) * b {
             break;
         }

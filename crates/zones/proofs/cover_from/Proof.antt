@@ -1,16 +1,16 @@
 -- Each turn takes the next zone equatorward while it reaches the size, and the list so far with what the rest adds is the whole. It is left at the
 -- Equator or at the first zone that does not reach it, after which none does. Assumes nothing.
+use mathlib.Core.Path.{_≡_, refl, ap₂}
 use mathlib.Core.List.{List, _∷_, []}
 use Prim.Native.Nat.{ℕ, _+_, _≤_, _<_, _-_}
-use lib.ListN.{set, length as count}
-use Rattle.whole.proofs.Machine.{fits-mul}
-use Rattle.zones.specs.Cover.{listed}
-use Rattle.zones.specs.Lists.{padded, downFrom}
-use Rattle.zones.specs.declared.CoverAnswer.{CoverAnswer}
-use Rattle.arc.specs.declared.Verdict.{Verdict}
-use mathlib.Core.Path.{_≡_, refl, ap₂}
 use native.Mathlib.Omega.{arith}
 use borrow.Author.Needs.{needs}
+use lib.ListN.{set, length as count}
+use Rattle.whole.proofs.Machine.{fits-mul}
+use Rattle.arc.specs.declared.Verdict.{Verdict}
+use Rattle.zones.specs.declared.CoverAnswer.{CoverAnswer}
+use Rattle.zones.specs.Cover.{listed}
+use Rattle.zones.specs.Lists.{padded, downFrom}
 use Rattle.zones.specs.Stretch.{coverFrom}
 use Rattle.zones.proofs.Filled.{Sofar, finished}
 use Rattle.zones.proofs.Order.{within, limit-low, took, stopped}
@@ -33,31 +33,28 @@ loop-holds : tie.Need-loop-holds Inv-loop μ-loop
 unfolding coverFrom
 loop-holds c = (omega arith, omega arith, record { so = (c .args .first + c .args .row) ∷ []; joined = refl; filled = refl; count = refl })
 
-sub-limit : tie.Need-sub-limit Inv-loop μ-loop
-sub-limit c = omega arith
+sub-poleward : tie.Need-sub-poleward Inv-loop μ-loop
+sub-poleward c = omega arith
 
-mul-limit : tie.Need-mul-limit Inv-loop μ-loop
-mul-limit c = omega (arith, c .before .before .pre .in-table)
-
-array-read-limit : tie.Need-array-read-limit Inv-loop μ-loop
-array-read-limit c = omega (arith, c .before .before .pre .in-table)
+poleward-requires : tie.Need-poleward-requires Inv-loop μ-loop
+poleward-requires c κs = search needs
 
 sub-if1 : tie.Need-sub-if1 Inv-loop μ-loop
-sub-if1 c = limit-low _ _ _ _ (c .before .before .pre) (c .before .loop .left) (c .loop-test .taken) (c .before .loop .inv .0)
+sub-if1 c = limit-low _ _ _ _ (c .before .before .before .pre) (c .before .before .loop .left) (c .before .loop-test .taken) (c .before .before .loop .inv .0) _ (c .poleward .ensures)
 
 mul-if1 : tie.Need-mul-if1 Inv-loop μ-loop
-mul-if1 c = fits-mul 32400000 80076800 tt (omega (arith, c .before .before .pre .high)) (c .before .before .pre .rows .most)
+mul-if1 c = fits-mul 32400000 80076800 tt (omega (arith, c .before .before .before .pre .high)) (c .before .before .before .pre .rows .most)
 
 sub-left : tie.Need-sub-left Inv-loop μ-loop
 sub-left c = omega arith
 
-turn : (c : tie.Else1 Inv-loop μ-loop) → let a = c .before .before .before .args in let l = c .before .before .loop in
+turn : (c : tie.Else1 Inv-loop μ-loop) → let a = c .before .before .before .before .args in let l = c .before .before .before .loop in
     (l .length < 6) × Sofar (within (a .b) (a .first) (a .size)) 6 (coverFrom (a .b) (a .first) (a .row) (a .size)) (downFrom (a .first) (l .left - 1)) (set (l .zones) (l .length) (a .first + (l .left - 1))) (l .length + 1)
-turn c = let i = c .before .before .loop .inv in
-    took _ _ _ _ (c .before .before .before .pre) (c .before .before .loop .left) (c .before .loop-test .taken) (i .0) _ _ (i .1) (i .2) (c .if1 .left)
+turn c = let i = c .before .before .before .loop .inv in
+    took _ _ _ _ (c .before .before .before .before .pre) (c .before .before .before .loop .left) (c .before .before .loop-test .taken) (i .0) _ (c .before .poleward .ensures) _ _ (i .1) (i .2) (c .if1 .left)
 
 add-zones-2 : tie.Need-add-zones-2 Inv-loop μ-loop
-add-zones-2 c = omega (arith, c .before .before .before .pre .zone, c .before .before .before .pre .in-table)
+add-zones-2 c = omega (arith, c .before .before .before .before .pre .zone, c .before .before .before .before .pre .in-table)
 
 mul-zones : tie.Need-mul-zones Inv-loop μ-loop
 mul-zones c = omega (arith, turn c .0)
@@ -85,9 +82,9 @@ returns c =
 
 returns-2 : tie.Need-returns-2 Inv-loop μ-loop
 returns-2 c =
-    let a = c .before .before .before .args in
-    let i = c .before .before .loop .inv in
-    made (coverFrom (a .b) (a .first) (a .row) (a .size)) _ _ (finished _ 6 _ _ _ _ (i .2) (stopped _ _ _ _ (c .before .before .before .pre) (c .before .before .loop .left) (c .before .loop-test .taken) (i .0) (c .if1 .taken)))
+    let a = c .before .before .before .before .args in
+    let i = c .before .before .before .loop .inv in
+    made (coverFrom (a .b) (a .first) (a .row) (a .size)) _ _ (finished _ 6 _ _ _ _ (i .2) (stopped _ _ _ _ (c .before .before .before .before .pre) (c .before .before .before .loop .left) (c .before .before .loop-test .taken) (i .0) _ (c .before .poleward .ensures) (c .if1 .taken)))
 
 pub cover-from-spec : {M : Type 1} → statement M
 cover-from-spec =
@@ -98,9 +95,8 @@ cover-from-spec =
     add-zones
     array-write-zones
     loop-holds
-    sub-limit
-    mul-limit
-    array-read-limit
+    sub-poleward
+    poleward-requires
     sub-if1
     mul-if1
     sub-left

@@ -1,0 +1,31 @@
+-- The code's list is the table's column, row by row; past the last row both give 0. Assumes nothing.
+use mathlib.Core.Path.{sym}
+use native.Mathlib.Omega.{arith}
+use lib.ListN.{List·getD-map}
+use Rattle.arc.specs.Zones.{table, to, noRow}
+use Rattle.arc.proofs.Table.{past-last}
+use mathlib.Core.Path.{ap}
+use borrow.Author.Needs.{needs}
+use Rattle.arc.proofs.limits.poleward.Statement.{statement}
+use Rattle.arc.proofs.limits.poleward.Tie as tie
+use Rattle.arc.proofs.limits.poleward.Reads as reads
+use Rattle.arc.proofs.limits.poleward.Lts as lts
+
+-- src/limits.rt:45:9
+returns : tie.Need-returns
+returns c = sym (ap to (past-last (c .before .args .row) (c .if1 .taken)))
+
+-- src/limits.rt:48:5
+mul-result : tie.Need-mul-result
+mul-result c = search needs
+
+-- src/limits.rt:48:5
+array-read-result : tie.Need-array-read-result
+array-read-result c = search needs
+
+-- src/limits.rt:41:1
+returns-2 : tie.Need-returns-2
+returns-2 c = List·getD-map to table (c .before .args .row) noRow
+
+pub poleward-spec : {M : Type 1} → statement M
+poleward-spec = tie.close (tie.spec returns mul-result array-read-result returns-2)
