@@ -40,7 +40,7 @@ poleward-requires : tie.Need-poleward-requires Inv-loop μ-loop
 poleward-requires c κs = search needs
 
 sub-if1 : tie.Need-sub-if1 Inv-loop μ-loop
-sub-if1 c = limit-low _ _ _ _ (c .before .before .before .pre) (c .before .before .loop .left) (c .before .loop-test .taken) (c .before .before .loop .inv .0) _ (c .poleward .ensures)
+sub-if1 c = limit-low _ _ _ _ (c .before .before .before .pre) (c .before .before .loop .left) (omega arith) (c .before .before .loop .inv .0) _ (c .poleward .ensures)
 
 mul-if1 : tie.Need-mul-if1 Inv-loop μ-loop
 mul-if1 c = fits-mul 32400000 80076800 tt (omega (arith, c .before .before .before .pre .high)) (c .before .before .before .pre .rows .most)
@@ -51,7 +51,7 @@ sub-left c = omega arith
 turn : (c : tie.Else1 Inv-loop μ-loop) → let a = c .before .before .before .before .args in let l = c .before .before .before .loop in
     (l .length < 6) × Sofar (within (a .b) (a .first) (a .size)) 6 (coverFrom (a .b) (a .first) (a .row) (a .size)) (downFrom (a .first) (l .left - 1)) (set (l .zones) (l .length) (a .first + (l .left - 1))) (l .length + 1)
 turn c = let i = c .before .before .before .loop .inv in
-    took _ _ _ _ (c .before .before .before .before .pre) (c .before .before .before .loop .left) (c .before .before .loop-test .taken) (i .0) _ (c .before .poleward .ensures) _ _ (i .1) (i .2) (c .if1 .left)
+    took _ _ _ _ (c .before .before .before .before .pre) (c .before .before .before .loop .left) (omega arith) (i .0) _ (c .before .poleward .ensures) _ _ (i .1) (i .2) (c .if1 .left)
 
 add-zones-2 : tie.Need-add-zones-2 Inv-loop μ-loop
 add-zones-2 c = omega (arith, c .before .before .before .before .pre .zone, c .before .before .before .before .pre .in-table)
@@ -84,7 +84,7 @@ returns-2 : tie.Need-returns-2 Inv-loop μ-loop
 returns-2 c =
     let a = c .before .before .before .before .args in
     let i = c .before .before .before .loop .inv in
-    made (coverFrom (a .b) (a .first) (a .row) (a .size)) _ _ (finished _ 6 _ _ _ _ (i .2) (stopped _ _ _ _ (c .before .before .before .before .pre) (c .before .before .before .loop .left) (c .before .before .loop-test .taken) (i .0) _ (c .before .poleward .ensures) (c .if1 .taken)))
+    made (coverFrom (a .b) (a .first) (a .row) (a .size)) _ _ (finished _ 6 _ _ _ _ (i .2) (stopped _ _ _ _ (c .before .before .before .before .pre) (c .before .before .before .loop .left) (omega arith) (i .0) _ (c .before .poleward .ensures) (c .if1 .taken)))
 
 pub cover-from-spec : {M : Type 1} → statement M
 cover-from-spec =
