@@ -7,3 +7,4 @@ pub mod Grid
 pub mod NoDrift
 pub mod Offset
 pub mod RoundTrips
+pub mod Held

@@ -1,6 +1,12 @@
 // The card value, and the questions put to it (001, 3.4.3 to 3.4.5; 002, 3.17.1).
-use arc::{Refusal, Verdict};
-ghost use mathlib.Core.Path.{_≡_};
+use arc::Refusal;
+use arc::Verdict;
+
+mod centre;
+mod grid;
+mod range;
+
+pub use centre::offset_from;
 
 // What may stand in a subfield (01, "The image card, 98 bytes").
 pub enum Kind {
@@ -55,6 +61,16 @@ pub struct Record {
     pub nfc: u64,
     pub bad: [u8; 12],
     pub tif: bool,
+}
+
+// The chart's edges, top, right, bottom and left, and the tiles down and across.
+pub struct Extents {
+    pub nul: u64,
+    pub nus: u64,
+    pub nll: u64,
+    pub nls: u64,
+    pub nfl: u64,
+    pub nfc: u64,
 }
 
 // A place of the zone grid.

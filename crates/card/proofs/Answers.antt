@@ -1,0 +1,73 @@
+-- What a method's callees answered, as the machine reads it back: a number that fits is itself. Assumes nothing.
+use mathlib.Core.Path.{_≡_, refl, sym, ap, ap₂, _∙_}
+use mathlib.Core.Bool.{Bool, true, false, cond}
+use Prim.Native.Nat.{ℕ, _<_, _≤_, _^_}
+use native.Mathlib.Omega.{arith}
+use lib.Dec.{T}
+use lib.IntN.{ℤ, pos, natAbs, _-ℤ_}
+use lib.Signed.{mag, nonNeg}
+use mir.Syntax.{w64}
+use mir.Val.{SFits, Fits, toZ, ofZ}
+use mir.ValLaws.{toZ-ofZ}
+use Rattle.whole.proofs.Signed.{Is, is-difference, is-unique}
+use Rattle.whole.proofs.Machine.{casts}
+use Rattle.arc.specs.declared.Refusal.{Refusal}
+use Rattle.arc.specs.declared.Verdict.{Verdict}
+use Rattle.arc.specs.Refusals.{refusal}
+use Rattle.card.specs.declared.Card.{Card}
+use Rattle.card.specs.Grid.{inTiles, inChart}
+use Rattle.card.specs.Held.{verdictOf}
+use Rattle.card.proofs.Regions.{Within}
+
+-- a result
+pub result-is : {r k : ℤ} → mag r < 2 ^ 63 → r ≡ k → toZ w64 (ofZ w64 r) ≡ k
+result-is {r} f e = toZ-ofZ w64 r (record { sfits = f }) ∙ e
+
+-- a result that is the difference k
+pub told : {r k : ℤ} (n t : ℕ) → mag r < 2 ^ 63 → r ≡ pos n -ℤ pos t → Is k n t → toZ w64 (ofZ w64 r) ≡ k
+told {r} {k} n t f d e = result-is f (d ∙ is-unique (pos n -ℤ pos t) k n t (is-difference n t) e)
+
+-- ---- a pixel's verdict, asked of what the machine holds
+abbrev verdict-by : Bool → Bool → Verdict
+verdict-by i j = cond i (cond j Verdict.Accepted (Verdict.Refused (refusal 13))) (Verdict.Refused (refusal 12))
+
+module _ (k : Card) (r c : ℤ) (f : SFits w64 r) (g : SFits w64 c) {v : Verdict} (e : v ≡ verdictOf k (toZ w64 (ofZ w64 r)) (toZ w64 (ofZ w64 c))) where
+  plain-verdict : verdict-by (inTiles k r c) (inChart k r c) ≡ v
+  plain-verdict = sym (e ∙ ap₂ (verdictOf k) (toZ-ofZ w64 r f) (toZ-ofZ w64 c g))
+
+  -- a question that asks the same of the pixel has the same refusal
+  pub judged-refused : {A : Type 0} (F : Refusal → A) (x : A) {n : Refusal} → v ≡ Verdict.Refused n
+      → F n ≡ cond (inTiles k r c) (cond (inChart k r c) x (F (refusal 13))) (F (refusal 12))
+  judged-refused {A} F x {n} o = go (inTiles k r c) (inChart k r c) (plain-verdict ∙ o)
+    where
+      go : (i j : Bool) → verdict-by i j ≡ Verdict.Refused n → F n ≡ cond i (cond j x (F (refusal 13))) (F (refusal 12))
+      go true true p = let y : _≡_ {A = ℕ} 0 1 = cc in absurd (omega arith)
+      go true false p = let q : n ≡ refusal 13 = cc in ap F q
+      go false j p = let q : n ≡ refusal 12 = cc in ap F q
+
+  pub judged-accepted : v ≡ Verdict.Accepted → (inTiles k r c ≡ true) × (inChart k r c ≡ true)
+  judged-accepted o = go (inTiles k r c) (inChart k r c) (plain-verdict ∙ o)
+    where
+      go : (i j : Bool) → verdict-by i j ≡ Verdict.Accepted → (i ≡ true) × (j ≡ true)
+      go true true p = (refl, refl)
+      go true false p = let y : _≡_ {A = ℕ} 0 1 = cc in absurd (omega arith)
+      go false j p = let y : _≡_ {A = ℕ} 0 1 = cc in absurd (omega arith)
+
+-- a test of two numbers, likewise
+pub tested : (P : ℤ → ℤ → Bool) (r c : ℤ) → SFits w64 r → SFits w64 c → {x t : Bool}
+    → x ≡ P (toZ w64 (ofZ w64 r)) (toZ w64 (ofZ w64 c)) → x ≡ t → P r c ≡ t
+tested P r c f g e h = sym (ap₂ P (toZ-ofZ w64 r f) (toZ-ofZ w64 c g)) ∙ sym e ∙ h
+
+-- a number that is a natural below n, cast to an unsigned one
+module _ (n : ℕ) (z : ℤ) (f : SFits w64 z) (i : Within 0 n z) where
+  plain : toZ w64 (ofZ w64 z) ≡ pos (i .at)
+  plain = toZ-ofZ w64 z f ∙ i .same
+
+  pub cast-fits : n ≤ 2 ^ 63 → T (nonNeg (toZ w64 (ofZ w64 z))) × Fits w64 (natAbs (toZ w64 (ofZ w64 z)))
+  cast-fits h = casts (i .at) plain (omega (arith, i .below))
+
+  pub cast-below : natAbs (toZ w64 (ofZ w64 z)) < n
+  cast-below = let e : natAbs (toZ w64 (ofZ w64 z)) ≡ i .at = ap natAbs plain in omega (arith, i .below)
+
+  pub cast-same : pos (natAbs (toZ w64 (ofZ w64 z))) ≡ z
+  cast-same = ap (λ (y : ℤ). pos (natAbs y)) plain ∙ sym (i .same)

@@ -1,0 +1,106 @@
+-- Demand 3 says something: document 01's own card and another of its scale and zone, and two at 1:5,000, are accepted, and
+-- positions go from card to card, also past a refusal. Every test is computed, and the tiles are those that store the angles.
+-- Assumes nothing.
+use mathlib.Core.Path.{_≡_, refl}
+use mathlib.Core.List.{List, [] as []ᴸ, _∷_ as _∷ᴸ_}
+use Prim.Native.Nat.{ℕ}
+use Prim.Native.Char.{code}
+use Prim.Native.String.{String, [], _∷_}
+use native.Mathlib.Omega.{arith}
+use lib.IntN.{ℤ, pos, negsuc}
+use Rattle.whole.specs.Whole.{floorDiv, ceilDiv, nearest, modulo}
+use Rattle.arc.specs.Refusals.{refusal}
+use Rattle.arc.specs.Spacing.{spacingAt}
+use Rattle.origin.specs.Origin.{stored}
+use Rattle.card.specs.declared.Card.{Card}
+use Rattle.card.specs.declared.PositionAnswer.{PositionAnswer}
+use Rattle.card.specs.Text.{number, angleLaid, degrees, minutes, seconds, hundredths, angleSize, angleOf, angleValid, nameLaid}
+use Rattle.card.specs.Layout.{layout, judgeField}
+use Rattle.card.specs.Extents.{extentsHold}
+use Rattle.card.specs.Read.{cardOf, Accepted}
+use Rattle.card.specs.Grid.{latitudeOf, longitudeOf, rowOf, columnOf, positionOf, pixelOf}
+use Rattle.card.specs.NoDrift.{Visit, gave, refused, walk, Walked}
+use Rattle.card.proofs.Acceptance.{bytes-accepted}
+use Rattle.card.proofs.Chain.{no-drift}
+
+abbrev bytes : String → List ℕ
+bytes [] = []ᴸ
+bytes (c ∷ s) = code c ∷ᴸ bytes s
+
+-- 01, "The printing program": n = 100, m = −20
+abbrev paper : List ℕ
+paper = bytes "30036966400400384-0022935.07+113032.2300000000012700025500000000200100012800012801008BASE0101.IMGN"
+
+-- a tile north and a tile west of it, with padding all round
+abbrev beside : List ℕ
+beside = bytes "30036966400400384-0023703.82+113726.5500006400019100031900006400300200012800012801008BASE0102.IMGY"
+
+-- the same two at 1:5,000, with 312,801 and 577,601 tiles to look through
+abbrev town : List ℕ
+town = bytes "37393280080076800-0000044.88+000327.1600000000012700025500000000200100012800012801008TOWN0101.IMGN"
+
+abbrev townBeside : List ℕ
+townBeside = bytes "37393280080076800-0000047.12+000329.2300006400019100031900006400300200012800012801008TOWN0102.IMGY"
+
+abbrev paperCard : Card
+paperCard = cardOf 1000000 1 369664 400384 (pos 100) (negsuc 19) paper
+
+abbrev besideCard : Card
+besideCard = cardOf 1000000 1 369664 400384 (pos 101) (negsuc 20) beside
+
+abbrev townCard : Card
+townCard = cardOf 5000 1 73932800 80076800 (pos 100) (negsuc 19) town
+
+abbrev townBesideCard : Card
+townBesideCard = cardOf 5000 1 73932800 80076800 (pos 101) (negsuc 20) townBeside
+
+pub all-accepted : (Accepted 1000000 1 paperCard × Accepted 1000000 1 besideCard) × (Accepted 5000 1 townCard × Accepted 5000 1 townBesideCard)
+unfolding spacingAt ceilDiv floorDiv nearest stored number angleLaid degrees minutes seconds hundredths angleSize angleOf angleValid nameLaid layout judgeField extentsHold
+all-accepted = (
+  (
+    bytes-accepted 1000000 1 369664 400384 (pos 100) (negsuc 19) paper refl refl refl refl refl
+        (record { count = 882; is-count = refl; high = omega arith; same = refl })
+        (record { count = 1424; is-count = refl; high = omega arith; same = refl }) refl,
+    bytes-accepted 1000000 1 369664 400384 (pos 101) (negsuc 20) beside refl refl refl refl refl
+        (record { count = 883; is-count = refl; high = omega arith; same = refl })
+        (record { count = 1423; is-count = refl; high = omega arith; same = refl }) refl,
+  ),
+  (
+    bytes-accepted 5000 1 73932800 80076800 (pos 100) (negsuc 19) town refl refl refl refl refl
+        (record { count = 156500; is-count = refl; high = omega arith; same = refl })
+        (record { count = 288780; is-count = refl; high = omega arith; same = refl }) refl,
+    bytes-accepted 5000 1 73932800 80076800 (pos 101) (negsuc 20) townBeside refl refl refl refl refl
+        (record { count = 156501; is-count = refl; high = omega arith; same = refl })
+        (record { count = 288779; is-count = refl; high = omega arith; same = refl }) refl,
+  ),
+)
+
+-- ---- the demand, from each card's pixels over the other and back
+
+pub paper-walked : Walked paperCard (besideCard ∷ᴸ paperCard ∷ᴸ []ᴸ) (pos 0) (pos 0) × Walked paperCard (besideCard ∷ᴸ paperCard ∷ᴸ []ᴸ) (pos 200) (pos 100)
+unfolding cardOf number
+paper-walked =
+    let go = no-drift 1000000 1 paperCard (besideCard ∷ᴸ paperCard ∷ᴸ []ᴸ) (all-accepted .0 .0, (all-accepted .0 .1, (all-accepted .0 .0, tt))) in
+    (go (pos 0) (pos 0) refl, go (pos 200) (pos 100) refl)
+
+pub beside-walked : Walked besideCard (paperCard ∷ᴸ besideCard ∷ᴸ []ᴸ) (pos 64) (pos 64)
+unfolding cardOf number
+beside-walked = no-drift 1000000 1 besideCard (paperCard ∷ᴸ besideCard ∷ᴸ []ᴸ) (all-accepted .0 .1, (all-accepted .0 .0, (all-accepted .0 .1, tt))) (pos 64) (pos 64) refl
+
+pub town-walked : Walked townCard (townBesideCard ∷ᴸ townCard ∷ᴸ []ᴸ) (pos 1) (pos 1)
+unfolding cardOf number
+town-walked = no-drift 5000 1 townCard (townBesideCard ∷ᴸ townCard ∷ᴸ []ᴸ) (all-accepted .1 .0, (all-accepted .1 .1, (all-accepted .1 .0, tt))) (pos 1) (pos 1) refl
+
+-- ---- the same walks, computed: a pixel each time; 13, then a pixel; 12, then a pixel
+
+abbrev gives : ℤ → ℤ → ℤ → ℤ → Visit
+gives r c lat lon = gave r c (PositionAnswer.At lat lon)
+
+pub visits : (walk (pos 4143223) (negsuc 897506) (besideCard ∷ᴸ paperCard ∷ᴸ []ᴸ)
+    ≡ gives (pos 128) (pos 128) (pos 4143223) (negsuc 897506) ∷ᴸ gives (pos 0) (pos 0) (pos 4143223) (negsuc 897506) ∷ᴸ []ᴸ)
+    × (walk (pos 4078485) (negsuc 862447) (besideCard ∷ᴸ paperCard ∷ᴸ []ᴸ) ≡ refused (refusal 13) ∷ᴸ gives (pos 200) (pos 100) (pos 4078485) (negsuc 862447) ∷ᴸ []ᴸ)
+    × (walk (pos 4163939) (negsuc 919944) (paperCard ∷ᴸ besideCard ∷ᴸ []ᴸ) ≡ refused (refusal 12) ∷ᴸ gives (pos 64) (pos 64) (pos 4163939) (negsuc 919944) ∷ᴸ []ᴸ)
+    × (walk (pos 20714) (negsuc 4485) (townBesideCard ∷ᴸ townCard ∷ᴸ []ᴸ)
+    ≡ gives (pos 129) (pos 129) (pos 20714) (negsuc 4485) ∷ᴸ gives (pos 1) (pos 1) (pos 20714) (negsuc 4485) ∷ᴸ []ᴸ)
+unfolding cardOf number floorDiv nearest modulo latitudeOf longitudeOf rowOf columnOf positionOf pixelOf
+visits = (refl, refl, refl, refl)

@@ -1,0 +1,65 @@
+-- A position out of range is refused; else the row and the column are those of its axes, and the tests come last. Assumes nothing.
+use mathlib.Core.Path.{ap, ap₂, _∙_}
+use Rattle.card.specs.declared.PixelAnswer.{PixelAnswer}
+use Rattle.card.specs.Grid.{rowOf, columnOf, pixelAt, pixelOf}
+use Rattle.card.proofs.Answers.{result-is}
+use Rattle.card.proofs.Ranges.{Counts, ranged-at, ranged-refused}
+use borrow.Author.Needs.{needs}
+use Rattle.card.proofs.Card.pixel.Statement.{statement}
+use Rattle.card.proofs.Card.pixel.Tie as tie
+
+counts : (c : tie.After-known-told)
+    → Counts (c .before .before .before .before .args .lat) (c .before .before .before .before .args .lon) (c .before .north .given .0 .0) (c .before .north .given .0 .1 .0)
+counts c =
+    let s = c .before .before .before .before in
+    ranged-at (s .args .lat) (s .args .lon) (s .fits .lat) (s .fits .lon) (c .before .before .before .count-position .ensures) (c .before .north .given .1)
+
+count-position-requires : tie.Need-count-position-requires
+count-position-requires c κs = search needs
+
+enum-known-north : tie.Need-enum-known-north
+enum-known-north c = search needs
+
+row-at-requires : tie.Need-row-at-requires
+row-at-requires c κs = (c .before .before .before .before .pre, counts c .rows .high)
+
+column-at-requires : tie.Need-column-at-requires
+column-at-requires c κs = (c .before .before .before .before .before .pre, counts (c .before) .columns .high)
+
+pixel-at-requires : tie.Need-pixel-at-requires
+pixel-at-requires c κs = search needs
+
+enum-known-r : tie.Need-enum-known-r
+enum-known-r c = search needs
+
+returns : tie.Need-returns
+unfolding pixelOf
+returns c =
+    let s = c .before .before .before .before .before .before .before in
+    let k = s .args .self in
+    let i = counts (c .before .before .before) in
+    rw (i .rows .test, i .columns .test)
+    (c .pixel-at .ensures
+    ∙ ap₂ (pixelAt k)
+    (result-is (c .before .before .row-at .ok) (c .before .before .row-at .ensures ∙ ap (rowOf k) (i .rows .same)))
+    (result-is (c .before .column-at .ok) (c .before .column-at .ensures ∙ ap (columnOf k) (i .columns .same))))
+
+returns-2 : tie.Need-returns-2
+unfolding pixelOf
+returns-2 c =
+    let s = c .before .before .before .before in
+    ranged-refused (s .args .lat) (s .args .lon) (s .fits .lat) (s .fits .lon) (c .before .before .before .count-position .ensures)
+    PixelAnswer.Refused (pixelAt (s .args .self) (rowOf (s .args .self) (s .args .lat)) (columnOf (s .args .self) (s .args .lon))) (c .before .r .given .1)
+
+pub pixel-spec : {M : Type 1} → statement M
+pixel-spec =
+    tie.close
+    (tie.spec
+    count-position-requires
+    enum-known-north
+    row-at-requires
+    column-at-requires
+    pixel-at-requires
+    enum-known-r
+    returns
+    returns-2)

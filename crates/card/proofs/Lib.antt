@@ -1,0 +1,11 @@
+pub mod Found
+pub mod Acceptance
+pub mod Laid
+pub mod Line
+pub mod Axes
+pub mod Regions
+pub mod Chain
+pub mod Answers
+pub mod Ranges
+pub mod Doubles
+pub mod Applied

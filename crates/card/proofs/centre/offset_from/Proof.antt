@@ -1,0 +1,97 @@
+-- The position is judged before the centre, and a difference of counts is that of the angles. Assumes nothing.
+use mathlib.Core.Path.{ap, ap₂, _∙_}
+use mathlib.Core.Bool.{cond}
+use lib.IntN.{ℤ}
+use lib.Ieee.{ofInt, binary64}
+use Rattle.whole.specs.Whole.{outside}
+use Rattle.arc.specs.Refusals.{refusal}
+use Rattle.arc.specs.Zones.{half, quarter}
+use Rattle.card.specs.declared.OffsetAnswer.{OffsetAnswer}
+use Rattle.card.specs.Offset.{shortWay, difference, offsetOf}
+use Rattle.card.proofs.Ranges.{Counts, counts-apart, ranged-at, ranged-refused}
+use borrow.Author.Needs.{needs}
+use Rattle.card.proofs.centre.offset_from.Statement.{statement}
+use Rattle.card.proofs.centre.offset_from.Tie as tie
+
+counts : (c : tie.After-known-told)
+    → Counts (c .before .before .before .before .args .lat) (c .before .before .before .before .args .lon) (c .before .north .given .0 .0) (c .before .north .given .0 .1 .0)
+counts c =
+    let s = c .before .before .before .before in
+    ranged-at (s .args .lat) (s .args .lon) (s .fits .lat) (s .fits .lon) (c .before .before .before .count-position .ensures) (c .before .north .given .1)
+
+centre : (c : tie.After-known-told2)
+    → Counts (c .before .before .before .before .before .before .before .before .args .clat)
+    (c .before .before .before .before .before .before .before .before .args .clon) (c .before .cnorth .given .0 .0) (c .before .cnorth .given .0 .1 .0)
+centre c =
+    let s = c .before .before .before .before .before .before .before .before in
+    ranged-at (s .args .clat) (s .args .clon) (s .fits .clat) (s .fits .clon) (c .before .before .before .count-position2 .ensures) (c .before .cnorth .given .1)
+
+-- the answer where the position is in range
+abbrev centred : ℤ → ℤ → ℤ → ℤ → OffsetAnswer
+centred lat lon clat clon =
+    cond (outside quarter clat) (OffsetAnswer.Refused (refusal 4))
+    (cond (outside half clon) (OffsetAnswer.Refused (refusal 5)) (OffsetAnswer.At (difference lat lon clat clon)))
+
+count-position-requires : tie.Need-count-position-requires
+count-position-requires c κs = search needs
+
+enum-known-north : tie.Need-enum-known-north
+enum-known-north c = search needs
+
+count-position-requires-2 : tie.Need-count-position-requires-2
+count-position-requires-2 c κs = search needs
+
+enum-known-cnorth : tie.Need-enum-known-cnorth
+enum-known-cnorth c = search needs
+
+offset-at-requires : tie.Need-offset-at-requires
+offset-at-requires c κs =
+    let p = counts (c .before .before .before .before) in
+    (p .rows .high, (p .columns .high, (centre c .rows .high, centre c .columns .high)))
+
+enum-known-r : tie.Need-enum-known-r
+enum-known-r c = search needs
+
+enum-known-r-2 : tie.Need-enum-known-r-2
+enum-known-r-2 c = search needs
+
+returns : tie.Need-returns
+unfolding offsetOf
+returns c =
+    let p = counts (c .before .before .before .before .before) in
+    let q = centre (c .before) in
+    rw (p .rows .test, p .columns .test, q .rows .test, q .columns .test)
+    (ap OffsetAnswer.At
+    (c .offset-at .ensures
+    ∙ ap₂ (λ (x y : ℤ). record { lat = ofInt binary64 x; lon = ofInt binary64 (shortWay y) }) (counts-apart (p .rows) (q .rows)) (counts-apart (p .columns) (q .columns))))
+
+returns-2 : tie.Need-returns-2
+unfolding offsetOf
+returns-2 c =
+    let s = c .before .before .before .before .before .before .before .before in
+    let p = counts (c .before .before .before .before) in
+    rw (p .rows .test, p .columns .test)
+    (ranged-refused (s .args .clat) (s .args .clon) (s .fits .clat) (s .fits .clon) (c .before .before .before .count-position2 .ensures)
+    OffsetAnswer.Refused (OffsetAnswer.At (difference (s .args .lat) (s .args .lon) (s .args .clat) (s .args .clon))) (c .before .r .given .1))
+
+returns-3 : tie.Need-returns-3
+unfolding offsetOf
+returns-3 c =
+    let s = c .before .before .before .before in
+    ranged-refused (s .args .lat) (s .args .lon) (s .fits .lat) (s .fits .lon) (c .before .before .before .count-position .ensures)
+    OffsetAnswer.Refused (centred (s .args .lat) (s .args .lon) (s .args .clat) (s .args .clon)) (c .before .r2 .given .1)
+
+pub offset-from-spec : {M : Type 1} → statement M
+offset-from-spec =
+    tie.close
+    (tie.spec
+    count-position-requires
+    enum-known-north
+    count-position-requires-2
+    enum-known-cnorth
+    offset-at-requires
+    enum-known-r
+    enum-known-r-2
+    returns
+    returns-2
+    returns-3)

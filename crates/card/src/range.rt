@@ -1,0 +1,24 @@
+// Positions in range, counted in naturals (01, "Numbers given in refusal").
+use arc::Refusal;
+use whole::Counted;
+ghost use mathlib.Core.Path.{_≡_};
+ghost use Rattle.card.specs.Held.{rangedOf};
+
+// A position counted from the South Pole and from 180° west.
+pub enum Ranged {
+    At { north: u64, east: u64 },
+    Refused(Refusal),
+}
+
+// Refuses 4, 5.
+pub fn count_position(lat: i64, lon: i64) -> Ranged
+    ensures { λ r. ⌜ r ≡ rangedOf lat lon ⌝ }
+{
+    let Counted::From(north) = whole::count_from(lat, 32_400_000) else {
+        return Ranged::Refused(arc::refused(4));
+    };
+    let Counted::From(east) = whole::count_from(lon, 64_800_000) else {
+        return Ranged::Refused(arc::refused(5));
+    };
+    Ranged::At { north, east }
+}
