@@ -95,7 +95,7 @@ GridsIs = (s zone a b : ℕ) → spacingOf s zone ≡ SpacingAnswer.Constants a 
 abbrev pub SpacingIs : Type 0
 SpacingIs = (u s : ℕ) → SpacingUnit u → Scale s → Spaced u s (spacingAt u s)
 
--- a smaller scale never has the wider spacing
+-- a larger S never has more pixels
 abbrev pub SpacingFalls : Type 0
 SpacingFalls = (u s t : ℕ) → SpacingUnit u → Scale s → Scale t → s ≤ t → spacingAt u t ≤ spacingAt u s
 

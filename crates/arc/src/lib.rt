@@ -16,7 +16,7 @@ pub struct Refusal {
     pub at: u64,
 }
 
-// For an answer whose value holds an array, and so stands beside it.
+// An answer with no value, or whose value holds an array and so stands beside it.
 pub enum Verdict {
     Accepted,
     Refused(Refusal),

@@ -15,8 +15,7 @@ use Rattle.arc.specs.declared.Refusal.{Refusal}
 use Rattle.arc.specs.declared.Verdict.{Verdict}
 use Rattle.arc.specs.Refusals.{refusal}
 use Rattle.card.specs.declared.Card.{Card}
-use Rattle.card.specs.Grid.{inTiles, inChart}
-use Rattle.card.specs.Held.{verdictOf}
+use Rattle.card.specs.Grid.{inTiles, inChart, verdictOf}
 use Rattle.card.proofs.Regions.{Within}
 
 -- a result

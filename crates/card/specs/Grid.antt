@@ -4,15 +4,18 @@
 --     rowOf k lat, columnOf k lon      the pixel at a position, before the bounds are looked at
 --     inTiles k r c, inChart k r c     the pixel is one of the card's tiles, of its chart rectangle
 --     placeOf, positionOf, pixelOf     what the methods `place`, `position`, `pixel` answer
+--     verdictOf, extentsOf             what `judge_pixel` and `extents` answer
 use Prim.Native.Nat.{ℕ, _*_}
 use mathlib.Core.Bool.{Bool, cond, _&&_}
 use mathlib.Core.List.{[], _∷_}
 use lib.IntN.{ℤ, pos, _+ℤ_, _-ℤ_, _*ℤ_}
 use lib.Signed.{leZ, ltZ}
 use Rattle.whole.specs.Whole.{nearest, modulo, outside}
+use Rattle.arc.specs.declared.Verdict.{Verdict}
 use Rattle.arc.specs.Refusals.{refusal, Report, answered, refusedWith}
 use Rattle.arc.specs.Zones.{circle, half, quarter}
 use Rattle.card.specs.declared.Card.{Card}
+use Rattle.card.specs.declared.Extents.{Extents}
 use Rattle.card.specs.declared.PlaceAnswer.{PlaceAnswer}
 use Rattle.card.specs.declared.PositionAnswer.{PositionAnswer}
 use Rattle.card.specs.declared.PixelAnswer.{PixelAnswer}
@@ -42,7 +45,7 @@ longitudeOf k c = intoRange (nearest (gridColumn k c *ℤ pos circle) (k .a))
 unfoldable pub rowOf : Card → ℤ → ℤ
 rowOf k lat = nearest (pos 128 *ℤ k .n *ℤ pos circle -ℤ lat *ℤ pos (k .b)) circle
 
--- the nearest whole number to (lon × A/H − 128m) modulo A, times H, then modulo A again (001 has the absolute difference and no second modulo)
+-- the nearest whole number to ((lon × A − 128 m H) modulo A H) / H, then modulo A again (001 has the absolute difference and no second modulo)
 unfoldable pub columnOf : Card → ℤ → ℤ
 columnOf k lon =
     modulo (nearest (modulo (lon *ℤ pos (k .a) -ℤ pos 128 *ℤ k .m *ℤ pos circle) (k .a * circle)) circle) (k .a)
@@ -54,6 +57,15 @@ inTiles k r c = (leZ (pos 0) r && ltZ r (pos (128 * k .nfl))) && (leZ (pos 0) c 
 -- 13 where this fails: the rectangle NUL..NLL by NLS..NUS is the chart
 abbrev pub inChart : Card → ℤ → ℤ → Bool
 inChart k r c = (leZ (pos (k .nul)) r && leZ r (pos (k .nll))) && (leZ (pos (k .nls)) c && leZ c (pos (k .nus)))
+
+-- the edges and the tiles down and across
+abbrev pub extentsOf : Card → Extents
+extentsOf k = record { nul = k .nul; nus = k .nus; nll = k .nll; nls = k .nls; nfl = k .nfl; nfc = k .nfc }
+
+-- 12, 13
+abbrev pub verdictOf : Card → ℤ → ℤ → Verdict
+verdictOf k r c =
+    cond (inTiles k r c) (cond (inChart k r c) Verdict.Accepted (Verdict.Refused (refusal 13))) (Verdict.Refused (refusal 12))
 
 -- 12
 unfoldable pub placeOf : Card → ℤ → ℤ → PlaceAnswer

@@ -29,7 +29,7 @@ abbrev pub digits : ℕ → ℕ → List ℕ
 digits zero v = []
 digits (suc w) v = (48 + v / 10 ^ w % 10) ∷ digits w v
 
--- the sign, the degrees, the minutes, the seconds, the dot and the hundredths of a size z
+-- the degrees, the minutes, the seconds, the dot and the hundredths of a size z
 abbrev pub sizeText : ℕ → ℕ → List ℕ
 sizeText d z = digits d (z / 360000) ++ digits 2 (z / 6000 % 60) ++ digits 2 (z / 100 % 60) ++ (46 ∷ []) ++ digits 2 (z % 100)
 

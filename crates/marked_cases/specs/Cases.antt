@@ -8,6 +8,7 @@ use mathlib.Core.List.{List, [], _∷_, _++_, map}
 use Prim.Native.Nat.{ℕ}
 use lib.IntN.{ℤ, pos, negℤ}
 use lib.ListN.{take}
+use Rattle.arc.specs.declared.SpacingAnswer.{SpacingAnswer}
 use Rattle.arc.specs.Refusals.{Report}
 use Rattle.arc.specs.Spacing.{spacingOf, spacingReport, rowsOf, constantReport}
 use Rattle.zones.specs.Basic.{basicZoneOf, zoneReport}
@@ -46,6 +47,15 @@ aOf scale zone = take 1 (spacingReport (spacingOf scale zone) .values)
 abbrev pub bOf : ℕ → List ℤ
 bOf scale = constantReport (rowsOf scale) .values
 
+-- the stored angles of n and of m
+abbrev pub storedRow : SpacingAnswer → ℤ → List ℤ
+storedRow (SpacingAnswer.Constants a b) n = stored b n ∷ []
+storedRow (SpacingAnswer.Refused r) n = []
+
+abbrev pub storedColumn : SpacingAnswer → ℤ → List ℤ
+storedColumn (SpacingAnswer.Constants a b) m = stored a m ∷ []
+storedColumn (SpacingAnswer.Refused r) m = []
+
 abbrev pub cases : List Case
 cases =
     -- 1:50,000 zone 1 has A 7,393,280
@@ -68,9 +78,9 @@ cases =
     -- at 1:5,000,000, 27,360,000 is covered by 8, 7, 6
     case (cover 5000000 (pos 27360000)) (map pos (3 ∷ 8 ∷ 7 ∷ 6 ∷ 0 ∷ 0 ∷ 0 ∷ [])) ∷
     -- at 1:1,000,000 zone 1, n = 100 stores 4,143,223
-    case (stored 400384 (pos 100) ∷ []) (pos 4143223 ∷ []) ∷
+    case (storedRow (spacingOf 1000000 1) (pos 100)) (pos 4143223 ∷ []) ∷
     -- m = −20 stores −897,507
-    case (stored 369664 (negℤ (pos 20)) ∷ []) (negℤ (pos 897507) ∷ []) ∷
+    case (storedColumn (spacingOf 1000000 1) (negℤ (pos 20))) (negℤ (pos 897507) ∷ []) ∷
     -- the card's pixel (1, 1) is 4,142,899 and −897,156
     case (positionReport (positionOf (readOf 1000000 1 card .card) (pos 1) (pos 1)) .values) (pos 4142899 ∷ negℤ (pos 897156) ∷ []) ∷
     []

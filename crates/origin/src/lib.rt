@@ -25,7 +25,7 @@ pub enum OriginAnswer {
 // 128 × H: a tile in hundredths of an arc-second, times the pixels of the circle.
 const TILE_ANGLE: u64 = Tile::SIDE * Circle::H;
 
-// The nearest hundredth to 128 × tiles × H / spacing, both counted from the pole or from 180° west.
+// The nearest hundredth to 128 × tiles × H / spacing, both counted from the South Pole or from 180° west.
 fn stored_at(tiles: u64, spacing: u64) -> u64
     requires { ⌜ Grid spacing ⌝ ∗ ⌜ 128 * tiles ≤ spacing ⌝ }
     ensures { λ r. ⌜ r ≡ near (tiles * 16588800000) spacing ⌝ }

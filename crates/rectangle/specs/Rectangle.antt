@@ -51,7 +51,7 @@ rectangleOf s south north = rectangleWith (rowsOf s) south north
 
 -- the paper's number, place and values: the length and the eighteen slots
 abbrev pub rectangleReport : RectangleAnswer → Report
-rectangleReport r = reportIn 19 (r .verdict) (r .length) (r .zones)
+rectangleReport r = reportIn (r .verdict) (r .length) (r .zones)
 
 -- ---- what "covers some latitude in it" is held to: proved in proofs/Some.antt
 

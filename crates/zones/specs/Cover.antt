@@ -67,7 +67,7 @@ coverOf s lat = coverWith (rowsOf s) lat
 
 -- the paper's number, place and values: the length and the six slots
 abbrev pub coverReport : CoverAnswer → Report
-coverReport c = reportIn 7 (c .verdict) (c .length) (c .zones)
+coverReport c = reportIn (c .verdict) (c .length) (c .zones)
 
 -- ---- what the list is held to: proved in proofs/Six.antt
 

@@ -3,7 +3,7 @@
 --     downFrom a n       a + n − 1, .., a + 1, a
 --     upFrom a n         a, a + 1, .., a + n − 1
 --     padded k l         l, and 0 in each slot after it, up to k slots
---     reportIn k v n l   the paper's number, place and k values, a length and the slots (01, "Numbers given in refusal")
+--     reportIn v n l     the paper's number, place and values, a length and the slots (01, "Numbers given in refusal")
 --     someFrom f z n     f holds of one of z, z + 1, .., z + n − 1
 use Prim.Native.Nat.{ℕ, zero, suc, _+_, _-_}
 use mathlib.Core.Bool.{Bool, false, cond, _||_}
@@ -11,7 +11,7 @@ use mathlib.Core.List.{List, [], _∷_, _++_, map}
 use lib.ListN.{length, replicate}
 use lib.IntN.{ℤ, pos, sucℤ}
 use Rattle.arc.specs.declared.Verdict.{Verdict}
-use Rattle.arc.specs.Refusals.{Report, answered, refusedWith}
+use Rattle.arc.specs.Refusals.{Report}
 
 abbrev pub those : (ℕ → Bool) → List ℕ → List ℕ
 those f [] = []
@@ -28,9 +28,16 @@ upFrom a (suc n) = a ∷ upFrom (a + 1) n
 abbrev pub padded : ℕ → List ℕ → List ℕ
 padded k l = l ++ replicate (k - length l) 0
 
-abbrev pub reportIn : ℕ → Verdict → ℕ → List ℕ → Report
-reportIn k Verdict.Accepted n l = answered (map pos (n ∷ l))
-reportIn k (Verdict.Refused r) n l = refusedWith r k
+abbrev pub numberOf : Verdict → ℕ
+numberOf Verdict.Accepted = 0
+numberOf (Verdict.Refused r) = r .number
+
+abbrev pub placeOf : Verdict → ℕ
+placeOf Verdict.Accepted = 0
+placeOf (Verdict.Refused r) = r .at
+
+abbrev pub reportIn : Verdict → ℕ → List ℕ → Report
+reportIn v n l = record { number = numberOf v; place = placeOf v; values = map pos (n ∷ l) }
 
 unfoldable pub someFrom : (ℤ → Bool) → ℤ → ℕ → Bool
 someFrom f z zero = false

@@ -1,6 +1,6 @@
 -- How the code asks of a row and a size of latitude: the laws that tie this to cover and rectangle are in proofs/. Definitions only.
 --     reaches b r size   the row and its overlap do not end before a latitude of that size
---     coverFrom b first i size    the zones from the row at i equatorward that reach the size; the row's zones are first + 0, first + 1, ..
+--     coverFrom b first i size    the zones from the row at i equatorward that reach the size; row j's zone is first + j
 --     Rows, Rowed        what the code's parts are handed
 use Prim.Native.Nat.{ℕ, _+_, _-_, _*_, _≤_, _<_}
 use mathlib.Core.Bool.{Bool, _||_}

@@ -6,7 +6,7 @@ use lib.IntN.{ℤ}
 use mir.Syntax.{w64}
 use mir.Val.{toZ, ofZ}
 use Rattle.arc.specs.declared.Verdict.{Verdict}
-use Rattle.card.specs.Grid.{inTiles, inChart}
+use Rattle.card.specs.Grid.{inTiles, inChart, verdictOf}
 use Rattle.card.proofs.Answers.{tested}
 use borrow.Author.Needs.{needs}
 use Rattle.card.proofs.Card.judge_pixel.Statement.{statement}
