@@ -1,0 +1,90 @@
+-- What one entry says, and where it lies, the lengths being right. Assumes nothing.
+use mathlib.Core.Path.{_≡_, refl, sym, ap, _∙_}
+use mathlib.Core.Bool.{Bool, true, false, cond, not, _||_, true≢false}
+use mathlib.Core.List.{List}
+use Prim.Native.Nat.{ℕ, _+_, _*_, _≤_, _<_}
+use native.Mathlib.Omega.{arith}
+use native.Mathlib.Nat.{add-mul, one-mul, mul-le-mul, mul-le-mul-right}
+use borrow.Author.Tests.{lt-ltb, le-ltb, eq-eqb, ne-eqb, ltb-false, eqb-true, eqb-false, not-false}
+use lib.Dec.{ltb, eqb}
+use lib.ListN.{length, getD}
+use Rattle.card.specs.declared.Card.{Card}
+use Rattle.tiles.specs.declared.NumberAnswer.{NumberAnswer}
+use Rattle.tiles.specs.Index.{tiles, countWrong, indexWrong, stored, missing, above, said, saidOf}
+use Rattle.tiles.specs.LookUp.{numberIn}
+use Rattle.tiles.specs.Held.{Sized}
+
+-- neither of two tests
+pub neither : (a b : Bool) → a || b ≡ false → (a ≡ false) × (b ≡ false)
+neither true b e = absurd (true≢false e)
+neither false b e = (refl, e)
+
+-- ---- lengths
+pub tiles-small : (k : Card) → Sized k → tiles k ≤ 998001
+tiles-small k s = mul-le-mul {n₂ = 999} {m₂ = 999} (s .rows) (s .columns)
+
+pub tile-inside : (q p down across : ℕ) → q < down → p < across → q * across + p < down * across
+tile-inside q p down across h g =
+    let m : (q + 1) * across ≤ down * across = mul-le-mul-right across (omega arith) in
+    omega (arith, add-mul q 1 across, one-mul across)
+
+module _ (k : Card) (index : List ℕ) (count : ℕ) (e : indexWrong k index count ≡ false) where
+  pub index-long : k .tif ≡ true → length index ≡ tiles k
+  unfolding indexWrong
+  index-long y = eqb-true (length index) (tiles k) (not-false _ (neither (not (eqb (length index) (tiles k))) (ltb (tiles k) count) (rw y at e) .0))
+
+  pub count-most : count ≤ tiles k
+  unfolding indexWrong
+  count-most = go (k .tif) (neither (not (eqb (length index) (cond (k .tif) (tiles k) 0))) (countWrong k count) e .1)
+    where
+      go : (b : Bool) → cond b (ltb (tiles k) count) (not (eqb count (tiles k))) ≡ false → count ≤ tiles k
+      go true t = ltb-false (tiles k) count t
+      go false t = omega (arith, eqb-true count (tiles k) (not-false _ t))
+
+  pub count-all : k .tif ≡ false → count ≡ tiles k
+  unfolding indexWrong
+  count-all y = eqb-true count (tiles k) (not-false _ (neither (not (eqb (length index) 0)) (not (eqb count (tiles k))) (rw y at e) .1))
+
+-- ---- what an entry says
+module _ (count e : ℕ) where
+  pub said-missing : e ≡ 0 → said count e ≡ missing
+  said-missing z = rw (eq-eqb e 0 z)
+
+  pub said-above : (e ≡ 0 → ⊥) → count < e → said count e ≡ above
+  said-above d h = rw (ne-eqb e 0 d, lt-ltb count e h)
+
+  pub said-stored : (e ≡ 0 → ⊥) → e ≤ count → said count e ≡ stored e
+  said-stored d h = rw (ne-eqb e 0 d, le-ltb count e h)
+
+module _ (k : Card) (index : List ℕ) (count t : ℕ) where
+  pub said-in : k .tif ≡ true → saidOf k index count t ≡ said count (getD index t 0)
+  unfolding saidOf
+  said-in y = rw y
+
+  pub said-all : k .tif ≡ false → saidOf k index count t ≡ stored (t + 1)
+  unfolding saidOf
+  said-all y = rw y
+
+-- ---- a stored number is 1 to count
+number-in : (t count e n : ℕ) → numberIn t (said count e) ≡ NumberAnswer.Stored n → (1 ≤ n) × (n ≤ count)
+number-in t count e n = go (eqb e 0) (ltb count e) refl refl
+  where
+    go : (a b : Bool) → eqb e 0 ≡ a → ltb count e ≡ b → numberIn t (cond a missing (cond b above (stored e))) ≡ NumberAnswer.Stored n → (1 ≤ n) × (n ≤ count)
+    go true b p q h = let z : _≡_ {A = ℕ} 0 1 = cc in absurd (omega arith)
+    go false true p q h = let z : _≡_ {A = ℕ} 0 1 = cc in absurd (omega arith)
+    go false false p q h =
+        let m : e ≡ n = cc in
+        let l : e ≤ count = ltb-false count e q in
+        let d : e ≡ 0 → ⊥ = eqb-false e 0 p in
+        (omega arith, omega arith)
+
+pub stored-number : (k : Card) (index : List ℕ) (count t n : ℕ) → indexWrong k index count ≡ false → t < tiles k → numberIn t (saidOf k index count t) ≡ NumberAnswer.Stored n
+    → (1 ≤ n) × (n ≤ count)
+stored-number k index count t n e h w = go (k .tif) refl
+  where
+    go : (b : Bool) → k .tif ≡ b → (1 ≤ n) × (n ≤ count)
+    go true y = number-in t count (getD index t 0) n (ap (numberIn t) (sym (said-in k index count t y)) ∙ w)
+    go false y =
+        let m : NumberAnswer.Stored (t + 1) ≡ NumberAnswer.Stored n = ap (numberIn t) (sym (said-all k index count t y)) ∙ w in
+        let s : t + 1 ≡ n = cc in
+        (omega arith, omega (arith, count-all k index count e y))

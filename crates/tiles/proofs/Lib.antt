@@ -1,0 +1,11 @@
+pub mod Sized
+pub mod Listed
+pub mod Counted
+pub mod Pass
+pub mod Entry
+pub mod Pixel
+pub mod Ahead
+pub mod Once
+pub mod Alike
+pub mod Apart
+pub mod Image

@@ -1,0 +1,111 @@
+-- The part is that of `tile`, and the three places lie in it. Assumes nothing.
+use mathlib.Core.Path.{_≡_, sym, ap, ap₂, _∙_}
+use mathlib.Core.List.{List}
+use Prim.Native.Nat.{ℕ, _+_, _*_, _%_}
+use native.Mathlib.Omega.{arith}
+use lib.ListN.{length, getD}
+use lib.IntN.{natAbs}
+use mir.Syntax.{w64}
+use mir.ValLaws.{toZ-ofZ}
+use Rattle.tiles.specs.declared.NumberAnswer.{NumberAnswer}
+use Rattle.tiles.specs.declared.BandsAnswer.{BandsAnswer}
+use Rattle.tiles.specs.LookUp.{numberOf, partOf, bandsOf}
+use Rattle.tiles.proofs.Pixel.{InStore, number-held, part-ends, part-length, number-plain}
+use borrow.Author.Needs.{needs}
+use Rattle.tiles.proofs.look_up.bands.Statement.{statement}
+use Rattle.tiles.proofs.look_up.bands.Tie as tie
+
+-- what the stored number is
+told : (c : tie.After-stored-number) → let a = c .before .before .before .args in c .stored-number .result ≡ numberOf (a .k) (a .index .now) (a .count) (a .store .now) (a .row) (a .column)
+told c = let s = c .before .before .before in
+    c .stored-number .ensures ∙ number-plain (s .args .k) (s .args .index .now) (s .args .count) (s .args .store .now) (s .args .row) (s .args .column) (s .fits .row) (s .fits .column)
+
+stored-at : (c : tie.After-known-told) → let a = c .before .before .before .before .before .before .args in numberOf (a .k) (a .index .now) (a .count) (a .store .now) (a .row) (a .column) ≡ NumberAnswer.Stored (c .before .n .given .0 .0)
+stored-at c = sym (told (c .before .before .before)) ∙ c .before .n .given .1
+
+held : (c : tie.After-known-told) → let a = c .before .before .before .before .before .before .args in InStore (c .before .n .given .0 .0) (a .count) (a .store .now)
+held c = number-held _ _ _ _ _ _ _ (stored-at c)
+
+long : (c : tie.After-part) → length (c .part .result .now) ≡ 49152
+long c = ap length (c .part .ensures) ∙ part-length _ _ _ (held (c .before))
+
+stored-number-requires : tie.Need-stored-number-requires
+stored-number-requires c κs = search needs
+
+enum-known-n : tie.Need-enum-known-n
+enum-known-n c = search needs
+
+part-requires : tie.Need-part-requires
+part-requires c κs = let h = held c in (h .some, part-ends _ _ _ h)
+
+size-requires : tie.Need-size-requires
+size-requires c κs = search needs
+
+mul-i : tie.Need-mul-i
+mul-i c = search needs
+
+size-requires-2 : tie.Need-size-requires-2
+size-requires-2 c κs = search needs
+
+add-i : tie.Need-add-i
+add-i c = search needs
+
+shared-slice-read-t20 : tie.Need-shared-slice-read-t20
+shared-slice-read-t20 c = omega (arith, long (c .before .before .before))
+
+add-t21 : tie.Need-add-t21
+add-t21 c = search needs
+
+shared-slice-read-t23 : tie.Need-shared-slice-read-t23
+shared-slice-read-t23 c = omega (arith, long (c .before .before .before .before))
+
+mul-t24 : tie.Need-mul-t24
+mul-t24 c = search needs
+
+add-t25 : tie.Need-add-t25
+add-t25 c = search needs
+
+shared-slice-read-t27 : tie.Need-shared-slice-read-t27
+shared-slice-read-t27 c = omega (arith, long (c .before .before .before .before .before))
+
+enum-known-e : tie.Need-enum-known-e
+enum-known-e c = search needs
+
+-- the three values at a place of a tile's band
+abbrev bandsAt : List ℕ → ℕ → BandsAnswer
+bandsAt p i = BandsAnswer.Bands (getD p i 0) (getD p (i + 16384) 0) (getD p (i + 32768) 0)
+
+made : {p q : List ℕ} {r s c d : ℕ} → p ≡ q → r ≡ s → c ≡ d → bandsAt p (r % 128 * 128 + c % 128) ≡ bandsAt q (s % 128 * 128 + d % 128)
+made e f g = ap₂ bandsAt e (ap₂ (λ (x y : ℕ). x % 128 * 128 + y % 128) f g)
+
+returns : tie.Need-returns
+unfolding bandsOf partOf
+returns c =
+    let s = c .before .before .before .before .before .before .before .before .before .before .before .before in
+    rw (stored-at (c .before .before .before .before .before .before))
+    (made (c .before .before .before .before .before .part .ensures) (c .before .before .before .before .size .ensures ∙ ap natAbs (toZ-ofZ w64 (s .args .row) (s .fits .row))) (c .before .before .before .size2 .ensures ∙ ap natAbs (toZ-ofZ w64 (s .args .column) (s .fits .column))))
+
+returns-2 : tie.Need-returns-2
+unfolding bandsOf
+returns-2 c = rw (sym (told (c .before .before .before)) ∙ c .before .e .given .1)
+
+pub bands-spec : {M : Type 1} → statement M
+bands-spec =
+    tie.close
+    (tie.spec
+    stored-number-requires
+    enum-known-n
+    part-requires
+    size-requires
+    mul-i
+    size-requires-2
+    add-i
+    shared-slice-read-t20
+    add-t21
+    shared-slice-read-t23
+    mul-t24
+    add-t25
+    shared-slice-read-t27
+    enum-known-e
+    returns
+    returns-2)

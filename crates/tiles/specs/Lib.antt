@@ -1,0 +1,5 @@
+pub mod Index
+pub mod Check
+pub mod LookUp
+pub mod Window
+pub mod Held

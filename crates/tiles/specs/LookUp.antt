@@ -1,0 +1,90 @@
+-- Looking up a pixel's tile: 6, 12, 13, 14, 15 (01, "Tiles"). Definitions, and what they are held to.
+--     storeWrong ..          the index, the count or the store is of the wrong length
+--     numberOf ..            what `stored_number` answers
+--     partOf ..              the bytes that `tile` hands back, none in a refusal
+--     bandsOf ..             what `bands` answers: red, green, blue
+use mathlib.Core.Path.{_≡_}
+use Prim.Native.Nat.{ℕ, _+_, _*_, _-_, _/_, _%_, _<_}
+use mathlib.Core.List.{List, [], _∷_}
+use mathlib.Core.Bool.{Bool, cond, not, _||_}
+use lib.Dec.{eqb}
+use lib.ListN.{length, getD, take, drop}
+use lib.IntN.{ℤ, pos, natAbs}
+use Rattle.arc.specs.declared.Refusal.{Refusal}
+use Rattle.arc.specs.Refusals.{refusal, refusalAt, Report, answered, refusedWith}
+use Rattle.card.specs.declared.Card.{Card}
+use Rattle.card.specs.Grid.{inTiles, inChart}
+use Rattle.tiles.specs.declared.NumberAnswer.{NumberAnswer}
+use Rattle.tiles.specs.declared.BandsAnswer.{BandsAnswer}
+use Rattle.tiles.specs.Index.{indexWrong, Said, stored, missing, above, saidOf, tileOf}
+
+-- a tile's bytes: red, green, blue, each 128 rows of 128 (POR 0)
+abbrev pub tileBytes : ℕ
+tileBytes = 49152
+
+abbrev pub bandBytes : ℕ
+bandBytes = 16384
+
+-- 6
+abbrev pub storeWrong : Card → List ℕ → ℕ → List ℕ → Bool
+storeWrong k index count store = indexWrong k index count || not (eqb (length store) (count * tileBytes))
+
+-- 14, 15, the place of 15 being the tile
+abbrev pub numberIn : ℕ → Said → NumberAnswer
+numberIn t (stored n) = NumberAnswer.Stored n
+numberIn t missing = NumberAnswer.Refused (refusal 14)
+numberIn t above = NumberAnswer.Refused (refusalAt 15 t)
+
+-- 6, 12, 13, 14, 15
+unfoldable pub numberOf : Card → List ℕ → ℕ → List ℕ → ℤ → ℤ → NumberAnswer
+numberOf k index count store r c =
+    cond (storeWrong k index count store) (NumberAnswer.Refused (refusal 6))
+    (cond (inTiles k r c)
+    (cond (inChart k r c)
+    (numberIn (tileOf k (natAbs r) (natAbs c)) (saidOf k index count (tileOf k (natAbs r) (natAbs c))))
+    (NumberAnswer.Refused (refusal 13)))
+    (NumberAnswer.Refused (refusal 12)))
+
+-- the n-th stored tile's bytes, a part of the store
+abbrev pub partIn : NumberAnswer → List ℕ → List ℕ
+partIn (NumberAnswer.Stored n) store = take tileBytes (drop ((n - 1) * tileBytes) store)
+partIn (NumberAnswer.Refused e) store = []
+
+unfoldable pub partOf : Card → List ℕ → ℕ → List ℕ → ℤ → ℤ → List ℕ
+partOf k index count store r c = partIn (numberOf k index count store r c) store
+
+-- a pixel's place in its tile's band
+abbrev pub inBand : ℤ → ℤ → ℕ
+inBand r c = natAbs r % 128 * 128 + natAbs c % 128
+
+abbrev pub bandsIn : NumberAnswer → List ℕ → ℕ → BandsAnswer
+bandsIn (NumberAnswer.Stored n) tile i = BandsAnswer.Bands (getD tile i 0) (getD tile (i + bandBytes) 0) (getD tile (i + 2 * bandBytes) 0)
+bandsIn (NumberAnswer.Refused e) tile i = BandsAnswer.Refused e
+
+unfoldable pub bandsOf : Card → List ℕ → ℕ → List ℕ → ℤ → ℤ → BandsAnswer
+bandsOf k index count store r c =
+    bandsIn (numberOf k index count store r c) (partOf k index count store r c) (inBand r c)
+
+-- ---- the paper's number, place and values
+
+abbrev pub numberReport : NumberAnswer → Report
+numberReport (NumberAnswer.Stored n) = answered (pos n ∷ [])
+numberReport (NumberAnswer.Refused e) = refusedWith e 1
+
+abbrev pub bandsReport : BandsAnswer → Report
+bandsReport (BandsAnswer.Bands x y z) = answered (pos x ∷ pos y ∷ pos z ∷ [])
+bandsReport (BandsAnswer.Refused e) = refusedWith e 3
+
+-- ---- what look-up is held to: proved in proofs/Alike.antt and proofs/Apart.antt
+
+-- of the index, only its length and that tile's entry matter
+abbrev pub OneEntry : Type 0
+OneEntry =
+    (k : Card) (index other : List ℕ) (count : ℕ) (store : List ℕ) (r c : ℤ) → length index ≡ length other
+    → getD index (tileOf k (natAbs r) (natAbs c)) 0 ≡ getD other (tileOf k (natAbs r) (natAbs c)) 0
+    → numberOf k index count store r c ≡ numberOf k other count store r c
+
+-- the parts of two different stored numbers do not overlap: no byte of the store is in both
+abbrev pub PartsApart : Type 0
+PartsApart =
+    (m n i j : ℕ) → 0 < m → 0 < n → (m ≡ n → ⊥) → i < tileBytes → j < tileBytes → (m - 1) * tileBytes + i ≡ (n - 1) * tileBytes + j → ⊥
