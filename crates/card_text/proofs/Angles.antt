@@ -1,0 +1,73 @@
+-- The values that the code keeps are those of the definitions: a number, an angle counted from its limit, a flag. Assumes nothing.
+use mathlib.Core.Path.{_≡_, refl}
+use mathlib.Core.Bool.{Bool, true, false, cond, not, _&&_}
+use mathlib.Core.List.{List}
+use Prim.Native.Nat.{ℕ, _*_, _-_, _≤_}
+use native.Mathlib.Omega.{arith}
+use borrow.Author.Tests.{leb-true}
+use lib.Dec.{leb, ltb, eqb}
+use lib.IntN.{pos, negℤ}
+use Rattle.arc.specs.declared.Verdict.{Verdict}
+use Rattle.whole.proofs.Signed.{Is, is-same, is-nat, is-neg}
+use Rattle.card.specs.Text.{minus, minutes, seconds, angleSize, angleOf, angleValid}
+use Rattle.card.specs.Layout.{LSO, PSO, layout, bytesOf, walk}
+use Rattle.card_text.specs.Judged.{shifted, valueIn}
+use Rattle.card_text.proofs.Runs.{and-l, and-r}
+use Rattle.card_text.proofs.Table.{right-value}
+
+-- ---- an angle of d degree digits
+module _ (d limit : ℕ) (s : List ℕ) where
+  pub size-high : angleValid d limit s ≡ true → angleSize d s ≤ limit
+  unfolding angleValid
+  size-high e =
+      let p : Bool = ltb (minutes d s) 60 && ltb (seconds d s) 60 in
+      let q : Bool = leb (angleSize d s) limit in
+      leb-true _ _ (and-r p q (and-l (p && q) (not (minus s && eqb (angleSize d s) 0)) e))
+
+  pub is-angle : angleSize d s ≤ limit → Is (angleOf d s) (shifted limit (minus s) (angleSize d s)) limit
+  unfolding angleOf
+  is-angle h = go (minus s)
+    where
+      go : (b : Bool) → Is (cond b (negℤ (pos (angleSize d s))) (pos (angleSize d s))) (shifted limit b (angleSize d s)) limit
+      go true =
+          is-same (negℤ (pos (angleSize d s))) 0 (angleSize d s) (limit - angleSize d s) limit
+          (is-neg (pos (angleSize d s)) (angleSize d s) 0 (is-nat (angleSize d s))) (omega arith)
+      go false = omega arith
+
+  pub angle-high : angleSize d s ≤ limit → shifted limit (minus s) (angleSize d s) ≤ 2 * limit
+  angle-high h = go (minus s)
+    where
+      go : (b : Bool) → shifted limit b (angleSize d s) ≤ 2 * limit
+      go true = omega arith
+      go false = omega arith
+
+-- ---- the two angles of a card whose subfields are right
+module _ (s : List ℕ) (w : walk layout s ≡ Verdict.Accepted) where
+  lso-size : angleSize 3 (bytesOf LSO s) ≤ 64800000
+  unfolding layout
+  lso-size = size-high 3 64800000 (bytesOf LSO s) (right-value s w 3 (omega arith))
+
+  pso-size : angleSize 2 (bytesOf PSO s) ≤ 32400000
+  unfolding layout
+  pso-size = size-high 2 32400000 (bytesOf PSO s) (right-value s w 4 (omega arith))
+
+  pub lso-is : Is (angleOf 3 (bytesOf LSO s)) (valueIn LSO s) 64800000
+  unfolding valueIn
+  lso-is = is-angle 3 64800000 (bytesOf LSO s) lso-size
+
+  pub pso-is : Is (angleOf 2 (bytesOf PSO s)) (valueIn PSO s) 32400000
+  unfolding valueIn
+  pso-is = is-angle 2 32400000 (bytesOf PSO s) pso-size
+
+  pub lso-high : valueIn LSO s ≤ 2 * 64800000
+  unfolding valueIn
+  lso-high = angle-high 3 64800000 (bytesOf LSO s) lso-size
+
+  pub pso-high : valueIn PSO s ≤ 2 * 32400000
+  unfolding valueIn
+  pso-high = angle-high 2 32400000 (bytesOf PSO s) pso-size
+
+-- a flag, kept as 1 or 0
+pub flag-is : (t : Bool) → eqb (cond t 1 0) 1 ≡ t
+flag-is true = refl
+flag-is false = refl

@@ -1,0 +1,226 @@
+-- Each test decides one case of `withValues`, in its order; the counted origin and the record make the card. Assumes nothing.
+use mathlib.Core.Path.{_≡_, sym, ap, ap₂, _∙_}
+use mathlib.Core.Bool.{Bool, cond, _&&_}
+use Prim.Native.Nat.{_*_, _/_, _≤_, _<_, _^_}
+use native.Mathlib.Omega.{arith}
+use borrow.Author.Tests.{not-true, not-false}
+use lib.Dec.{eqb}
+use lib.ListN.{getD}
+use lib.IntN.{ℤ}
+use lib.Signed.{mag}
+use mir.Syntax.{w64}
+use mir.Val.{toZ, ofZ}
+use mir.ValLaws.{toZ-ofZ}
+use Rattle.whole.specs.declared.Counted.{Counted}
+use Rattle.arc.specs.Refusals.{refusal}
+use Rattle.card.specs.declared.Reading.{Reading}
+use Rattle.card.specs.Read.{accepted, refused, withOrigin, withValues}
+use Rattle.card_text.specs.Found.{foundAt, tileAt, recordIn, cardFrom}
+use Rattle.card_text.proofs.Values.{pso-kept, lso-kept, north-high, east-high, values-are, extents-are}
+use borrow.Author.Needs.{needs}
+use Rattle.card_text.proofs.read.read_values.Statement.{statement}
+use Rattle.card_text.proofs.read.read_values.Tie as tie
+
+-- the places at which north, and then east, is found
+abbrev start : tie.After-known-told → tie.Start
+start c = c .before .before .before .before .before .before
+
+abbrev northward : tie.After-known-told2 → tie.After-known-told
+northward c = c .before .before .before .before
+
+abbrev spaced : tie.Start → Bool
+spaced s = eqb (getD (s .args .t6) 1 0) (s .args .a) && eqb (getD (s .args .t6) 2 0) (s .args .b)
+
+abbrev asked : tie.Start → Reading
+asked s = withValues (s .args .scale) (s .args .zone) (s .args .a) (s .args .b) (s .args .s .now)
+
+-- the reading of an origin
+abbrev placed : tie.Start → Counted → Counted → Reading
+placed s north east =
+    withOrigin (s .args .scale) (s .args .zone) (s .args .a) (s .args .b) (s .args .s .now) (tileAt (s .args .b / 512) north) (tileAt (s .args .a / 256) east)
+
+values : (s : tie.Start) → asked s
+    ≡ cond (spaced s) (placed s (foundAt (s .args .b) (getD (s .args .t6) 4 0)) (foundAt (s .args .a) (getD (s .args .t6) 3 0))) (refused (refusal 9))
+values s = values-are (s .pre .0) (s .pre .1 .0) (s .pre .1 .1) (s .args .scale) (s .args .zone)
+
+with-north : (c : tie.After-known-told) → asked (start c)
+    ≡ placed (start c) (Counted.From (c .before .north .given .0 .0)) (foundAt (start c .args .a) (getD (start c .args .t6) 3 0))
+with-north c =
+    rw (values (start c), not-false (spaced (start c)) (c .before .before .before .before .if1 .left), sym (c .before .before .before .tile-of .ensures) ∙ c .before .north .given .1)
+
+rows : (c : tie.After-known-told) → c .before .north .given .0 .0 ≤ 2 * (start c .args .b / 512)
+rows c =
+    let p = start c .pre in
+    north-high (p .0) (p .1 .0) (p .1 .1) (c .before .before .before .tile-of .ensures) (c .before .north .given .1)
+
+columns : (c : tie.After-known-told2) → c .before .east .given .0 .0 ≤ 2 * (start (northward c) .args .a / 256)
+columns c =
+    let p = start (northward c) .pre in
+    east-high (p .0) (p .1 .0) (p .1 .1) (c .before .before .before .tile-of2 .ensures) (c .before .east .given .1)
+
+-- a number handed on as the machine holds it
+told : {z y : ℤ} → mag z < 2 ^ 63 → z ≡ y → toZ w64 (ofZ w64 z) ≡ y
+told {z} f e = toZ-ofZ w64 z (record { sfits = f }) ∙ e
+
+abbrev eastward : tie.After-extents-hold → tie.After-known-told2
+eastward c = c .before .before .before .before
+
+abbrev made : tie.After-extents-hold → Reading
+made c =
+    let s = start (northward (eastward c)) in
+    accepted (cardFrom (s .args .scale) (s .args .zone) (s .args .a) (s .args .b) (northward (eastward c) .before .north .given .0 .0) (eastward c .before .east .given .0 .0) (c .before .record-in .result))
+
+answer : (c : tie.After-extents-hold) {ok : Bool} → c .extents-hold .result ≡ ok → asked (start (northward (eastward c))) ≡ cond ok (made c) (refused (refusal 11))
+answer c q =
+    let e = eastward c in
+    let s = start (northward e) in
+    let n = told (c .before .before .before .difference .ok) (c .before .before .before .difference .ensures) in
+    let m = told (c .before .before .difference2 .ok) (c .before .before .difference2 .ensures) in
+    rw (with-north (northward e), sym (e .before .before .before .tile-of2 .ensures) ∙ e .before .east .given .1)
+    (extents-are (s .args .scale) (s .args .zone) (s .args .a) (s .args .b) _ _ (s .args .s .now) _ _
+    (c .before .record-in .ensures ∙ ap₂ (λ (x y : ℤ). recordIn x y (s .args .s .now)) n m) (sym q ∙ c .extents-hold .ensures))
+
+array-read-if1 : tie.Need-array-read-if1
+array-read-if1 c = search needs
+
+array-read-if1-2 : tie.Need-array-read-if1-2
+array-read-if1-2 c = search needs
+
+refused-requires : tie.Need-refused-requires
+refused-requires c κs = search needs
+
+refused-with-requires : tie.Need-refused-with-requires
+refused-with-requires c κs = search needs
+
+returns : tie.Need-returns
+returns c =
+    let s = c .before .before .before .before in
+    rw (values s, not-true (spaced s) (c .before .before .if1 .taken)) (c .refused-with .ensures ∙ ap refused (c .before .refused .ensures))
+
+array-read-tile-of : tie.Need-array-read-tile-of
+array-read-tile-of c = search needs
+
+tile-of-requires : tie.Need-tile-of-requires
+tile-of-requires c κs = let s = c .before .before in (s .pre .1 .0, omega (arith, pso-kept (s .pre .0) (s .pre .1 .0) (s .pre .1 .1)))
+
+enum-known-north : tie.Need-enum-known-north
+enum-known-north c = search needs
+
+enum-told : tie.Need-enum-told
+enum-told c = search needs
+
+refused-requires-2 : tie.Need-refused-requires-2
+refused-requires-2 c κs = search needs
+
+refused-with-requires-2 : tie.Need-refused-with-requires-2
+refused-with-requires-2 c κs = search needs
+
+returns-2 : tie.Need-returns-2
+returns-2 c =
+    let s = c .before .before .before .before .before .before .before in
+    rw (values s, not-false (spaced s) (c .before .before .before .before .before .if1 .left), sym (c .before .before .before .before .tile-of .ensures) ∙ c .before .before .enum-told .given .1)
+    (c .refused-with2 .ensures ∙ ap refused (c .before .refused2 .ensures))
+
+array-read-tile-of-2 : tie.Need-array-read-tile-of-2
+array-read-tile-of-2 c = search needs
+
+tile-of-requires-2 : tie.Need-tile-of-requires-2
+tile-of-requires-2 c κs = let s = start c in (s .pre .0, omega (arith, lso-kept (s .pre .0) (s .pre .1 .0) (s .pre .1 .1)))
+
+enum-known-east : tie.Need-enum-known-east
+enum-known-east c = search needs
+
+enum-told-2 : tie.Need-enum-told-2
+enum-told-2 c = search needs
+
+refused-requires-3 : tie.Need-refused-requires-3
+refused-requires-3 c κs = search needs
+
+refused-with-requires-3 : tie.Need-refused-with-requires-3
+refused-with-requires-3 c κs = search needs
+
+returns-3 : tie.Need-returns-3
+returns-3 c =
+    rw (with-north (c .before .before .before .before .before), sym (c .before .before .before .before .tile-of2 .ensures) ∙ c .before .before .enum-told2 .given .1)
+    (c .refused-with3 .ensures ∙ ap refused (c .before .refused3 .ensures))
+
+cast-difference : tie.Need-cast-difference
+cast-difference c = omega (arith, rows (northward c), start (northward c) .pre .1 .0 .most)
+
+cast-difference-2 : tie.Need-cast-difference-2
+cast-difference-2 c = search needs
+
+difference-requires : tie.Need-difference-requires
+difference-requires c κs = search needs
+
+cast-difference-3 : tie.Need-cast-difference-3
+cast-difference-3 c = omega (arith, columns (c .before), start (northward (c .before)) .pre .0 .most)
+
+cast-difference-4 : tie.Need-cast-difference-4
+cast-difference-4 c = search needs
+
+difference-requires-2 : tie.Need-difference-requires-2
+difference-requires-2 c κs = search needs
+
+record-in-requires : tie.Need-record-in-requires
+record-in-requires c κs = search needs
+
+extents-hold-requires : tie.Need-extents-hold-requires
+extents-hold-requires c κs = search needs
+
+refused-requires-4 : tie.Need-refused-requires-4
+refused-requires-4 c κs = search needs
+
+refused-with-requires-4 : tie.Need-refused-with-requires-4
+refused-with-requires-4 c κs = search needs
+
+returns-4 : tie.Need-returns-4
+returns-4 c =
+    let x = c .before .before .before in
+    rw (answer x (not-true (x .extents-hold .result) (c .before .before .if2 .taken))) (c .refused-with4 .ensures ∙ ap refused (c .before .refused4 .ensures))
+
+card-of-requires : tie.Need-card-of-requires
+card-of-requires c κs =
+    let east = c .before .before .before .before .before in
+    let s = start (northward east) in
+    (omega (arith, rows (northward east), s .pre .1 .0 .most), omega (arith, columns east, s .pre .0 .most))
+
+returns-5 : tie.Need-returns-5
+returns-5 c = let x = c .before .before in rw (answer x (not-false (x .extents-hold .result) (c .before .if2 .left))) (ap accepted (c .card-of .ensures))
+
+pub read-values-spec : {M : Type 1} → statement M
+read-values-spec =
+    tie.close
+    (tie.spec
+    array-read-if1
+    array-read-if1-2
+    refused-requires
+    refused-with-requires
+    returns
+    array-read-tile-of
+    tile-of-requires
+    enum-known-north
+    enum-told
+    refused-requires-2
+    refused-with-requires-2
+    returns-2
+    array-read-tile-of-2
+    tile-of-requires-2
+    enum-known-east
+    enum-told-2
+    refused-requires-3
+    refused-with-requires-3
+    returns-3
+    cast-difference
+    cast-difference-2
+    difference-requires
+    cast-difference-3
+    cast-difference-4
+    difference-requires-2
+    record-in-requires
+    extents-hold-requires
+    refused-requires-4
+    refused-with-requires-4
+    returns-4
+    card-of-requires
+    returns-5)

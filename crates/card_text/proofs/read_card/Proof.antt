@@ -1,0 +1,44 @@
+-- The spacing is asked first, and a pair of constants that it answers is on the grid, as `read_spaced` requires. Assumes nothing.
+use mathlib.Core.Path.{sym, _∙_}
+use Rattle.arc.proofs.Answered.{answered-grids}
+use Rattle.card.specs.Read.{readIn}
+use borrow.Author.Needs.{needs}
+use Rattle.card_text.proofs.read_card.Statement.{statement}
+use Rattle.card_text.proofs.read_card.Tie as tie
+
+spacing-requires : tie.Need-spacing-requires
+spacing-requires c κs = search needs
+
+enum-known-a : tie.Need-enum-known-a
+enum-known-a c = search needs
+
+read-spaced-requires : tie.Need-read-spaced-requires
+read-spaced-requires c κs =
+    let s = c .before .before .before .before .before in
+    let g = answered-grids (s .args .scale) (s .args .zone) _ _ (sym (c .before .before .before .spacing .ensures) ∙ c .before .a .given .1) in
+    (g .columns, g .rows)
+
+enum-known-r : tie.Need-enum-known-r
+enum-known-r c = search needs
+
+refused-with-requires : tie.Need-refused-with-requires
+refused-with-requires c κs = search needs
+
+returns : tie.Need-returns
+returns c = rw (sym (c .before .before .before .before .spacing .ensures) ∙ c .before .before .a .given .1) (c .read-spaced .ensures)
+
+returns-2 : tie.Need-returns-2
+unfolding readIn
+returns-2 c = rw (sym (c .before .before .before .before .spacing .ensures) ∙ c .before .before .r .given .1) (c .refused-with .ensures)
+
+pub read-card-spec : {M : Type 1} → statement M
+read-card-spec =
+    tie.close
+    (tie.spec
+    spacing-requires
+    enum-known-a
+    read-spaced-requires
+    enum-known-r
+    refused-with-requires
+    returns
+    returns-2)

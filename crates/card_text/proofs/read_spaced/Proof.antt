@@ -1,0 +1,90 @@
+-- Each test decides one case of `readIn`, in its order; the one pass over the layout is the walk, with its values. Assumes nothing.
+use mathlib.Core.Path.{_≡_, sym, ap, _∙_}
+use borrow.Author.Tests.{eq-eqb, ne-eqb}
+use lib.ListN.{length}
+use Rattle.arc.specs.declared.SpacingAnswer.{SpacingAnswer}
+use Rattle.arc.specs.declared.Verdict.{Verdict}
+use Rattle.card.specs.Layout.{layout, walk}
+use Rattle.card.specs.Read.{refused, withValues, afterWalk, readIn}
+use Rattle.card_text.specs.declared.fields.Fields.{Fields}
+use borrow.Author.Needs.{needs}
+use Rattle.card_text.proofs.read_spaced.Statement.{statement}
+use Rattle.card_text.proofs.read_spaced.Tie as tie
+
+-- past the length
+abbrev start : tie.After-fields-in → tie.Start
+start c = c .before .before .before .before
+
+walked : (c : tie.After-fields-in) {v : Verdict} → c .fields-in .result .verdict ≡ v → walk layout (start c .args .bytes .now) ≡ v
+walked c e = sym (ap (λ (f : Fields). f .verdict) (c .fields-in .ensures)) ∙ e
+
+past : (c : tie.After-fields-in) {v : Verdict} → c .fields-in .result .verdict ≡ v
+    → readIn (start c .args .scale) (start c .args .zone) (SpacingAnswer.Constants (start c .args .a) (start c .args .b)) (start c .args .bytes .now)
+    ≡ afterWalk v (withValues (start c .args .scale) (start c .args .zone) (start c .args .a) (start c .args .b) (start c .args .bytes .now))
+unfolding readIn
+past c e = rw (c .before .before .if1 .left, eq-eqb (length (start c .args .bytes .now)) 98 (c .before .if2 .left), walked c e)
+
+refused-requires : tie.Need-refused-requires
+refused-requires c κs = search needs
+
+refused-with-requires : tie.Need-refused-with-requires
+refused-with-requires c κs = search needs
+
+returns : tie.Need-returns
+unfolding readIn
+returns c = rw (c .before .before .if1 .taken) (c .refused-with .ensures ∙ ap refused (c .before .refused .ensures))
+
+refused-requires-2 : tie.Need-refused-requires-2
+refused-requires-2 c κs = search needs
+
+refused-with-requires-2 : tie.Need-refused-with-requires-2
+refused-with-requires-2 c κs = search needs
+
+returns-2 : tie.Need-returns-2
+unfolding readIn
+returns-2 c =
+    rw (c .before .before .before .if1 .left, ne-eqb (length (c .before .before .before .before .before .args .bytes .now)) 98 (c .before .before .if2 .taken))
+    (c .refused-with2 .ensures ∙ ap refused (c .before .refused2 .ensures))
+
+fields-in-requires : tie.Need-fields-in-requires
+fields-in-requires c κs = search needs
+
+enum-told : tie.Need-enum-told
+enum-told c = search needs
+
+read-values-requires : tie.Need-read-values-requires
+read-values-requires c κs =
+    let x = c .before .before .before in
+    let s = start x in
+    let kept = ap (λ (f : Fields). f .values) (x .fields-in .ensures) in
+    (s .pre .0, (s .pre .1, record { long = x .before .if2 .left; walks = walked x (c .enum-told .given .1); kept = kept }))
+
+enum-known-verdict : tie.Need-enum-known-verdict
+enum-known-verdict c = search needs
+
+refused-with-requires-3 : tie.Need-refused-with-requires-3
+refused-with-requires-3 c κs = search needs
+
+returns-3 : tie.Need-returns-3
+returns-3 c = rw (past (c .before .before .before .before) (c .before .enum-told .given .1)) (c .read-values .ensures)
+
+returns-4 : tie.Need-returns-4
+returns-4 c = rw (past (c .before .before .before .before .before) (c .before .before .verdict .given .1)) (c .refused-with3 .ensures)
+
+pub read-spaced-spec : {M : Type 1} → statement M
+read-spaced-spec =
+    tie.close
+    (tie.spec
+    refused-requires
+    refused-with-requires
+    returns
+    refused-requires-2
+    refused-with-requires-2
+    returns-2
+    fields-in-requires
+    enum-told
+    read-values-requires
+    enum-known-verdict
+    refused-with-requires-3
+    returns-3
+    returns-4)

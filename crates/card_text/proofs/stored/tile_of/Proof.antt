@@ -1,0 +1,54 @@
+-- The nearest tile is at most one past the circle, so no product is too large; the one test decides the case. Assumes nothing.
+use mathlib.Core.Path.{ap}
+use Prim.Native.Nat.{ℕ, _+_, _*_, _≤_}
+use native.Mathlib.Nat.{mul-le-mul}
+use native.Mathlib.Omega.{arith}
+use borrow.Author.Tests.{eq-eqb, ne-eqb}
+use Rattle.whole.proofs.Machine.{fits-mul}
+use Rattle.whole.proofs.Near.{near-low}
+use Rattle.card_text.specs.Found.{tileAngle, foundAt}
+use Rattle.card_text.proofs.stored.tile_of.Statement.{statement}
+use Rattle.card_text.proofs.stored.tile_of.Tie as tie
+
+product : (s : tie.Start) → s .args .angle * s .args .spacing ≤ 129600000 * 80076800
+product s = mul-le-mul (s .pre .1) (s .pre .0 .most)
+
+back : (c : tie.After-nearest) → c .nearest .result * 16588800000 ≤ 129600000 * 80076800 + 16588800000
+back c =
+    omega (
+      arith,
+      product (c .before),
+      ap (λ (k : ℕ). k * tileAngle) (c .nearest .ensures),
+      near-low tileAngle (omega arith) (c .before .args .angle * c .before .args .spacing),
+    )
+
+mul-nearest : tie.Need-mul-nearest
+mul-nearest c = fits-mul 129600000 80076800 tt (c .pre .1) (c .pre .0 .most)
+
+nearest-requires : tie.Need-nearest-requires
+nearest-requires c κs = (omega (arith, product c), (omega arith, omega arith))
+
+mul-nearest-2 : tie.Need-mul-nearest-2
+mul-nearest-2 c = omega (arith, back c)
+
+nearest-requires-2 : tie.Need-nearest-requires-2
+nearest-requires-2 c κs = (omega (arith, back c), (omega (arith, c .before .pre .0 .some), omega (arith, c .before .pre .0 .most)))
+
+returns : tie.Need-returns
+unfolding foundAt
+returns c =
+    let k = c .before .before .nearest .ensures in
+    let s = c .before .before .before .args in
+    rw (← k, ← c .before .nearest2 .ensures, eq-eqb (c .before .nearest2 .result) (s .angle) (c .if1 .taken))
+
+returns-2 : tie.Need-returns-2
+unfolding foundAt
+returns-2 c =
+    let k = c .before .before .nearest .ensures in
+    let s = c .before .before .before .args in
+    rw (← k, ← c .before .nearest2 .ensures, ne-eqb (c .before .nearest2 .result) (s .angle) (c .if1 .left))
+
+pub tile-of-spec : {M : Type 1} → statement M
+tile-of-spec =
+    tie.close
+    (tie.spec mul-nearest nearest-requires mul-nearest-2 nearest-requires-2 returns returns-2)

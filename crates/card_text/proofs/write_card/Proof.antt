@@ -1,0 +1,45 @@
+-- The spacing is asked first, and a pair of constants that it answers is on the grid, as `write_spaced` requires. Assumes nothing.
+use mathlib.Core.Path.{refl, sym, _∙_}
+use Rattle.arc.proofs.Answered.{answered-grids}
+use Rattle.card.specs.Write.{writeOf, outOf}
+use borrow.Author.Needs.{needs}
+use Rattle.card_text.proofs.write_card.Statement.{statement}
+use Rattle.card_text.proofs.write_card.Tie as tie
+
+spacing-requires : tie.Need-spacing-requires
+spacing-requires c κs = search needs
+
+enum-known-a : tie.Need-enum-known-a
+enum-known-a c = search needs
+
+write-spaced-requires : tie.Need-write-spaced-requires
+write-spaced-requires c κs =
+    let s = c .before .before .before .before .before .before in
+    let g = answered-grids (s .args .scale) (s .args .zone) _ _ (sym (c .before .before .before .before .spacing .ensures) ∙ c .before .before .a .given .1) in
+    (g .columns, g .rows)
+
+enum-known-e : tie.Need-enum-known-e
+enum-known-e c = search needs
+
+same-length : tie.Need-same-length
+same-length c = search needs
+
+returns : tie.Need-returns
+unfolding writeOf outOf
+returns c = rw (sym (c .before .before .before .before .before .before .before .spacing .ensures) ∙ c .before .before .before .before .before .a .given .1) (c .before .before .write-spaced .ensures)
+
+returns-2 : tie.Need-returns-2
+unfolding writeOf outOf
+returns-2 c = rw (sym (c .before .before .before .spacing .ensures) ∙ c .before .e .given .1) (refl, refl)
+
+pub write-card-spec : {M : Type 1} → statement M
+write-card-spec =
+    tie.close
+    (tie.spec
+    spacing-requires
+    enum-known-a
+    write-spaced-requires
+    enum-known-e
+    same-length
+    returns
+    returns-2)

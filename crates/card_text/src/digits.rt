@@ -1,0 +1,90 @@
+// Bytes, runs of digits and runs of letters (01, "The image card, 98 bytes").
+ghost use mathlib.Core.Path.{_≡_};
+ghost use Prim.Native.Nat.{_+_, _-_, _≤_, _<_};
+ghost use lib.ListN.{length};
+ghost use Rattle.card.specs.Text.{part, isDigit, isNameByte, all, nameLaid};
+ghost use Rattle.card_text.specs.Judged.{digitsOf};
+
+// A run of digits: its number, and whether each byte is a digit.
+pub struct Digits {
+    pub value: u64,
+    pub ok: bool,
+}
+
+// b − 48, and 0 where that is below it.
+fn digit(b: u8) -> u64
+    ensures { λ r. ⌜ r ≡ b - 48 ⌝ }
+{
+    if b < 48 { 0 } else { (b - 48) as u64 }
+}
+
+// 0 to 9.
+fn is_digit(b: u8) -> bool
+    ensures { λ r. ⌜ r ≡ isDigit b ⌝ }
+{
+    (48 <= b) & (b <= 57)
+}
+
+// A capital letter or a digit.
+fn is_name_byte(b: u8) -> bool
+    ensures { λ r. ⌜ r ≡ isNameByte b ⌝ }
+{
+    ((65 <= b) & (b <= 90)) | ((48 <= b) & (b <= 57))
+}
+
+// The w bytes of s from offset o.
+pub fn bytes_at<'a>(s: &'a [u8], o: usize, w: usize) -> &'a [u8]
+    requires { ⌜ o + w ≤ length (now s) ⌝ }
+    ensures { λ r. ⌜ now r ≡ part o w (now (s .entry)) ⌝ ∗ ⌜ length (now r) ≡ w ⌝ }
+{
+    &s[o..o + w]
+}
+
+// A run of digits, read once.
+pub fn digits_of(s: &[u8]) -> Digits
+    requires { ⌜ length (now s) ≤ 8 ⌝ }
+    ensures { λ r. ⌜ r ≡ digitsOf (now (s .entry)) ⌝ ∗ ⌜ r .value < 2300000000 ⌝ }
+{
+    let mut value: u64 = 0;
+    let mut ok = true;
+    let mut i = 0;
+    while i < s.len() {
+        let b = s[i];
+        value = value * 10 + digit(b);
+        ok = ok & is_digit(b);
+        i += 1;
+    }
+    Digits { value, ok }
+}
+
+// The run of w digits from offset o.
+pub fn digits_at(s: &[u8], o: usize, w: usize) -> Digits
+    requires { ⌜ o + w ≤ length (now s) ⌝ ∗ ⌜ w ≤ 8 ⌝ }
+    ensures { λ r. ⌜ r ≡ digitsOf (part o w (now (s .entry))) ⌝ ∗ ⌜ r .value < 2300000000 ⌝ }
+{
+    digits_of(bytes_at(s, o, w))
+}
+
+// Whether each byte is a capital letter or a digit.
+fn all_named(s: &[u8]) -> bool
+    ensures { λ r. ⌜ r ≡ all isNameByte (now (s .entry)) ⌝ }
+{
+    let mut ok = true;
+    let mut i = 0;
+    while i < s.len() {
+        ok = ok & is_name_byte(s[i]);
+        i += 1;
+    }
+    ok
+}
+
+// Eight letters or digits, a dot, three more.
+pub fn name_laid(s: &[u8]) -> bool
+    requires { ⌜ length (now s) ≡ 12 ⌝ }
+    ensures { λ r. ⌜ r ≡ nameLaid (now (s .entry)) ⌝ }
+{
+    let first = all_named(bytes_at(s, 0, 8));
+    let dot = s[8];
+    let last = all_named(bytes_at(s, 9, 3));
+    first & (dot == 46) & last
+}

@@ -1,0 +1,56 @@
+// Reads and writes the 98 bytes of the image card (002, 3.17.1; 01, "The image card, 98 bytes").
+use arc::{SpacingAnswer, Verdict};
+use card::{Reading, Record};
+ghost use mathlib.Core.Path.{_≡_};
+ghost use Rattle.arc.specs.declared.SpacingAnswer.{SpacingAnswer};
+ghost use Rattle.arc.specs.Spacing.{Grid};
+ghost use Rattle.card.specs.Read.{readIn, readOf};
+ghost use Rattle.card.specs.Write.{writeOf, outOf};
+
+mod digits;
+mod fields;
+mod layout;
+mod put;
+mod read;
+mod stored;
+mod write;
+
+// Reading, the spacing being known. Refuses 3, 6, the subfields' 7 and 8, 9, 10, 11.
+fn read_spaced(scale: u64, zone: u64, a: u64, b: u64, bytes: &[u8]) -> Reading
+    requires { ⌜ Grid a ⌝ ∗ ⌜ Grid b ⌝ }
+    ensures { λ r. ⌜ r ≡ readIn scale zone (SpacingAnswer.Constants a b) (now (bytes .entry)) ⌝ }
+{
+    if (zone == 9) | (zone == 18) {
+        return read::refused_with(arc::refused(3));
+    }
+    if bytes.len() != 98 {
+        return read::refused_with(arc::refused(6));
+    }
+    let f = fields::fields_in(bytes);
+    let verdict = f.verdict;
+    let values = f.values;
+    match verdict {
+        Verdict::Accepted => read::read_values(scale, zone, a, b, bytes, values),
+        Verdict::Refused(r) => read::refused_with(r),
+    }
+}
+
+// Reads a card of scale 1:S and a zone. Refuses 1, 2, 3, 6, the subfields' 7 and 8, 9, 10, 11.
+pub fn read_card(scale: u64, zone: u64, bytes: &[u8]) -> Reading
+    ensures { λ r. ⌜ r ≡ readOf scale zone (now (bytes .entry)) ⌝ }
+{
+    match arc::spacing(scale, zone) {
+        SpacingAnswer::Constants { a, b } => read_spaced(scale, zone, a, b, bytes),
+        SpacingAnswer::Refused(r) => read::refused_with(r),
+    }
+}
+
+// Writes a record as a card of scale 1:S and a zone. Refuses 1, 2, 3, 6, NFL, NFC (8), BAD (7), 10, 11; on a refusal the output stays.
+pub fn write_card(scale: u64, zone: u64, r: Record, out: &mut [u8]) -> Verdict
+    ensures { λ v. ⌜ (v ≡ writeOf scale zone r (now (out .entry))) × (now (out .exit) ≡ outOf scale zone r (now (out .entry))) ⌝ }
+{
+    match arc::spacing(scale, zone) {
+        SpacingAnswer::Constants { a, b } => write::write_spaced(zone, a, b, r, out),
+        SpacingAnswer::Refused(e) => Verdict::Refused(e),
+    }
+}
