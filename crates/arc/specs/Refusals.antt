@@ -1,6 +1,7 @@
 -- What a refusal carries, and what the paper has of any answer (01, "Numbers given in refusal"). Definitions only.
 --     refusal n          the refusal of number n, its place 0
 --     refusalAt n p      the refusal of number n at the place p
+--     refusalOf v        what `Verdict::refusal` answers: number and place 0 where accepted
 --     answered vs        a report that refuses nothing, with the value parts vs
 --     refusedWith r k    the report of a refusal, its k value parts 0
 use Prim.Native.Nat.{ℕ}
@@ -8,6 +9,7 @@ use mathlib.Core.List.{List}
 use lib.ListN.{replicate}
 use lib.IntN.{ℤ, pos}
 use Rattle.arc.specs.declared.Refusal.{Refusal}
+use Rattle.arc.specs.declared.Verdict.{Verdict}
 
 -- the place is 0 save for 7, 8 and 15
 abbrev pub refusal : ℕ → Refusal
@@ -15,6 +17,10 @@ refusal n = record { number = n; at = 0 }
 
 abbrev pub refusalAt : ℕ → ℕ → Refusal
 refusalAt n p = record { number = n; at = p }
+
+abbrev pub refusalOf : Verdict → Refusal
+refusalOf Verdict.Accepted = refusal 0
+refusalOf (Verdict.Refused r) = r
 
 -- number given in refusal (0 where none is), place and value parts
 pub record Report : Type 0 where

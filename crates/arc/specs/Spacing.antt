@@ -18,6 +18,8 @@ use lib.IntN.{pos, natAbs}
 use Rattle.whole.specs.Whole.{ceilDiv}
 use Rattle.arc.specs.declared.ConstantAnswer.{ConstantAnswer}
 use Rattle.arc.specs.declared.SpacingAnswer.{SpacingAnswer}
+use Rattle.arc.specs.declared.parts.ConstantParts.{ConstantParts}
+use Rattle.arc.specs.declared.parts.SpacingParts.{SpacingParts}
 use Rattle.arc.specs.Refusals.{refusal, Report, answered, refusedWith}
 use Rattle.arc.specs.Zones.{circle, Row, rowOf}
 
@@ -50,15 +52,21 @@ withRows s (ConstantAnswer.Refused r) = SpacingAnswer.Refused r
 abbrev pub spacingOf : ℕ → ℕ → SpacingAnswer
 spacingOf s zone = cond (isScale s) (withRows s (columnsOf s zone)) (SpacingAnswer.Refused (refusal 1))
 
--- ---- the paper's number, place and values
+-- ---- the paper's number, place and values: of an answer, and as `into_parts` tells them
 
 abbrev pub constantReport : ConstantAnswer → Report
 constantReport (ConstantAnswer.Pixels a) = answered (pos a ∷ [])
 constantReport (ConstantAnswer.Refused r) = refusedWith r 1
 
+abbrev pub constantTold : ConstantParts → Report
+constantTold p = record { number = p .number; place = p .at; values = pos (p .pixels) ∷ [] }
+
 abbrev pub spacingReport : SpacingAnswer → Report
 spacingReport (SpacingAnswer.Constants a b) = answered (pos a ∷ pos b ∷ [])
 spacingReport (SpacingAnswer.Refused r) = refusedWith r 2
+
+abbrev pub spacingTold : SpacingParts → Report
+spacingTold p = record { number = p .number; place = p .at; values = pos (p .a) ∷ pos (p .b) ∷ [] }
 
 -- ---- what a spacing is held to, for every unit and scale: proved in proofs/Spaced.antt
 

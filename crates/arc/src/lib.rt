@@ -4,9 +4,11 @@ ghost use Rattle.arc.specs.Refusals.{refusal};
 ghost use Rattle.arc.specs.Spacing.{rowsOf, spacingOf};
 
 mod limits;
+mod parts;
 mod units;
 mod zone;
 pub use limits::{equatorward, poleward};
+pub use parts::{ConstantParts, SpacingParts};
 pub use units::{Circle, Scales, Tile, is_scale};
 pub use zone::{Meridian, Zone1, Zone2, Zone3, Zone4, Zone5, Zone6, Zone7, Zone8, Zone9};
 

@@ -19,6 +19,9 @@ use Rattle.card.specs.declared.Extents.{Extents}
 use Rattle.card.specs.declared.PlaceAnswer.{PlaceAnswer}
 use Rattle.card.specs.declared.PositionAnswer.{PositionAnswer}
 use Rattle.card.specs.declared.PixelAnswer.{PixelAnswer}
+use Rattle.card.specs.declared.parts.PlaceParts.{PlaceParts}
+use Rattle.card.specs.declared.parts.PositionParts.{PositionParts}
+use Rattle.card.specs.declared.parts.PixelParts.{PixelParts}
 
 abbrev pub placeRow : Card → ℤ → ℤ
 placeRow k r = pos 128 *ℤ k .n -ℤ r
@@ -92,16 +95,25 @@ pixelOf k lat lon =
     (cond (outside half lon) (PixelAnswer.Refused (refusal 5))
     (pixelAt k (rowOf k lat) (columnOf k lon)))
 
--- ---- the paper's number, place and values
+-- ---- the paper's number, place and values: of an answer, and as `into_parts` tells them
 
 abbrev pub placeReport : PlaceAnswer → Report
 placeReport (PlaceAnswer.At u v) = answered (u ∷ v ∷ [])
 placeReport (PlaceAnswer.Refused r) = refusedWith r 2
 
+abbrev pub placeTold : PlaceParts → Report
+placeTold p = record { number = p .number; place = p .at; values = p .row ∷ p .column ∷ [] }
+
 abbrev pub positionReport : PositionAnswer → Report
 positionReport (PositionAnswer.At lat lon) = answered (lat ∷ lon ∷ [])
 positionReport (PositionAnswer.Refused r) = refusedWith r 2
 
+abbrev pub positionTold : PositionParts → Report
+positionTold p = record { number = p .number; place = p .at; values = p .lat ∷ p .lon ∷ [] }
+
 abbrev pub pixelReport : PixelAnswer → Report
 pixelReport (PixelAnswer.At r c) = answered (r ∷ c ∷ [])
 pixelReport (PixelAnswer.Refused e) = refusedWith e 2
+
+abbrev pub pixelTold : PixelParts → Report
+pixelTold p = record { number = p .number; place = p .at; values = p .row ∷ p .column ∷ [] }

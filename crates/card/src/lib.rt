@@ -4,9 +4,14 @@ use arc::Verdict;
 
 mod centre;
 mod grid;
+mod parts;
 mod range;
 
 pub use centre::offset_from;
+pub use parts::OffsetParts;
+pub use parts::PixelParts;
+pub use parts::PlaceParts;
+pub use parts::PositionParts;
 
 // What may stand in a subfield (01, "The image card, 98 bytes").
 pub enum Kind {

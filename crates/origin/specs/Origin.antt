@@ -20,6 +20,7 @@ use Rattle.arc.specs.Zones.{circle, half, quarter, tile, isPolar}
 use Rattle.arc.specs.Spacing.{spacingOf, Grid}
 use Rattle.origin.specs.declared.Origin.{Origin}
 use Rattle.origin.specs.declared.OriginAnswer.{OriginAnswer}
+use Rattle.origin.specs.declared.parts.OriginParts.{OriginParts}
 
 abbrev pub rowTiles : ℕ → ℤ → ℤ
 rowTiles b lat = ceilDiv (lat *ℤ pos b) (tile * circle)
@@ -51,10 +52,14 @@ alignIn zone (SpacingAnswer.Refused r) lat lon = OriginAnswer.Refused r
 abbrev pub alignOf : ℕ → ℕ → ℤ → ℤ → OriginAnswer
 alignOf s zone lat lon = alignIn zone (spacingOf s zone) lat lon
 
--- the paper's number, place and values: n, m and the two stored angles
+-- ---- the paper's number, place and values, n, m and the two stored angles: of an answer, and as `into_parts` tells them
+
 abbrev pub originReport : OriginAnswer → Report
 originReport (OriginAnswer.Aligned o) = answered (o .n ∷ o .m ∷ o .pso ∷ o .lso ∷ [])
 originReport (OriginAnswer.Refused r) = refusedWith r 4
+
+abbrev pub originTold : OriginParts → Report
+originTold p = record { number = p .number; place = p .at; values = p .n ∷ p .m ∷ p .pso ∷ p .lso ∷ [] }
 
 -- ---- what an origin is held to: proved in proofs/Aligned.antt
 

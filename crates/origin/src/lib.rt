@@ -9,6 +9,10 @@ ghost use Rattle.arc.specs.declared.SpacingAnswer.{SpacingAnswer};
 ghost use Rattle.arc.specs.Spacing.{Grid};
 ghost use Rattle.origin.specs.Origin.{originOf, alignIn, alignOf};
 
+mod parts;
+
+pub use parts::OriginParts;
+
 // An origin: n and m in tiles, and the angles that a card stores for them.
 pub struct Origin {
     pub n: i64,

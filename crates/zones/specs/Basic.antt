@@ -14,6 +14,7 @@ use Rattle.whole.specs.Whole.{outside}
 use Rattle.arc.specs.Refusals.{refusal, Report, answered, refusedWith}
 use Rattle.arc.specs.Zones.{quarter, Row, table, from, to, noRow}
 use Rattle.zones.specs.declared.ZoneAnswer.{ZoneAnswer}
+use Rattle.zones.specs.declared.parts.ZoneParts.{ZoneParts}
 
 -- a limit belongs to the poleward zone, and 90° to the polar zones
 abbrev pub holds : Row → ℕ → Bool
@@ -37,7 +38,11 @@ basicZone lat = zoneOn lat (rowHolding (natAbs lat))
 abbrev pub basicZoneOf : ℤ → ZoneAnswer
 basicZoneOf lat = cond (outside quarter lat) (ZoneAnswer.Refused (refusal 4)) (ZoneAnswer.Zone (basicZone lat))
 
--- the paper's number, place and values
+-- ---- the paper's number, place and value: of an answer, and as `into_parts` tells them
+
 abbrev pub zoneReport : ZoneAnswer → Report
 zoneReport (ZoneAnswer.Zone z) = answered (pos z ∷ [])
 zoneReport (ZoneAnswer.Refused r) = refusedWith r 1
+
+abbrev pub zoneTold : ZoneParts → Report
+zoneTold p = record { number = p .number; place = p .at; values = pos (p .zone) ∷ [] }

@@ -11,7 +11,7 @@ use mathlib.Core.List.{List, [], _∷_, _++_, map}
 use lib.ListN.{length, replicate}
 use lib.IntN.{ℤ, pos, sucℤ}
 use Rattle.arc.specs.declared.Verdict.{Verdict}
-use Rattle.arc.specs.Refusals.{Report}
+use Rattle.arc.specs.Refusals.{refusalOf, Report}
 
 abbrev pub those : (ℕ → Bool) → List ℕ → List ℕ
 those f [] = []
@@ -28,16 +28,8 @@ upFrom a (suc n) = a ∷ upFrom (a + 1) n
 abbrev pub padded : ℕ → List ℕ → List ℕ
 padded k l = l ++ replicate (k - length l) 0
 
-abbrev pub numberOf : Verdict → ℕ
-numberOf Verdict.Accepted = 0
-numberOf (Verdict.Refused r) = r .number
-
-abbrev pub placeOf : Verdict → ℕ
-placeOf Verdict.Accepted = 0
-placeOf (Verdict.Refused r) = r .at
-
 abbrev pub reportIn : Verdict → ℕ → List ℕ → Report
-reportIn v n l = record { number = numberOf v; place = placeOf v; values = map pos (n ∷ l) }
+reportIn v n l = record { number = refusalOf v .number; place = refusalOf v .at; values = map pos (n ∷ l) }
 
 unfoldable pub someFrom : (ℤ → Bool) → ℤ → ℕ → Bool
 someFrom f z zero = false

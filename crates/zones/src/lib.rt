@@ -7,6 +7,10 @@ ghost use Rattle.zones.specs.Basic.{rowHolding, basicZoneOf};
 ghost use Rattle.zones.specs.Cover.{firstZone, listed, coverAt, coverOf, refusedCover};
 ghost use Rattle.zones.specs.Stretch.{coverFrom, Rows, Rowed};
 
+mod parts;
+
+pub use parts::ZoneParts;
+
 // The basic zone.
 pub enum ZoneAnswer {
     Zone(u64),
