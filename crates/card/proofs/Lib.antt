@@ -9,3 +9,4 @@ pub mod Answers
 pub mod Ranges
 pub mod Doubles
 pub mod Applied
+pub mod Answered

@@ -5,6 +5,7 @@ pub mod Read
 pub mod Write
 pub mod Grid
 pub mod NoDrift
+pub mod Ranges
 pub mod Offset
 pub mod RoundTrips
 pub mod Held

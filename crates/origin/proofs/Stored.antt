@@ -1,15 +1,17 @@
--- A stored angle fixes its tile: a tile is at least 207 hundredths, and a stored angle is within half a hundredth. Assumes nothing.
+-- A stored angle fixes its tile: a tile is at least 207 hundredths, and a stored angle is within half a hundredth. At 180° it is exact.
+-- Assumes nothing.
 use mathlib.Core.Path.{_≡_, ap}
-use Prim.Native.Nat.{ℕ, _+_, _-_, _*_, _≤_, _<_}
+use Prim.Native.Nat.{ℕ, _+_, _-_, _*_, _/_, _≤_, _<_}
 use native.Mathlib.Nat.{mul-right-comm, le-mul-of-pos-right}
 use native.Mathlib.Omega.{arith}
-use lib.IntN.{ℤ}
+use lib.IntN.{ℤ, pos}
 use Rattle.whole.specs.Whole.{near}
-use Rattle.whole.proofs.Signed.{Is, is-same, is-equal, equal-is, is-parts, over, under}
-use Rattle.whole.proofs.Near.{near-low, near-high}
+use Rattle.whole.proofs.Signed.{Is, is-nat, is-same, is-equal, equal-is, is-parts, over, under}
+use Rattle.whole.proofs.Near.{near-low, near-high, near-is}
+use Rattle.arc.specs.Zones.{half}
 use Rattle.arc.specs.Spacing.{Grid}
-use Rattle.origin.specs.Origin.{stored, StoredFixes}
-use Rattle.origin.proofs.Axis.{Axis, tileAngle, stored-is}
+use Rattle.origin.specs.Origin.{stored, StoredFixes, DateLineKept}
+use Rattle.origin.proofs.Axis.{Axis, tileAngle, longitudes, stored-is}
 
 module _ (x : ℕ) (g : Grid x) where
   some : 0 < x
@@ -48,3 +50,12 @@ module _ (x : ℕ) (g : Grid x) where
 
 pub stored-unique : StoredFixes
 stored-unique = fixes
+
+-- twice the way to the zero meridian is the whole circle, exactly
+pub date-line : DateLineKept
+date-line a g =
+    let axis = longitudes a g in
+    let t : ℕ = a / 256 in
+    let two : Is (pos t) (2 * t) t = omega arith in
+    let e : near (2 * t * tileAngle) a ≡ 2 * half = near-is a (axis .some) (2 * t * tileAngle) (2 * half) (omega (arith, axis .exact)) (omega (arith, axis .exact, axis .some)) in
+    is-equal (stored a (pos t)) (pos half) (near (2 * t * tileAngle) a) half half 0 (stored-is axis (pos t) (2 * t) two) (is-nat half) (omega arith)

@@ -61,7 +61,7 @@ originReport (OriginAnswer.Refused r) = refusedWith r 4
 abbrev pub originTold : OriginParts → Report
 originTold p = record { number = p .number; place = p .at; values = p .n ∷ p .m ∷ p .pso ∷ p .lso ∷ [] }
 
--- ---- what an origin is held to: proved in proofs/Aligned.antt
+-- ---- what an origin is held to: proved in proofs/Aligned.antt and proofs/Stored.antt
 
 -- n and m as the paper states them
 pub record Aligned (a b : ℕ) (lat lon : ℤ) (o : Origin) : Type 0 where
@@ -89,3 +89,7 @@ AlignedOnGrid =
 -- a stored angle fixes its tile
 abbrev pub StoredFixes : Type 0
 StoredFixes = (x : ℕ) → Grid x → (k j : ℤ) → stored x k ≡ stored x j → k ≡ j
+
+-- alignment keeps +180° for m = A/256 (01, "Units and the zone table")
+abbrev pub DateLineKept : Type 0
+DateLineKept = (a : ℕ) → Grid a → stored a (pos (a / 256)) ≡ pos half
