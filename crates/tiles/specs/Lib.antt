@@ -3,3 +3,4 @@ pub mod Check
 pub mod LookUp
 pub mod Window
 pub mod Held
+pub mod Parts

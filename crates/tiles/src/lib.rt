@@ -8,6 +8,7 @@ ghost use Rattle.tiles.specs.Held.{Sized};
 
 mod check;
 mod look_up;
+mod parts;
 mod scan;
 
 pub use check::index_check;
@@ -15,6 +16,9 @@ pub use look_up::bands;
 pub use look_up::stored_number;
 pub use look_up::tile;
 pub use scan::window;
+pub use parts::BandsParts;
+pub use parts::NumberParts;
+pub use parts::WindowParts;
 
 // The stored number of a tile, from 1.
 pub enum NumberAnswer {
