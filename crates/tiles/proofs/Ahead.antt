@@ -25,7 +25,8 @@ module _ (k : Card) (index : List ℕ) (count : ℕ) where
   -- a row begins, and ends
   pub enter : (top left r height width : ℕ) → r < height
       → scan k index count (windowTiles k (top + r) left (height - r) width)
-      ≡ scan k index count (rowTiles ((top + r) * k .nfc + left + 0) (width - 0) ++ windowTiles k (top + (r + 1)) left (height - (r + 1)) width)
+      ≡ scan k index count (rowTiles ((top + r) * k .nfc + left + 0) (width - 0) ++ windowTiles k (top + (r + 1)) left
+      (height - (r + 1)) width)
   enter top left r height width h =
       let e : height - r ≡ suc (height - (r + 1)) = omega arith in
       let f : (top + r) * k .nfc + left + 0 ≡ (top + r) * k .nfc + left = omega arith in
@@ -33,25 +34,30 @@ module _ (k : Card) (index : List ℕ) (count : ℕ) where
       let i : top + (r + 1) ≡ top + r + 1 = omega arith in
       rw (e, f, g, i)
 
-  pub leave : (s c width : ℕ) (rest : List ℕ) → width ≤ c → scan k index count (rowTiles (s + c) (width - c) ++ rest) ≡ scan k index count rest
+  pub leave : (s c width : ℕ) (rest : List ℕ) → width ≤ c
+      → scan k index count (rowTiles (s + c) (width - c) ++ rest) ≡ scan k index count rest
   leave s c width rest h = let e : width - c ≡ 0 = omega arith in rw e
 
-  pub done : (top left r height width : ℕ) → height ≤ r → scan k index count (windowTiles k (top + r) left (height - r) width) ≡ WindowAnswer.AllStored
+  pub done : (top left r height width : ℕ) → height ≤ r
+      → scan k index count (windowTiles k (top + r) left (height - r) width) ≡ WindowAnswer.AllStored
   done top left r height width h = let e : height - r ≡ 0 = omega arith in rw e
 
   -- c columns into a row of `width` from s, with the tiles `rest` below it
   module _ (y : k .tif ≡ true) (s c width : ℕ) (rest : List ℕ) (h : c < width) where
     next : (v : Said) → said count (getD index (s + c) 0) ≡ v
-        → scan k index count (rowTiles (s + c) (width - c) ++ rest) ≡ scanned (s + c) v (scan k index count (rowTiles (s + (c + 1)) (width - (c + 1)) ++ rest))
+        → scan k index count (rowTiles (s + c) (width - c) ++ rest)
+        ≡ scanned (s + c) v (scan k index count (rowTiles (s + (c + 1)) (width - (c + 1)) ++ rest))
     next v e =
         let f : s + c + 1 ≡ s + (c + 1) = omega arith in
         rw (row-step (s + c) (width - c) (width - (c + 1)) (omega arith), f, said-in k index count (s + c) y, e)
 
     pub advance : (getD index (s + c) 0 ≡ 0 → ⊥) → getD index (s + c) 0 ≤ count
-        → scan k index count (rowTiles (s + c) (width - c) ++ rest) ≡ scan k index count (rowTiles (s + (c + 1)) (width - (c + 1)) ++ rest)
+        → scan k index count (rowTiles (s + c) (width - c) ++ rest)
+        ≡ scan k index count (rowTiles (s + (c + 1)) (width - (c + 1)) ++ rest)
     advance d p = next (stored (getD index (s + c) 0)) (said-stored count (getD index (s + c) 0) d p)
 
-    pub at-missing : getD index (s + c) 0 ≡ 0 → scan k index count (rowTiles (s + c) (width - c) ++ rest) ≡ WindowAnswer.Missing (s + c)
+    pub at-missing : getD index (s + c) 0 ≡ 0
+        → scan k index count (rowTiles (s + c) (width - c) ++ rest) ≡ WindowAnswer.Missing (s + c)
     at-missing z = next missing (said-missing count (getD index (s + c) 0) z)
 
     pub at-above : (getD index (s + c) 0 ≡ 0 → ⊥) → count < getD index (s + c) 0
@@ -59,5 +65,7 @@ module _ (k : Card) (index : List ℕ) (count : ℕ) where
     at-above d p = next above (said-above count (getD index (s + c) 0) d p)
 
 -- the tile lies in the index
-pub within : (top r height across left width c down : ℕ) → r < height → c < width → left + width ≤ across → top + height ≤ down → (top + r) * across + left + c < down * across
-within top r height across left width c down p q f g = omega (arith, tile-inside (top + r) (left + c) down across (omega arith) (omega arith))
+pub within : (top r height across left width c down : ℕ) → r < height → c < width → left + width ≤ across
+    → top + height ≤ down → (top + r) * across + left + c < down * across
+within top r height across left width c down p q f g =
+    omega (arith, tile-inside (top + r) (left + c) down across (omega arith) (omega arith))

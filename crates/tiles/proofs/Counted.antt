@@ -1,4 +1,4 @@
--- How many of the numbers 1 .. n occur among some entries: each is counted once, so all occur where n are counted. Assumes nothing.
+-- How many of the numbers 1 .. n occur: each is counted once, so all occur where n are counted. Assumes nothing.
 use mathlib.Core.Path.{_≡_, refl, sym, ap, _∙_}
 use mathlib.Core.Bool.{Bool, true, false, cond, _&&_, _||_, or-true, or-false, or-assoc}
 use mathlib.Core.List.{List, [], _∷_, _++_}
@@ -12,7 +12,8 @@ use Rattle.tiles.specs.Check.{occurs, named}
 -- one entry more
 pub occurs-more : (e x : ℕ) (l : List ℕ) → occurs e (l ++ (x ∷ [])) ≡ occurs e l || eqb x e
 occurs-more e x [] = or-false (eqb x e)
-occurs-more e x (y ∷ l) = ap (λ (b : Bool). eqb y e || b) (occurs-more e x l) ∙ sym (or-assoc (eqb y e) (occurs e l) (eqb x e))
+occurs-more e x (y ∷ l) = ap (λ (b : Bool). eqb y e || b) (occurs-more e x l)
+    ∙ sym (or-assoc (eqb y e) (occurs e l) (eqb x e))
 
 pub occurs-other : (e x : ℕ) (l : List ℕ) → (x ≡ e → ⊥) → occurs e (l ++ (x ∷ [])) ≡ occurs e l
 occurs-other e x l d = occurs-more e x l ∙ ap (λ (b : Bool). occurs e l || b) (ne-eqb x e d) ∙ or-false (occurs e l)
@@ -31,16 +32,23 @@ counted-none (suc n) = omega (arith, counted-none n)
 -- an entry that is none of 1 .. n
 pub counted-same : (l : List ℕ) (x n : ℕ) → ((j : ℕ) → j < n → x ≡ suc j → ⊥) → counted (l ++ (x ∷ [])) n ≡ counted l n
 counted-same l x zero d = refl
-counted-same l x (suc n) d = rw (occurs-other (suc n) x l (d n (omega arith)), counted-same l x n (λ j q. d j (omega arith)))
+counted-same l x (suc n) d =
+    rw (occurs-other (suc n) x l (d n (omega arith)), counted-same l x n (λ j q. d j (omega arith)))
 
 -- an entry that is one of them, and new
-pub counted-new : (l : List ℕ) (x n : ℕ) → 1 ≤ x → x ≤ n → occurs x l ≡ false → counted (l ++ (x ∷ [])) n ≡ counted l n + 1
+pub counted-new : (l : List ℕ) (x n : ℕ) → 1 ≤ x → x ≤ n → occurs x l ≡ false
+    → counted (l ++ (x ∷ [])) n ≡ counted l n + 1
 counted-new l x zero p q o = absurd (omega arith)
 counted-new l x (suc n) p q o = go (ℕ-discrete x (suc n)) (λ h. counted-new l x n p h o)
   where
-    go : Dec (x ≡ suc n) → (x ≤ n → counted (l ++ (x ∷ [])) n ≡ counted l n + 1) → counted (l ++ (x ∷ [])) (suc n) ≡ counted l (suc n) + 1
+    go : Dec (x ≡ suc n) → (x ≤ n → counted (l ++ (x ∷ [])) n ≡ counted l n + 1)
+        → counted (l ++ (x ∷ [])) (suc n) ≡ counted l (suc n) + 1
     go (yes e) w =
-        rw (occurs-last (suc n) x l e, sym (ap (λ (y : ℕ). occurs y l) e) ∙ o, counted-same l x n (λ j h d. omega arith)) (omega arith)
+        rw (
+          occurs-last (suc n) x l e,
+          sym (ap (λ (y : ℕ). occurs y l) e) ∙ o,
+          counted-same l x n (λ j h d. omega arith),
+        ) (omega arith)
     go (no d) w = rw (occurs-other (suc n) x l d, w (omega arith)) (omega arith)
 
 pub counted-le : (l : List ℕ) (n : ℕ) → counted l n ≤ n

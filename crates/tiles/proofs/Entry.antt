@@ -31,7 +31,8 @@ tile-inside q p down across h g =
 module _ (k : Card) (index : List ℕ) (count : ℕ) (e : indexWrong k index count ≡ false) where
   pub index-long : k .tif ≡ true → length index ≡ tiles k
   unfolding indexWrong
-  index-long y = eqb-true (length index) (tiles k) (not-false _ (neither (not (eqb (length index) (tiles k))) (ltb (tiles k) count) (rw y at e) .0))
+  index-long y = eqb-true (length index) (tiles k)
+      (not-false _ (neither (not (eqb (length index) (tiles k))) (ltb (tiles k) count) (rw y at e) .0))
 
   pub count-most : count ≤ tiles k
   unfolding indexWrong
@@ -43,7 +44,8 @@ module _ (k : Card) (index : List ℕ) (count : ℕ) (e : indexWrong k index cou
 
   pub count-all : k .tif ≡ false → count ≡ tiles k
   unfolding indexWrong
-  count-all y = eqb-true count (tiles k) (not-false _ (neither (not (eqb (length index) 0)) (not (eqb count (tiles k))) (rw y at e) .1))
+  count-all y = eqb-true count (tiles k)
+      (not-false _ (neither (not (eqb (length index) 0)) (not (eqb count (tiles k))) (rw y at e) .1))
 
 -- ---- what an entry says
 module _ (count e : ℕ) where
@@ -69,7 +71,8 @@ module _ (k : Card) (index : List ℕ) (count t : ℕ) where
 number-in : (t count e n : ℕ) → numberIn t (said count e) ≡ NumberAnswer.Stored n → (1 ≤ n) × (n ≤ count)
 number-in t count e n = go (eqb e 0) (ltb count e) refl refl
   where
-    go : (a b : Bool) → eqb e 0 ≡ a → ltb count e ≡ b → numberIn t (cond a missing (cond b above (stored e))) ≡ NumberAnswer.Stored n → (1 ≤ n) × (n ≤ count)
+    go : (a b : Bool) → eqb e 0 ≡ a → ltb count e ≡ b
+        → numberIn t (cond a missing (cond b above (stored e))) ≡ NumberAnswer.Stored n → (1 ≤ n) × (n ≤ count)
     go true b p q h = let z : _≡_ {A = ℕ} 0 1 = cc in absurd (omega arith)
     go false true p q h = let z : _≡_ {A = ℕ} 0 1 = cc in absurd (omega arith)
     go false false p q h =
@@ -78,13 +81,15 @@ number-in t count e n = go (eqb e 0) (ltb count e) refl refl
         let d : e ≡ 0 → ⊥ = eqb-false e 0 p in
         (omega arith, omega arith)
 
-pub stored-number : (k : Card) (index : List ℕ) (count t n : ℕ) → indexWrong k index count ≡ false → t < tiles k → numberIn t (saidOf k index count t) ≡ NumberAnswer.Stored n
+pub stored-number : (k : Card) (index : List ℕ) (count t n : ℕ) → indexWrong k index count ≡ false → t < tiles k
+    → numberIn t (saidOf k index count t) ≡ NumberAnswer.Stored n
     → (1 ≤ n) × (n ≤ count)
 stored-number k index count t n e h w = go (k .tif) refl
   where
     go : (b : Bool) → k .tif ≡ b → (1 ≤ n) × (n ≤ count)
     go true y = number-in t count (getD index t 0) n (ap (numberIn t) (sym (said-in k index count t y)) ∙ w)
     go false y =
-        let m : NumberAnswer.Stored (t + 1) ≡ NumberAnswer.Stored n = ap (numberIn t) (sym (said-all k index count t y)) ∙ w in
+        let m : NumberAnswer.Stored (t + 1) ≡ NumberAnswer.Stored n =
+        ap (numberIn t) (sym (said-all k index count t y)) ∙ w in
         let s : t + 1 ≡ n = cc in
         (omega arith, omega (arith, count-all k index count e y))

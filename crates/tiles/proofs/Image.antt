@@ -23,38 +23,52 @@ row-join t (suc a) n =
     let f : t + suc a ≡ t + 1 + a = omega arith in
     rw (e, f, row-join (t + 1) a n)
 
-whole-rows : (k : Card) (top height : ℕ) → windowTiles k top 0 height (k .nfc) ≡ rowTiles (top * k .nfc) (height * k .nfc)
+whole-rows : (k : Card) (top height : ℕ)
+    → windowTiles k top 0 height (k .nfc) ≡ rowTiles (top * k .nfc) (height * k .nfc)
 whole-rows k top zero = let e : 0 * k .nfc ≡ 0 = omega arith in rw e
 whole-rows k top (suc height) =
     let e : top * k .nfc + 0 ≡ top * k .nfc = omega arith in
     let f : (top + 1) * k .nfc ≡ top * k .nfc + k .nfc = omega (arith, add-mul top 1 (k .nfc), one-mul (k .nfc)) in
-    let g : suc height * k .nfc ≡ k .nfc + height * k .nfc = omega (arith, add-mul height 1 (k .nfc), one-mul (k .nfc), ap (λ (x : ℕ). x * k .nfc) (add-one height)) in
+    let g : suc height * k .nfc ≡ k .nfc + height * k .nfc =
+    omega (arith, add-mul height 1 (k .nfc), one-mul (k .nfc), ap (λ (x : ℕ). x * k .nfc) (add-one height)) in
     rw (e, whole-rows k (top + 1) height, f, g, row-join (top * k .nfc) (k .nfc) (height * k .nfc))
 
 module _ (k : Card) (index : List ℕ) (count : ℕ) where
   abbrev Stored : ℕ → Type 0
   Stored t = (n : ℕ) × (saidOf k index count t ≡ stored n)
 
-  scan-stored : (t n : ℕ) → scan k index count (rowTiles t n) ≡ WindowAnswer.AllStored → (j : ℕ) → t ≤ j → j < t + n → Stored j
+  scan-stored : (t n : ℕ) → scan k index count (rowTiles t n) ≡ WindowAnswer.AllStored → (j : ℕ) → t ≤ j → j < t + n
+      → Stored j
   scan-stored t zero e j p q = absurd (omega arith)
   scan-stored t (suc n) e j p q = go (saidOf k index count t) refl e (scan-stored (t + 1) n) (ℕ-discrete j t)
     where
-      go : (v : Said) → saidOf k index count t ≡ v → scanned t v (scan k index count (rowTiles (t + 1) n)) ≡ WindowAnswer.AllStored
-          → (scan k index count (rowTiles (t + 1) n) ≡ WindowAnswer.AllStored → (x : ℕ) → t + 1 ≤ x → x < t + 1 + n → Stored x) → Dec (j ≡ t) → Stored j
+      go : (v : Said) → saidOf k index count t ≡ v
+          → scanned t v (scan k index count (rowTiles (t + 1) n)) ≡ WindowAnswer.AllStored
+          → (scan k index count (rowTiles (t + 1) n) ≡ WindowAnswer.AllStored → (x : ℕ) → t + 1 ≤ x → x < t + 1 + n
+          → Stored x) → Dec (j ≡ t) → Stored j
       go (stored m) o w f (yes d) = (m, ap (saidOf k index count) d ∙ o)
       go (stored m) o w f (no d) = f w j (omega arith) (omega arith)
       go missing o w f d = let z : _≡_ {A = ℕ} 0 1 = cc in absurd (omega arith)
       go above o w f d = let z : _≡_ {A = ℕ} 0 1 = cc in absurd (omega arith)
 
-  stored-scan : (t n : ℕ) → ((j : ℕ) → t ≤ j → j < t + n → Stored j) → scan k index count (rowTiles t n) ≡ WindowAnswer.AllStored
+  stored-scan : (t n : ℕ) → ((j : ℕ) → t ≤ j → j < t + n → Stored j)
+      → scan k index count (rowTiles t n) ≡ WindowAnswer.AllStored
   stored-scan t zero f = refl
-  stored-scan t (suc n) f = rw (f t (omega arith) (omega arith) .1) (stored-scan (t + 1) n (λ j p q. f j (omega arith) (omega arith)))
+  stored-scan t (suc n) f =
+      rw (f t (omega arith) (omega arith) .1) (stored-scan (t + 1) n (λ j p q. f j (omega arith) (omega arith)))
 
-  window-is : indexWrong k index count ≡ false → windowOf k index count 0 0 (k .nfl) (k .nfc) ≡ scan k index count (rowTiles 0 (tiles k))
+  window-is : indexWrong k index count ≡ false
+      → windowOf k index count 0 0 (k .nfl) (k .nfc) ≡ scan k index count (rowTiles 0 (tiles k))
   unfolding windowOf
   window-is e =
       let z : 0 * k .nfc ≡ 0 = omega arith in
-      rw (e, le-ltb (k .nfl) (0 + k .nfl) (omega arith), le-ltb (k .nfc) (0 + k .nfc) (omega arith), whole-rows k 0 (k .nfl), z)
+      rw (
+        e,
+        le-ltb (k .nfl) (0 + k .nfl) (omega arith),
+        le-ltb (k .nfc) (0 + k .nfc) (omega arith),
+        whole-rows k 0 (k .nfl),
+        z,
+      )
 
 pub whole-image : WholeImage
 whole-image k index count e = (

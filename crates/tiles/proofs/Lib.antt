@@ -6,6 +6,8 @@ pub mod Entry
 pub mod Pixel
 pub mod Ahead
 pub mod Once
+pub mod Accepts
 pub mod Alike
+pub mod Parts
 pub mod Apart
 pub mod Image

@@ -23,14 +23,17 @@ listed-at f (suc n) j h = go (ℕ-discrete j n) (listed-at f n j)
 
 pub listed-same : (f g : ℕ → ℕ) (n : ℕ) → ((j : ℕ) → j < n → f j ≡ g j) → listed f n ≡ listed g n
 listed-same f g zero h = refl
-listed-same f g (suc n) h = ap₂ (λ (l : List ℕ) (x : ℕ). l ++ (x ∷ [])) (listed-same f g n (λ j q. h j (omega arith))) (h n (omega arith))
+listed-same f g (suc n) h =
+    ap₂ (λ (l : List ℕ) (x : ℕ). l ++ (x ∷ [])) (listed-same f g n (λ j q. h j (omega arith))) (h n (omega arith))
 
 pub listed-constant : (v n : ℕ) → listed (λ j. v) n ≡ replicate n v
 listed-constant v zero = refl
-listed-constant v (suc n) = ap (λ (l : List ℕ). l ++ (v ∷ [])) (listed-constant v n) ∙ replicate-append-replicate n 1 v ∙ ap (λ (k : ℕ). replicate k v) (add-one n)
+listed-constant v (suc n) = ap (λ (l : List ℕ). l ++ (v ∷ [])) (listed-constant v n)
+    ∙ replicate-append-replicate n 1 v ∙ ap (λ (k : ℕ). replicate k v) (add-one n)
 
 -- one element changed
-pub listed-set : (f g : ℕ → ℕ) (n i : ℕ) (rest : List ℕ) → i < n → ((j : ℕ) → j < n → (j ≡ i → ⊥) → f j ≡ g j) → set (listed f n ++ rest) i (g i) ≡ listed g n ++ rest
+pub listed-set : (f g : ℕ → ℕ) (n i : ℕ) (rest : List ℕ) → i < n → ((j : ℕ) → j < n → (j ≡ i → ⊥) → f j ≡ g j)
+    → set (listed f n ++ rest) i (g i) ≡ listed g n ++ rest
 listed-set f g n i rest h s =
     set-append-left (listed f n) rest i (g i) (omega (arith, listed-length f n))
     ∙ ap (λ (l : List ℕ). l ++ rest) (ext-getD 0 (set (listed f n) i (g i)) (listed g n) lengths at)

@@ -1,4 +1,4 @@
--- In an accepted index no entry is bad, so a number that occurs twice would be refused at its second place; and each number is named. Assumes nothing.
+-- A number that occurs twice would be refused at its second place; and each number is named. Assumes nothing.
 use mathlib.Core.Path.{_≡_, refl, sym, ap, _∙_}
 use mathlib.Core.Bool.{Bool, true, false, cond, _&&_, _||_, or-true, true≢false, false≢true}
 use mathlib.Core.List.{List, [], _∷_}
@@ -16,11 +16,11 @@ use Rattle.arc.specs.Refusals.{refusal}
 use Rattle.card.specs.declared.Card.{Card}
 use Rattle.tiles.specs.Index.{tiles, indexWrong, stored, missing, above, said}
 use Rattle.tiles.specs.Check.{occurs, badAt, firstOf, firstBad, named, judged, checkOf, OnePlace, EachOnce}
-use Rattle.tiles.proofs.Entry.{neither, index-long, said-stored, said-in, said-all}
+use Rattle.tiles.proofs.Entry.{neither, index-long, count-all, said-stored, said-in, said-all}
 use Rattle.tiles.proofs.Pass.{bad-again}
 
 -- ---- entries
-occurs-at : (l : List ℕ) (i n : ℕ) → i < length l → getD l i 0 ≡ n → occurs n l ≡ true
+pub occurs-at : (l : List ℕ) (i n : ℕ) → i < length l → getD l i 0 ≡ n → occurs n l ≡ true
 occurs-at [] i n h e = absurd (omega arith)
 occurs-at (x ∷ l) zero n h e = rw (eq-eqb x n e)
 occurs-at (x ∷ l) (suc i) n h e = rw (occurs-at l i n (omega arith) e) (or-true (eqb x n))
@@ -30,7 +30,7 @@ pub record Place (l : List ℕ) (n : ℕ) : Type 0 where
   pub inside : at < length l
   pub holds : getD l at 0 ≡ n
 
-place : (l : List ℕ) (n : ℕ) → occurs n l ≡ true → Place l n
+pub place : (l : List ℕ) (n : ℕ) → occurs n l ≡ true → Place l n
 place [] n e = absurd (false≢true e)
 place (x ∷ l) n e = go (eqb x n) refl e (place l n)
   where
@@ -40,9 +40,11 @@ place (x ∷ l) n e = go (eqb x n) refl e (place l n)
 
 named-each : (index : List ℕ) (count n : ℕ) → named count index ≡ true → 1 ≤ n → n ≤ count → occurs n index ≡ true
 named-each index zero n e p q = absurd (omega arith)
-named-each index (suc m) n e p q = go (occurs (suc m) index) refl e (λ w h. named-each index m n w p h) (ℕ-discrete n (suc m))
+named-each index (suc m) n e p q =
+    go (occurs (suc m) index) refl e (λ w h. named-each index m n w p h) (ℕ-discrete n (suc m))
   where
-    go : (b : Bool) → occurs (suc m) index ≡ b → b && named m index ≡ true → (named m index ≡ true → n ≤ m → occurs n index ≡ true) → Dec (n ≡ suc m) → occurs n index ≡ true
+    go : (b : Bool) → occurs (suc m) index ≡ b → b && named m index ≡ true
+        → (named m index ≡ true → n ≤ m → occurs n index ≡ true) → Dec (n ≡ suc m) → occurs n index ≡ true
     go true o w f (yes d) = ap (λ (x : ℕ). occurs x index) d ∙ o
     go true o w f (no d) = f w (omega arith)
     go false o w f d = absurd (false≢true w)
@@ -63,12 +65,16 @@ module _ (index : List ℕ) (count : ℕ) (b : firstBad count index ≡ none) wh
   -- the number at i is not met again at j
   not-again : (i j n : ℕ) → (n ≡ 0 → ⊥) → j < length index → i < j → getD index i 0 ≡ n → getD index j 0 ≡ n → ⊥
   not-again i j n d h p e f =
-      let o : occurs (getD index j 0) (take j index) ≡ true = occurs-at (take j index) i (getD index j 0) (omega (arith, length-take-le j index (omega arith))) (getD-take j index i 0 p ∙ e ∙ sym f) in
+      let o : occurs (getD index j 0) (take j index) ≡ true =
+      occurs-at (take j index) i (getD index j 0) (omega (arith, length-take-le j index (omega arith)))
+      (getD-take j index i 0 p ∙ e ∙ sym f) in
       let t : badAt count index j ≡ true = bad-again count index j (λ z. d (sym f ∙ z)) o in
-      let s : badAt count index j ≡ false = none-of (badAt count index) 0 (length index) b j (omega arith) (omega arith) in
+      let s : badAt count index j ≡ false =
+      none-of (badAt count index) 0 (length index) b j (omega arith) (omega arith) in
       true≢false (sym t ∙ s)
 
-  only-place : (i j n : ℕ) → (n ≡ 0 → ⊥) → i < length index → j < length index → getD index i 0 ≡ n → getD index j 0 ≡ n → i ≡ j
+  only-place : (i j n : ℕ) → (n ≡ 0 → ⊥) → i < length index → j < length index → getD index i 0 ≡ n
+      → getD index j 0 ≡ n → i ≡ j
   only-place i j n d h g e f = go (decLt i j) (decLt j i)
     where
       go : Dec (i < j) → Dec (j < i) → i ≡ j
@@ -77,7 +83,7 @@ module _ (index : List ℕ) (count : ℕ) (b : firstBad count index ≡ none) wh
       go (no p) (no q) = omega (arith, lt-of-not-le p, lt-of-not-le q)
 
 -- the entry of a stored tile
-entry-of : (count e n : ℕ) → said count e ≡ stored n → e ≡ n
+pub entry-of : (count e n : ℕ) → said count e ≡ stored n → e ≡ n
 entry-of count e n = go (eqb e 0) (ltb count e)
   where
     go : (a b : Bool) → cond a missing (cond b above (stored e)) ≡ stored n → e ≡ n
@@ -95,7 +101,8 @@ module _ (k : Card) (index : List ℕ) (count n : ℕ) (p : 1 ≤ n) (q : n ≤ 
   good : judged count index (firstBad count index) ≡ Verdict.Accepted → Good
   good = go (firstBad count index) (named count index) refl refl
     where
-      go : (o : Option ℕ) (b : Bool) → firstBad count index ≡ o → named count index ≡ b → judged count index o ≡ Verdict.Accepted → Good
+      go : (o : Option ℕ) (b : Bool) → firstBad count index ≡ o → named count index ≡ b
+          → judged count index o ≡ Verdict.Accepted → Good
       go (some i) b e f h = let z : _≡_ {A = ℕ} 0 1 = cc in absurd (omega arith)
       go none false e f h = let g = rw f at h in let z : _≡_ {A = ℕ} 0 1 = cc in absurd (omega arith)
       go none true e f h = record { first = e; named-is = named-each index count n f p q }
@@ -106,24 +113,32 @@ module _ (k : Card) (index : List ℕ) (count n : ℕ) (p : 1 ≤ n) (q : n ≤ 
       let l : length index ≡ tiles k = index-long k index count w y in
       record {
         at = r .at;
+        inside = omega (arith, r .inside);
         holds = said-in k index count (r .at) y ∙ ap (said count) (r .holds) ∙ said-stored count n (λ z. omega arith) q;
-        only = λ t h e. only-place index count (g .first) t (r .at) n (λ z. omega arith) (omega arith) (r .inside) (entry-of count (getD index t 0) n (sym (said-in k index count t y) ∙ e)) (r .holds);
+        only = λ t h e. only-place index count (g .first) t (r .at) n (λ z. omega arith) (omega arith) (r .inside)
+            (entry-of count (getD index t 0) n (sym (said-in k index count t y) ∙ e)) (r .holds);
       }
 
-  listed-all : k .tif ≡ false → OnePlace k index count n
-  listed-all y =
+  listed-all : indexWrong k index count ≡ false → k .tif ≡ false → OnePlace k index count n
+  listed-all w y =
       record {
         at = n - 1;
+        inside = omega (arith, count-all k index count w y);
         holds = let s : n - 1 + 1 ≡ n = omega arith in said-all k index count (n - 1) y ∙ ap stored s;
-        only = λ t h e. let m : stored (t + 1) ≡ stored n = sym (said-all k index count t y) ∙ e in let s : t + 1 ≡ n = cc in omega arith;
+        only = λ t h e. let m : stored (t + 1) ≡ stored n = sym (said-all k index count t y) ∙ e in
+            let s : t + 1 ≡ n = cc in omega arith;
       }
 
 pub each-once : EachOnce
 unfolding checkOf
 each-once k index marks count a n p q = go (indexWrong k index count || ltb (length marks) count) (k .tif) refl refl a
   where
+    right : indexWrong k index count || ltb (length marks) count ≡ false → indexWrong k index count ≡ false
+    right e = neither (indexWrong k index count) (ltb (length marks) count) e .0
+
     go : (x y : Bool) → indexWrong k index count || ltb (length marks) count ≡ x → k .tif ≡ y
-        → cond x (Verdict.Refused (refusal 6)) (cond y (judged count index (firstBad count index)) Verdict.Accepted) ≡ Verdict.Accepted → OnePlace k index count n
+        → cond x (Verdict.Refused (refusal 6)) (cond y (judged count index (firstBad count index)) Verdict.Accepted)
+        ≡ Verdict.Accepted → OnePlace k index count n
     go true y e f h = let z : _≡_ {A = ℕ} 0 1 = cc in absurd (omega arith)
-    go false true e f h = indexed k index count n p q (neither (indexWrong k index count) (ltb (length marks) count) e .0) f (good k index count n p q h)
-    go false false e f h = listed-all k index count n p q f
+    go false true e f h = indexed k index count n p q (right e) f (good k index count n p q h)
+    go false false e f h = listed-all k index count n p q (right e) f

@@ -1,5 +1,4 @@
--- One pass over the entries: those before the place i are good and marked, and what the rest says of the first bad entry the whole says.
--- Assumes nothing.
+-- The entries before the place i are good and marked, so the first bad entry is one of the rest. Assumes nothing.
 use mathlib.Core.Path.{_≡_, refl, sym, ap, _∙_}
 use mathlib.Core.Bool.{Bool, true, false, cond, or-true}
 use mathlib.Core.List.{List, [], _∷_, _++_}
@@ -16,7 +15,7 @@ use Rattle.arc.specs.Refusals.{refusalAt}
 use Rattle.tiles.specs.Check.{occurs, badAt, firstOf, firstBad, judged, listed, before, marked}
 use Rattle.tiles.specs.Held.{marksPassed}
 use Rattle.tiles.proofs.Listed.{listed-length, listed-at, listed-same, listed-set}
-use Rattle.tiles.proofs.Counted.{occurs-other, occurs-last, counted, counted-none, counted-same, counted-new, counted-le, named-all, named-not}
+use Rattle.tiles.proofs.Counted.{occurs-other, occurs-last, named-all, named-not, counted, counted-none, counted-same, counted-new, counted-le}
 
 -- ---- the first of which f holds, from i on
 module _ (f : ℕ → Bool) (i n : ℕ) where
@@ -43,15 +42,18 @@ module _ (count : ℕ) (index : List ℕ) (i : ℕ) where
   pub good-none : getD index i 0 ≡ 0 → badAt count index i ≡ false
   good-none e = rw (e, le-ltb count 0 (omega arith))
 
-  pub good-new : getD index i 0 ≤ count → (getD index i 0 ≡ 0 → ⊥) → occurs (getD index i 0) (take i index) ≡ false → badAt count index i ≡ false
+  pub good-new : getD index i 0 ≤ count → (getD index i 0 ≡ 0 → ⊥) → occurs (getD index i 0) (take i index) ≡ false
+      → badAt count index i ≡ false
   good-new h d o = rw (le-ltb count (getD index i 0) h, ne-eqb (getD index i 0) 0 d, o)
 
 -- ---- the marks
 module _ (count : ℕ) (entries m : List ℕ) where
   pub marked-length : count ≤ length m → length (marked count entries m) ≡ length m
-  marked-length h = simp (length-append, length-drop) (omega (arith, listed-length (λ j. cond (occurs (j + 1) entries) 1 0) count))
+  marked-length h = simp (length-append, length-drop)
+      (omega (arith, listed-length (λ j. cond (occurs (j + 1) entries) 1 0) count))
 
-  pub marked-at : (e : ℕ) → (e ≡ 0 → ⊥) → e ≤ count → getD (marked count entries m) (e - 1) 0 ≡ cond (occurs e entries) 1 0
+  pub marked-at : (e : ℕ) → (e ≡ 0 → ⊥) → e ≤ count
+      → getD (marked count entries m) (e - 1) 0 ≡ cond (occurs e entries) 1 0
   marked-at e d h =
       let f : ℕ → ℕ = λ j. cond (occurs (j + 1) entries) 1 0 in
       let s : e - 1 + 1 ≡ e = omega arith in
@@ -64,7 +66,8 @@ module _ (count : ℕ) (entries m : List ℕ) where
       (listed-same (λ j. cond (occurs (j + 1) (entries ++ (0 ∷ []))) 1 0) (λ j. cond (occurs (j + 1) entries) 1 0) count
       (λ j h. ap (λ (b : Bool). cond b 1 0) (occurs-other (j + 1) 0 entries (λ e. omega arith))))
 
-  pub marked-new : (e : ℕ) → (e ≡ 0 → ⊥) → e ≤ count → set (marked count entries m) (e - 1) 1 ≡ marked count (entries ++ (e ∷ [])) m
+  pub marked-new : (e : ℕ) → (e ≡ 0 → ⊥) → e ≤ count
+      → set (marked count entries m) (e - 1) 1 ≡ marked count (entries ++ (e ∷ [])) m
   marked-new e d h =
       let f : ℕ → ℕ = λ j. cond (occurs (j + 1) entries) 1 0 in
       let g : ℕ → ℕ = λ j. cond (occurs (j + 1) (entries ++ (e ∷ []))) 1 0 in
@@ -82,7 +85,8 @@ pub record Sofar (count : ℕ) (index m marks : List ℕ) (number i : ℕ) : Typ
 
 -- what is answered, and what the marks then hold
 abbrev pub Ended : ℕ → List ℕ → List ℕ → List ℕ → Verdict → Type 0
-Ended count index m marks answer = (answer ≡ judged count index (firstBad count index)) × (marks ≡ marksPassed count index m)
+Ended count index m marks answer =
+    (answer ≡ judged count index (firstBad count index)) × (marks ≡ marksPassed count index m)
 
 pub begun : (count : ℕ) (index m : List ℕ) → m ≡ marked count [] m → Sofar count index m m 0 0
 begun count index m e =
@@ -104,12 +108,16 @@ module _ (count : ℕ) (index m marks : List ℕ) (number i : ℕ) (w : Sofar co
     next : take (i + 1) index ≡ take i index ++ (getD index i 0 ∷ [])
     next = ap (λ (n : ℕ). take n index) (add-one i) ∙ take-suc index i 0 h
 
-    stopped : (a : Verdict) → a ≡ Verdict.Refused (refusalAt 15 i) → badAt count index i ≡ true → Ended count index m marks a
+    stopped : (a : Verdict) → a ≡ Verdict.Refused (refusalAt 15 i) → badAt count index i ≡ true
+        → Ended count index m marks a
     stopped a e t =
-        let f : firstBad count index ≡ some i = w .ahead ∙ first-hit (badAt count index) i (length index) h t in
-        (e ∙ ap (judged count index) (sym f), w .marks-are ∙ ap (λ (o : Option ℕ). marked count (before index o) m) (sym f))
+        let f : firstBad count index ≡ some i = w .ahead ∙ first-hit (badAt count index) i (length index) h t in (
+          e ∙ ap (judged count index) (sym f),
+          w .marks-are ∙ ap (λ (o : Option ℕ). marked count (before index o) m) (sym f),
+        )
 
-    passed : (l : List ℕ) (n : ℕ) → l ≡ marked count (take i index ++ (getD index i 0 ∷ [])) m → n ≡ counted (take i index ++ (getD index i 0 ∷ [])) count
+    passed : (l : List ℕ) (n : ℕ) → l ≡ marked count (take i index ++ (getD index i 0 ∷ [])) m
+        → n ≡ counted (take i index ++ (getD index i 0 ∷ [])) count
         → badAt count index i ≡ false → Sofar count index m l n (i + 1)
     passed l n p q t =
         record {
@@ -119,10 +127,12 @@ module _ (count : ℕ) (index m marks : List ℕ) (number i : ℕ) (w : Sofar co
           number-is = q ∙ ap (λ (s : List ℕ). counted s count) (sym next);
         }
 
-    pub stop-above : (a : Verdict) → a ≡ Verdict.Refused (refusalAt 15 i) → count < getD index i 0 → Ended count index m marks a
+    pub stop-above : (a : Verdict) → a ≡ Verdict.Refused (refusalAt 15 i) → count < getD index i 0
+        → Ended count index m marks a
     stop-above a e p = stopped a e (bad-above count index i p)
 
-    pub stop-again : (a : Verdict) → a ≡ Verdict.Refused (refusalAt 15 i) → getD index i 0 ≤ count → (getD index i 0 ≡ 0 → ⊥) → (getD marks (getD index i 0 - 1) 0 ≡ 0 → ⊥) → Ended count index m marks a
+    pub stop-again : (a : Verdict) → a ≡ Verdict.Refused (refusalAt 15 i) → getD index i 0 ≤ count
+        → (getD index i 0 ≡ 0 → ⊥) → (getD marks (getD index i 0 - 1) 0 ≡ 0 → ⊥) → Ended count index m marks a
     stop-again a e p d n = stopped a e (bad-again count index i d (told (occurs (getD index i 0) (take i index)) refl))
       where
         told : (b : Bool) → occurs (getD index i 0) (take i index) ≡ b → b ≡ true
@@ -132,15 +142,19 @@ module _ (count : ℕ) (index m marks : List ℕ) (number i : ℕ) (w : Sofar co
     pub pass-none : getD index i 0 ≡ 0 → Sofar count index m marks number (i + 1)
     pass-none e =
         passed marks number
-        (w .marks-are ∙ sym (marked-none count (take i index) m) ∙ ap (λ (x : ℕ). marked count (take i index ++ (x ∷ [])) m) (sym e))
+        (w .marks-are ∙ sym (marked-none count (take i index) m)
+        ∙ ap (λ (x : ℕ). marked count (take i index ++ (x ∷ [])) m) (sym e))
         (w .number-is ∙ sym (counted-same (take i index) (getD index i 0) count (λ j q r. omega arith)))
         (good-none count index i e)
 
-    pub pass-new : getD index i 0 ≤ count → (getD index i 0 ≡ 0 → ⊥) → getD marks (getD index i 0 - 1) 0 ≡ 0 → Sofar count index m (set marks (getD index i 0 - 1) 1) (number + 1) (i + 1)
+    pub pass-new : getD index i 0 ≤ count → (getD index i 0 ≡ 0 → ⊥) → getD marks (getD index i 0 - 1) 0 ≡ 0
+        → Sofar count index m (set marks (getD index i 0 - 1) 1) (number + 1) (i + 1)
     pass-new p d n =
         passed _ _
-        (ap (λ (l : List ℕ). set l (getD index i 0 - 1) 1) (w .marks-are) ∙ marked-new count (take i index) m (getD index i 0) d p)
-        (ap (λ (x : ℕ). x + 1) (w .number-is) ∙ sym (counted-new (take i index) (getD index i 0) count (omega arith) p new))
+        (ap (λ (l : List ℕ). set l (getD index i 0 - 1) 1) (w .marks-are)
+        ∙ marked-new count (take i index) m (getD index i 0) d p)
+        (ap (λ (x : ℕ). x + 1) (w .number-is)
+        ∙ sym (counted-new (take i index) (getD index i 0) count (omega arith) p new))
         (good-new count index i p d new)
       where
         told : (b : Bool) → occurs (getD index i 0) (take i index) ≡ b → b ≡ false
@@ -158,7 +172,8 @@ module _ (count : ℕ) (index m marks : List ℕ) (number i : ℕ) (w : Sofar co
     done a e =
         let f : firstBad count index ≡ none = w .ahead ∙ first-none (badAt count index) i (length index) h in (
           e ∙ ap (judged count index) (sym f),
-          w .marks-are ∙ ap (λ (l : List ℕ). marked count l m) whole ∙ ap (λ (o : Option ℕ). marked count (before index o) m) (sym f),
+          w .marks-are ∙ ap (λ (l : List ℕ). marked count l m) whole
+              ∙ ap (λ (o : Option ℕ). marked count (before index o) m) (sym f),
         )
 
     told : number ≡ counted index count
@@ -167,7 +182,11 @@ module _ (count : ℕ) (index m marks : List ℕ) (number i : ℕ) (w : Sofar co
     pub done-short : (a : Verdict) → a ≡ Verdict.Refused (refusalAt 15 i) → number < count → Ended count index m marks a
     done-short a e p =
         let s : i ≡ length index = omega (arith, w .inside) in
-        done a (e ∙ ap (λ (n : ℕ). Verdict.Refused (refusalAt 15 n)) s ∙ ap (λ (b : Bool). cond b Verdict.Accepted (Verdict.Refused (refusalAt 15 (length index)))) (sym (named-not index count (omega (arith, told)))))
+        done a (e ∙ ap (λ (n : ℕ). Verdict.Refused (refusalAt 15 n)) s
+        ∙ ap (λ (b : Bool). cond b Verdict.Accepted (Verdict.Refused (refusalAt 15 (length index))))
+        (sym (named-not index count (omega (arith, told)))))
 
     pub done-all : count ≤ number → Ended count index m marks Verdict.Accepted
-    done-all p = done Verdict.Accepted (ap (λ (b : Bool). cond b Verdict.Accepted (Verdict.Refused (refusalAt 15 (length index)))) (sym (named-all index count (omega (arith, told)))))
+    done-all p = done Verdict.Accepted
+        (ap (λ (b : Bool). cond b Verdict.Accepted (Verdict.Refused (refusalAt 15 (length index))))
+        (sym (named-all index count (omega (arith, told)))))

@@ -15,8 +15,7 @@ use mir.ValLaws.{toZ-ofZ}
 use Rattle.arc.specs.declared.Verdict.{Verdict}
 use Rattle.arc.specs.Refusals.{refusal}
 use Rattle.card.specs.declared.Card.{Card}
-use Rattle.card.specs.Grid.{inTiles, inChart}
-use Rattle.card.specs.Grid.{verdictOf}
+use Rattle.card.specs.Grid.{inTiles, inChart, verdictOf}
 use Rattle.tiles.specs.declared.NumberAnswer.{NumberAnswer}
 use Rattle.tiles.specs.Index.{tiles, indexWrong, saidOf, tileOf}
 use Rattle.tiles.specs.LookUp.{tileBytes, storeWrong, numberIn, numberOf}
@@ -27,8 +26,10 @@ use Rattle.tiles.proofs.Entry.{neither, tile-inside, stored-number}
 pub tile-in : (k : Card) (r c : ℤ) → inTiles k r c ≡ true → tileOf k (natAbs r) (natAbs c) < tiles k
 tile-in k (pos r) (pos c) e =
     let p = and-eq-true-iff (leb 0 r && ltb r (128 * k .nfl)) (leb 0 c && ltb c (128 * k .nfc)) .0 e in
-    let q : r < 128 * k .nfl = ltb-true r (128 * k .nfl) (and-eq-true-iff (leb 0 r) (ltb r (128 * k .nfl)) .0 (p .0) .1) in
-    let s : c < 128 * k .nfc = ltb-true c (128 * k .nfc) (and-eq-true-iff (leb 0 c) (ltb c (128 * k .nfc)) .0 (p .1) .1) in
+    let q : r < 128 * k .nfl =
+    ltb-true r (128 * k .nfl) (and-eq-true-iff (leb 0 r) (ltb r (128 * k .nfl)) .0 (p .0) .1) in
+    let s : c < 128 * k .nfc =
+    ltb-true c (128 * k .nfc) (and-eq-true-iff (leb 0 c) (ltb c (128 * k .nfc)) .0 (p .1) .1) in
     tile-inside (r / 128) (c / 128) (k .nfl) (k .nfc) (omega arith) (omega arith)
 tile-in k (pos r) (negsuc c) e = absurd (false≢true (and-eq-true-iff (leb 0 r && ltb r (128 * k .nfl)) false .0 e .1))
 tile-in k (negsuc r) c e = absurd (false≢true e)
@@ -38,18 +39,22 @@ module _ (k : Card) (r c : ℤ) where
   pub verdict-in : verdictOf k r c ≡ Verdict.Accepted → inTiles k r c ≡ true
   verdict-in = go (inTiles k r c) (inChart k r c)
     where
-      go : (b d : Bool) → cond b (cond d Verdict.Accepted (Verdict.Refused (refusal 13))) (Verdict.Refused (refusal 12)) ≡ Verdict.Accepted → b ≡ true
+      go : (b d : Bool) → cond b (cond d Verdict.Accepted (Verdict.Refused (refusal 13)))
+          (Verdict.Refused (refusal 12)) ≡ Verdict.Accepted → b ≡ true
       go true d e = refl
       go false d e = let z : _≡_ {A = ℕ} 0 1 = cc in absurd (omega arith)
 
   pub number-by : (index : List ℕ) (count : ℕ) (store : List ℕ) → storeWrong k index count store ≡ false
       → numberOf k index count store r c
-      ≡ afterVerdict (verdictOf k r c) (numberIn (tileOf k (natAbs r) (natAbs c)) (saidOf k index count (tileOf k (natAbs r) (natAbs c))))
+      ≡ afterVerdict (verdictOf k r c)
+      (numberIn (tileOf k (natAbs r) (natAbs c)) (saidOf k index count (tileOf k (natAbs r) (natAbs c))))
   unfolding numberOf
   number-by index count store e = rw e (go (inTiles k r c) (inChart k r c) _)
     where
-      go : (b d : Bool) (a : NumberAnswer) → cond b (cond d a (NumberAnswer.Refused (refusal 13))) (NumberAnswer.Refused (refusal 12))
-          ≡ afterVerdict (cond b (cond d Verdict.Accepted (Verdict.Refused (refusal 13))) (Verdict.Refused (refusal 12))) a
+      go : (b d : Bool) (a : NumberAnswer)
+          → cond b (cond d a (NumberAnswer.Refused (refusal 13))) (NumberAnswer.Refused (refusal 12))
+          ≡ afterVerdict (cond b (cond d Verdict.Accepted (Verdict.Refused (refusal 13)))
+          (Verdict.Refused (refusal 12))) a
       go true true a = refl
       go true false a = refl
       go false d a = refl
@@ -62,12 +67,16 @@ pub record InStore (n count : ℕ) (store : List ℕ) : Type 0 where
   pub most : n ≤ count
   pub long : length store ≡ count * tileBytes
 
-pub number-held : (k : Card) (index : List ℕ) (count : ℕ) (store : List ℕ) (r c : ℤ) (n : ℕ) → numberOf k index count store r c ≡ NumberAnswer.Stored n → InStore n count store
+pub number-held : (k : Card) (index : List ℕ) (count : ℕ) (store : List ℕ) (r c : ℤ) (n : ℕ)
+    → numberOf k index count store r c ≡ NumberAnswer.Stored n → InStore n count store
 unfolding numberOf
 number-held k index count store r c n = go (storeWrong k index count store) (inTiles k r c) (inChart k r c) refl refl
   where
     go : (a b d : Bool) → storeWrong k index count store ≡ a → inTiles k r c ≡ b
-        → cond a (NumberAnswer.Refused (refusal 6)) (cond b (cond d (numberIn (tileOf k (natAbs r) (natAbs c)) (saidOf k index count (tileOf k (natAbs r) (natAbs c)))) (NumberAnswer.Refused (refusal 13))) (NumberAnswer.Refused (refusal 12))) ≡ NumberAnswer.Stored n
+        → cond a (NumberAnswer.Refused (refusal 6))
+        (cond b (cond d (numberIn (tileOf k (natAbs r) (natAbs c))
+        (saidOf k index count (tileOf k (natAbs r) (natAbs c)))) (NumberAnswer.Refused (refusal 13)))
+        (NumberAnswer.Refused (refusal 12))) ≡ NumberAnswer.Stored n
         → InStore n count store
     go true b d p q h = let z : _≡_ {A = ℕ} 0 1 = cc in absurd (omega arith)
     go false false d p q h = let z : _≡_ {A = ℕ} 0 1 = cc in absurd (omega arith)
@@ -83,7 +92,8 @@ module _ (n count : ℕ) (store : List ℕ) (h : InStore n count store) where
   part-ends = omega (arith, h .most, h .long)
 
   pub part-length : length (partAt n store) ≡ tileBytes
-  part-length = length-take-le tileBytes (drop ((n - 1) * tileBytes) store) (omega (arith, h .some, part-ends, length-drop ((n - 1) * tileBytes) store))
+  part-length = length-take-le tileBytes (drop ((n - 1) * tileBytes) store)
+      (omega (arith, h .some, part-ends, length-drop ((n - 1) * tileBytes) store))
 
 -- row and column as they are held
 pub number-plain : (k : Card) (index : List ℕ) (count : ℕ) (store : List ℕ) (r c : ℤ) → SFits w64 r → SFits w64 c

@@ -15,7 +15,7 @@ use lib.ListN.{length, getD, take, drop}
 use Rattle.arc.specs.declared.Verdict.{Verdict}
 use Rattle.arc.specs.Refusals.{refusal, refusalAt}
 use Rattle.card.specs.declared.Card.{Card}
-use Rattle.tiles.specs.Index.{tiles, indexWrong, stored, saidOf}
+use Rattle.tiles.specs.Index.{tiles, indexWrong, stored, above, saidOf}
 
 abbrev pub occurs : ℕ → List ℕ → Bool
 occurs e [] = false
@@ -73,15 +73,30 @@ marksOf k index count marks =
     cond (indexWrong k index count || ltb (length marks) count) marks
     (cond (k .tif) (marked count (before index (firstBad count index)) marks) (allMarked count marks))
 
--- ---- what an accepted index is held to: proved in proofs/Once.antt
+-- ---- what an accepted index is held to, both ways: proved in proofs/Once.antt and proofs/Accepts.antt
 
 -- the tile that stores n, and no other does
 pub record OnePlace (k : Card) (index : List ℕ) (count n : ℕ) : Type 0 where
   pub at : ℕ
+  pub inside : at < tiles k
   pub holds : saidOf k index count at ≡ stored n
   pub only : (t : ℕ) → t < tiles k → saidOf k index count t ≡ stored n → t ≡ at
+
+-- each number 1 .. count is that of one tile
+abbrev pub EachPlaced : Card → List ℕ → ℕ → Type 0
+EachPlaced k index count = (n : ℕ) → 1 ≤ n → n ≤ count → OnePlace k index count n
+
+-- no tile's entry is above the count
+abbrev pub NoneAbove : Card → List ℕ → ℕ → Type 0
+NoneAbove k index count = (t : ℕ) → t < tiles k → saidOf k index count t ≡ above → ⊥
 
 abbrev pub EachOnce : Type 0
 EachOnce =
     (k : Card) (index marks : List ℕ) (count : ℕ) → checkOf k index count marks ≡ Verdict.Accepted
-    → (n : ℕ) → 1 ≤ n → n ≤ count → OnePlace k index count n
+    → EachPlaced k index count
+
+-- the lengths being right
+abbrev pub OnceAccepted : Type 0
+OnceAccepted =
+    (k : Card) (index marks : List ℕ) (count : ℕ) → indexWrong k index count ≡ false → count ≤ length marks
+    → NoneAbove k index count → EachPlaced k index count → checkOf k index count marks ≡ Verdict.Accepted

@@ -4,8 +4,8 @@
 --     partOf ..              the bytes that `tile` hands back, none in a refusal
 --     bandsOf ..             what `bands` answers: red, green, blue
 use mathlib.Core.Path.{_≡_}
-use Prim.Native.Nat.{ℕ, _+_, _*_, _-_, _/_, _%_, _<_}
-use mathlib.Core.List.{List, [], _∷_}
+use Prim.Native.Nat.{ℕ, _+_, _*_, _-_, _%_, _≤_, _<_}
+use mathlib.Core.List.{List, [], _∷_, _++_}
 use mathlib.Core.Bool.{Bool, cond, not, _||_}
 use lib.Dec.{eqb}
 use lib.ListN.{length, getD, take, drop}
@@ -58,7 +58,8 @@ abbrev pub inBand : ℤ → ℤ → ℕ
 inBand r c = natAbs r % 128 * 128 + natAbs c % 128
 
 abbrev pub bandsIn : NumberAnswer → List ℕ → ℕ → BandsAnswer
-bandsIn (NumberAnswer.Stored n) tile i = BandsAnswer.Bands (getD tile i 0) (getD tile (i + bandBytes) 0) (getD tile (i + 2 * bandBytes) 0)
+bandsIn (NumberAnswer.Stored n) tile i =
+    BandsAnswer.Bands (getD tile i 0) (getD tile (i + bandBytes) 0) (getD tile (i + 2 * bandBytes) 0)
 bandsIn (NumberAnswer.Refused e) tile i = BandsAnswer.Refused e
 
 unfoldable pub bandsOf : Card → List ℕ → ℕ → List ℕ → ℤ → ℤ → BandsAnswer
@@ -75,7 +76,7 @@ abbrev pub bandsReport : BandsAnswer → Report
 bandsReport (BandsAnswer.Bands x y z) = answered (pos x ∷ pos y ∷ pos z ∷ [])
 bandsReport (BandsAnswer.Refused e) = refusedWith e 3
 
--- ---- what look-up is held to: proved in proofs/Alike.antt and proofs/Apart.antt
+-- ---- what look-up is held to: proved in proofs/Alike.antt, proofs/Parts.antt and proofs/Apart.antt
 
 -- of the index, only its length and that tile's entry matter
 abbrev pub OneEntry : Type 0
@@ -84,7 +85,27 @@ OneEntry =
     → getD index (tileOf k (natAbs r) (natAbs c)) 0 ≡ getD other (tileOf k (natAbs r) (natAbs c)) 0
     → numberOf k index count store r c ≡ numberOf k other count store r c
 
+-- n is one of 1 .. count, and its part is a tile's bytes, (n − 1) tiles into the store
+pub record InPlace (count n : ℕ) (part store : List ℕ) : Type 0 where
+  pub least : 1 ≤ n
+  pub most : n ≤ count
+  pub long : length part ≡ tileBytes
+  pub ahead : List ℕ
+  pub behind : List ℕ
+  pub start : length ahead ≡ (n - 1) * tileBytes
+  pub joined : store ≡ ahead ++ (part ++ behind)
+
+-- the part of a stored number, and of a refusal
+abbrev pub PartIs : Type 0
+PartIs =
+    (k : Card) (index : List ℕ) (count : ℕ) (store : List ℕ) (r c : ℤ)
+    → ((n : ℕ) → numberOf k index count store r c ≡ NumberAnswer.Stored n
+    → InPlace count n (partOf k index count store r c) store)
+    × ((e : Refusal) → numberOf k index count store r c ≡ NumberAnswer.Refused e
+    → partOf k index count store r c ≡ [])
+
 -- the parts of two different stored numbers do not overlap: no byte of the store is in both
 abbrev pub PartsApart : Type 0
 PartsApart =
-    (m n i j : ℕ) → 0 < m → 0 < n → (m ≡ n → ⊥) → i < tileBytes → j < tileBytes → (m - 1) * tileBytes + i ≡ (n - 1) * tileBytes + j → ⊥
+    (m n i j : ℕ) → 0 < m → 0 < n → (m ≡ n → ⊥) → i < tileBytes → j < tileBytes
+    → (m - 1) * tileBytes + i ≡ (n - 1) * tileBytes + j → ⊥

@@ -1,11 +1,12 @@
--- A window of tiles: 6, 12, then 15 where an entry above the count comes before any missing tile (01, "Tiles"). Definitions, and what they are held to.
+-- A window of tiles: 6, 12, then 15 where an entry above the count comes before any missing tile (01, "Tiles").
+-- Definitions, and what they are held to.
 --     windowTiles k top left height width    its tiles in reading order
 --     scan k index count ts      the first of them that is not stored
 --     windowOf ..                what `window` answers
 use mathlib.Core.Path.{_≡_}
 use Prim.Native.Nat.{ℕ, zero, suc, _+_, _*_, _<_}
 use mathlib.Core.List.{List, [], _∷_, _++_}
-use mathlib.Core.Bool.{Bool, false, cond, _||_}
+use mathlib.Core.Bool.{false, cond, _||_}
 use lib.Dec.{ltb}
 use lib.IntN.{pos}
 use Rattle.arc.specs.Refusals.{refusal, refusalAt, Report, answered, refusedWith}
@@ -21,7 +22,8 @@ rowTiles t (suc n) = t ∷ rowTiles (t + 1) n
 -- rows top, top + 1, .., columns left to left + width − 1
 abbrev pub windowTiles : Card → ℕ → ℕ → ℕ → ℕ → List ℕ
 windowTiles k top left zero width = []
-windowTiles k top left (suc height) width = rowTiles (top * k .nfc + left) width ++ windowTiles k (top + 1) left height width
+windowTiles k top left (suc height) width =
+    rowTiles (top * k .nfc + left) width ++ windowTiles k (top + 1) left height width
 
 abbrev pub scanned : ℕ → Said → WindowAnswer → WindowAnswer
 scanned t (stored n) rest = rest
@@ -48,7 +50,7 @@ windowReport (WindowAnswer.Refused e) = refusedWith e 2
 
 -- ---- what the window over the whole image is held to: proved in proofs/Image.antt
 
--- every entry is stored
+-- every tile is stored
 abbrev pub EveryStored : Card → List ℕ → ℕ → Type 0
 EveryStored k index count = (t : ℕ) → t < tiles k → (n : ℕ) × (saidOf k index count t ≡ stored n)
 

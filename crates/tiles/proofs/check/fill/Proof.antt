@@ -21,7 +21,11 @@ loop-holds c = (omega arith, refl)
 slice-write-marks : tie.Need-slice-write-marks Inv-loop μ-loop
 slice-write-marks c =
     let l = c .before .loop in
-    omega (arith, filled-length (c .before .before .args .value) (l .i) (c .before .before .args .marks .now) (l .marks) (omega arith) (l .inv .1))
+    omega (
+      arith,
+      filled-length (c .before .before .args .value) (l .i) (c .before .before .args .marks .now)
+          (l .marks) (omega arith) (l .inv .1),
+    )
 
 add-i : tie.Need-add-i Inv-loop μ-loop
 add-i c = omega arith
@@ -32,13 +36,17 @@ loop-less c = omega arith
 loop-again : tie.Need-loop-again Inv-loop μ-loop
 loop-again c =
     let l = c .before .loop in
-    let a = c .before .before .args in
-    (omega arith, ap (λ (s : List ℕ). set s (l .i) (a .value)) (l .inv .1) ∙ fill-more (l .i) (a .value) (a .marks .now) (omega arith))
+    let a = c .before .before .args in (
+      omega arith,
+      ap (λ (s : List ℕ). set s (l .i) (a .value)) (l .inv .1)
+          ∙ fill-more (l .i) (a .value) (a .marks .now) (omega arith),
+    )
 
 same-length : tie.Need-same-length Inv-loop μ-loop
 same-length c =
     let l = c .before .loop in
-    filled-length (c .before .before .args .value) (l .i) (c .before .before .args .marks .now) (l .marks) (omega arith) (l .inv .1)
+    filled-length (c .before .before .args .value) (l .i) (c .before .before .args .marks .now) (l .marks)
+    (omega arith) (l .inv .1)
 
 returns : tie.Need-returns Inv-loop μ-loop
 returns c =

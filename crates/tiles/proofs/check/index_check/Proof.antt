@@ -15,7 +15,8 @@ use Rattle.tiles.proofs.check.index_check.Statement.{statement}
 use Rattle.tiles.proofs.check.index_check.Tie as tie
 
 -- the lengths are right
-right : (c : tie.Else1) → let a = c .before .before .before .before .args in indexWrong (a .k) (a .index .now) (a .count) ≡ false
+right : (c : tie.Else1) → let a = c .before .before .before .before .args in
+    indexWrong (a .k) (a .index .now) (a .count) ≡ false
 right c = sym (c .before .index-wrong .ensures) ∙ c .if1 .left
 
 index-wrong-requires : tie.Need-index-wrong-requires
@@ -26,14 +27,16 @@ refused-requires c κs = search needs
 
 returns : tie.Need-returns
 unfolding checkOf marksOf
-returns c = rw (sym (c .before .before .index-wrong .ensures) ∙ c .before .if1 .taken) (ap Verdict.Refused (c .refused .ensures), refl)
+returns c = rw (sym (c .before .before .index-wrong .ensures) ∙ c .before .if1 .taken)
+    (ap Verdict.Refused (c .refused .ensures), refl)
 
 refused-requires-2 : tie.Need-refused-requires-2
 refused-requires-2 c κs = search needs
 
 returns-2 : tie.Need-returns-2
 unfolding checkOf marksOf
-returns-2 c = rw (right (c .before .before), lt-ltb _ _ (c .before .if2 .taken)) (ap Verdict.Refused (c .refused2 .ensures), refl)
+returns-2 c = rw (right (c .before .before), lt-ltb _ _ (c .before .if2 .taken))
+    (ap Verdict.Refused (c .refused2 .ensures), refl)
 
 fill-requires : tie.Need-fill-requires
 fill-requires c κs = search needs
@@ -45,8 +48,15 @@ returns-3 : tie.Need-returns-3
 unfolding checkOf marksOf
 returns-3 c =
     let a = c .before .before .before .before .before .before .before .before .before .before .before .args in
-    rw (right (c .before .before .before .before .before .before .before), le-ltb _ _ (c .before .before .before .before .before .before .if2 .left), not-true (a .k .tif) (c .before .before .before .before .if3 .taken))
-    (refl, filled-listed 1 (a .count) (a .marks .now) (c .before .before .fill .last .0) (c .before .before .before .before .before .before .if2 .left) (c .before .before .fill .ensures))
+    rw (
+      right (c .before .before .before .before .before .before .before),
+      le-ltb _ _ (c .before .before .before .before .before .before .if2 .left),
+      not-true (a .k .tif) (c .before .before .before .before .if3 .taken),
+    ) (
+      refl,
+      filled-listed 1 (a .count) (a .marks .now) (c .before .before .fill .last .0)
+          (c .before .before .before .before .before .before .if2 .left) (c .before .before .fill .ensures),
+    )
 
 fill-requires-2 : tie.Need-fill-requires-2
 fill-requires-2 c κs = search needs
@@ -56,8 +66,11 @@ mark-entries-requires c κs =
     let a = c .before .before .before .before .before .before .before .before .before .before .before .before .args in
     let l = c .before .before .before .fill2 .last .0 in
     let h = c .before .before .before .before .before .before .before .if2 .left in
-    let e = c .before .before .before .fill2 .ensures in
-    (omega (arith, filled-length 0 (a .count) (a .marks .now) l h e), filled-listed 0 (a .count) (a .marks .now) l h e ∙ ap (λ (s : List ℕ). listed (λ j. 0) (a .count) ++ s) (sym (filled-rest 0 (a .count) (a .marks .now) l h e)))
+    let e = c .before .before .before .fill2 .ensures in (
+      omega (arith, filled-length 0 (a .count) (a .marks .now) l h e),
+      filled-listed 0 (a .count) (a .marks .now) l h e
+          ∙ ap (λ (s : List ℕ). listed (λ j. 0) (a .count) ++ s) (sym (filled-rest 0 (a .count) (a .marks .now) l h e)),
+    )
 
 same-length-2 : tie.Need-same-length-2
 same-length-2 c = search needs
@@ -65,12 +78,16 @@ same-length-2 c = search needs
 returns-4 : tie.Need-returns-4
 unfolding checkOf marksOf
 returns-4 c =
-    let a = c .before .before .before .before .before .before .before .before .before .before .before .before .before .before .before .args in
-    let l = c .before .before .before .before .before .before .fill2 .last .0 in
+    let f = c .before .before .before .before .before .before in
+    let h = f .before .before .before .before in
+    let a = h .before .before .before .before .before .args in
     let p = c .before .before .mark-entries .ensures in
     let n : List ℕ = before (a .index .now) (firstBad (a .count) (a .index .now)) in
-    rw (right (c .before .before .before .before .before .before .before .before .before .before .before), le-ltb _ _ (c .before .before .before .before .before .before .before .before .before .before .if2 .left), not-false (a .k .tif) (c .before .before .before .before .before .before .before .before .if3 .left))
-    (p .0, p .1 ∙ ap (λ (s : List ℕ). listed (λ j. cond (occurs (j + 1) n) 1 0) (a .count) ++ s) (filled-rest 0 (a .count) (a .marks .now) l (c .before .before .before .before .before .before .before .before .before .before .if2 .left) (c .before .before .before .before .before .before .fill2 .ensures)))
+    rw (right (h .before), le-ltb _ _ (h .if2 .left), not-false (a .k .tif) (f .before .before .if3 .left)) (
+      p .0,
+      p .1 ∙ ap (λ (s : List ℕ). listed (λ j. cond (occurs (j + 1) n) 1 0) (a .count) ++ s)
+          (filled-rest 0 (a .count) (a .marks .now) (f .fill2 .last .0) (h .if2 .left) (f .fill2 .ensures)),
+    )
 
 pub index-check-spec : {M : Type 1} → statement M
 index-check-spec =

@@ -1,4 +1,4 @@
--- Each turn passes an entry or stops at a bad one, and the pass so far with what the rest says is the whole. Assumes nothing.
+-- Each turn passes an entry or stops at a bad one; the pass so far and the rest are the whole. Assumes nothing.
 use mathlib.Core.Path.{_≡_, ap}
 use mathlib.Core.Logic.{⊎-elim}
 use Prim.Native.Nat.{_-_}
@@ -16,11 +16,13 @@ abbrev μ-loop : tie.MeasureT-loop
 μ-loop index count marks₀ named₀ i₀ marks named i = length index - i
 
 -- the marks keep their length
-long : (c : tie.At-loop Inv-loop μ-loop) → length (c .loop .marks) ≡ length (c .before .before .before .args .marks .now)
+long : (c : tie.At-loop Inv-loop μ-loop)
+    → length (c .loop .marks) ≡ length (c .before .before .before .args .marks .now)
 long c = marks-length _ _ _ _ _ _ (c .loop .inv) (c .before .before .before .pre .0)
 
 loop-holds : tie.Need-loop-holds Inv-loop μ-loop
-loop-holds c = let s = c .before .before in begun (s .args .count) (s .args .index .now) (s .args .marks .now) (s .pre .1)
+loop-holds c = let s = c .before .before in
+    begun (s .args .count) (s .args .index .now) (s .args .marks .now) (s .pre .1)
 
 mul-e : tie.Need-mul-e Inv-loop μ-loop
 mul-e c = omega arith
@@ -38,13 +40,18 @@ same-length : tie.Need-same-length Inv-loop μ-loop
 same-length c = long (c .before .before .before .before)
 
 returns : tie.Need-returns Inv-loop μ-loop
-returns c = stop-above _ _ _ _ _ _ (c .before .before .before .before .loop .inv) (c .before .before .before .loop-test .taken) _ (ap Verdict.Refused (c .bad-entry .ensures)) (c .before .if1 .taken)
+returns c = stop-above _ _ _ _ _ _ (c .before .before .before .before .loop .inv)
+    (c .before .before .before .loop-test .taken) _ (ap Verdict.Refused (c .bad-entry .ensures)) (c .before .if1 .taken)
 
 sub-if3 : tie.Need-sub-if3 Inv-loop μ-loop
 sub-if3 c = omega arith
 
 slice-read-if3 : tie.Need-slice-read-if3 Inv-loop μ-loop
-slice-read-if3 c = omega (arith, long (c .before .before .before .before .before), c .before .before .before .before .before .before .before .before .pre .0)
+slice-read-if3 c = omega (
+  arith,
+  long (c .before .before .before .before .before),
+  c .before .before .before .before .before .before .before .before .pre .0,
+)
 
 bad-entry-requires-2 : tie.Need-bad-entry-requires-2 Inv-loop μ-loop
 bad-entry-requires-2 c κs = tt
@@ -53,13 +60,20 @@ same-length-2 : tie.Need-same-length-2 Inv-loop μ-loop
 same-length-2 c = long (c .before .before .before .before .before .before .before)
 
 returns-2 : tie.Need-returns-2 Inv-loop μ-loop
-returns-2 c = stop-again _ _ _ _ _ _ (c .before .before .before .before .before .before .before .loop .inv) (c .before .before .before .before .before .before .loop-test .taken) _ (ap Verdict.Refused (c .bad-entry2 .ensures)) (c .before .before .before .before .if1 .left) (c .before .before .before .if2 .taken) (c .before .if3 .taken)
+returns-2 c = stop-again _ _ _ _ _ _ (c .before .before .before .before .before .before .before .loop .inv)
+    (c .before .before .before .before .before .before .loop-test .taken) _
+    (ap Verdict.Refused (c .bad-entry2 .ensures)) (c .before .before .before .before .if1 .left)
+    (c .before .before .before .if2 .taken) (c .before .if3 .taken)
 
 sub-marks : tie.Need-sub-marks Inv-loop μ-loop
 sub-marks c = omega arith
 
 slice-write-marks : tie.Need-slice-write-marks Inv-loop μ-loop
-slice-write-marks c = omega (arith, long (c .before .before .before .before .before .before), c .before .before .before .before .before .before .before .before .before .pre .0)
+slice-write-marks c = omega (
+  arith,
+  long (c .before .before .before .before .before .before),
+  c .before .before .before .before .before .before .before .before .before .pre .0,
+)
 
 add-named : tie.Need-add-named Inv-loop μ-loop
 add-named c = omega (arith, number-le _ _ _ _ _ _ (c .before .before .before .before .before .before .loop .inv))
@@ -86,7 +100,8 @@ same-length-3 : tie.Need-same-length-3 Inv-loop μ-loop
 same-length-3 c = long (c .before .before .before)
 
 returns-3 : tie.Need-returns-3 Inv-loop μ-loop
-returns-3 c = done-short _ _ _ _ _ _ (c .before .before .before .loop .inv) (c .before .before .loop-test .left) _ (ap Verdict.Refused (c .bad-entry3 .ensures)) (c .before .if4 .taken)
+returns-3 c = done-short _ _ _ _ _ _ (c .before .before .before .loop .inv) (c .before .before .loop-test .left) _
+    (ap Verdict.Refused (c .bad-entry3 .ensures)) (c .before .if4 .taken)
 
 same-length-4 : tie.Need-same-length-4 Inv-loop μ-loop
 same-length-4 c = long (c .before .before)

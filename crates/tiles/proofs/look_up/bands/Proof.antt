@@ -16,14 +16,20 @@ use Rattle.tiles.proofs.look_up.bands.Statement.{statement}
 use Rattle.tiles.proofs.look_up.bands.Tie as tie
 
 -- what the stored number is
-told : (c : tie.After-stored-number) → let a = c .before .before .before .args in c .stored-number .result ≡ numberOf (a .k) (a .index .now) (a .count) (a .store .now) (a .row) (a .column)
+told : (c : tie.After-stored-number) → let a = c .before .before .before .args in
+    c .stored-number .result ≡ numberOf (a .k) (a .index .now) (a .count) (a .store .now) (a .row) (a .column)
 told c = let s = c .before .before .before in
-    c .stored-number .ensures ∙ number-plain (s .args .k) (s .args .index .now) (s .args .count) (s .args .store .now) (s .args .row) (s .args .column) (s .fits .row) (s .fits .column)
+    c .stored-number .ensures
+    ∙ number-plain (s .args .k) (s .args .index .now) (s .args .count) (s .args .store .now) (s .args .row)
+    (s .args .column) (s .fits .row) (s .fits .column)
 
-stored-at : (c : tie.After-known-told) → let a = c .before .before .before .before .before .before .args in numberOf (a .k) (a .index .now) (a .count) (a .store .now) (a .row) (a .column) ≡ NumberAnswer.Stored (c .before .n .given .0 .0)
+stored-at : (c : tie.After-known-told) → let a = c .before .before .before .before .before .before .args in
+    numberOf (a .k) (a .index .now) (a .count) (a .store .now) (a .row) (a .column)
+    ≡ NumberAnswer.Stored (c .before .n .given .0 .0)
 stored-at c = sym (told (c .before .before .before)) ∙ c .before .n .given .1
 
-held : (c : tie.After-known-told) → let a = c .before .before .before .before .before .before .args in InStore (c .before .n .given .0 .0) (a .count) (a .store .now)
+held : (c : tie.After-known-told) → let a = c .before .before .before .before .before .before .args in
+    InStore (c .before .n .given .0 .0) (a .count) (a .store .now)
 held c = number-held _ _ _ _ _ _ _ (stored-at c)
 
 long : (c : tie.After-part) → length (c .part .result .now) ≡ 49152
@@ -75,7 +81,8 @@ enum-known-e c = search needs
 abbrev bandsAt : List ℕ → ℕ → BandsAnswer
 bandsAt p i = BandsAnswer.Bands (getD p i 0) (getD p (i + 16384) 0) (getD p (i + 32768) 0)
 
-made : {p q : List ℕ} {r s c d : ℕ} → p ≡ q → r ≡ s → c ≡ d → bandsAt p (r % 128 * 128 + c % 128) ≡ bandsAt q (s % 128 * 128 + d % 128)
+made : {p q : List ℕ} {r s c d : ℕ} → p ≡ q → r ≡ s → c ≡ d
+    → bandsAt p (r % 128 * 128 + c % 128) ≡ bandsAt q (s % 128 * 128 + d % 128)
 made e f g = ap₂ bandsAt e (ap₂ (λ (x y : ℕ). x % 128 * 128 + y % 128) f g)
 
 returns : tie.Need-returns
@@ -83,7 +90,9 @@ unfolding bandsOf partOf
 returns c =
     let s = c .before .before .before .before .before .before .before .before .before .before .before .before in
     rw (stored-at (c .before .before .before .before .before .before))
-    (made (c .before .before .before .before .before .part .ensures) (c .before .before .before .before .size .ensures ∙ ap natAbs (toZ-ofZ w64 (s .args .row) (s .fits .row))) (c .before .before .before .size2 .ensures ∙ ap natAbs (toZ-ofZ w64 (s .args .column) (s .fits .column))))
+    (made (c .before .before .before .before .before .part .ensures)
+    (c .before .before .before .before .size .ensures ∙ ap natAbs (toZ-ofZ w64 (s .args .row) (s .fits .row)))
+    (c .before .before .before .size2 .ensures ∙ ap natAbs (toZ-ofZ w64 (s .args .column) (s .fits .column))))
 
 returns-2 : tie.Need-returns-2
 unfolding bandsOf

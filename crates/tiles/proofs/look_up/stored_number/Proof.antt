@@ -1,4 +1,4 @@
--- The tests are the definition's, those of the pixel the card's own; an accepted pixel's tile is one of the image. Assumes nothing.
+-- The tests are the definition's, and an accepted pixel's tile is one of the image. Assumes nothing.
 use mathlib.Core.Path.{_≡_, sym, ap, ap₂, _∙_}
 use mathlib.Core.Bool.{false}
 use Prim.Native.Nat.{ℕ, _+_, _*_, _/_, _<_}
@@ -21,36 +21,60 @@ use Rattle.tiles.proofs.look_up.stored_number.Statement.{statement}
 use Rattle.tiles.proofs.look_up.stored_number.Tie as tie
 
 -- the lengths are right
-right : (c : tie.Else1) → let a = c .before .before .before .before .args in indexWrong (a .k) (a .index .now) (a .count) ≡ false
+right : (c : tie.Else1) → let a = c .before .before .before .before .args in
+    indexWrong (a .k) (a .index .now) (a .count) ≡ false
 right c = sym (c .before .index-wrong .ensures) ∙ c .if1 .left
 
 -- the pixel's verdict
-verdict : (c : tie.After-judge-pixel) → let a = c .before .before .before .before .before .before .args in c .judge-pixel .result ≡ verdictOf (a .k) (a .row) (a .column)
-verdict c = let s = c .before .before .before .before .before .before in c .judge-pixel .ensures ∙ ap₂ (verdictOf (s .args .k)) (toZ-ofZ w64 (s .args .row) (s .fits .row)) (toZ-ofZ w64 (s .args .column) (s .fits .column))
+verdict : (c : tie.After-judge-pixel) → let a = c .before .before .before .before .before .before .args in
+    c .judge-pixel .result ≡ verdictOf (a .k) (a .row) (a .column)
+verdict c = let s = c .before .before .before .before .before .before in
+    c .judge-pixel .ensures ∙ ap₂ (verdictOf (s .args .k)) (toZ-ofZ w64 (s .args .row) (s .fits .row))
+    (toZ-ofZ w64 (s .args .column) (s .fits .column))
 
 -- the number by that verdict
-number-is : (c : tie.After-judge-pixel) (v : Verdict) → c .judge-pixel .result ≡ v → let a = c .before .before .before .before .before .before .args in let t = tileOf (a .k) (natAbs (a .row)) (natAbs (a .column)) in
-    numberOf (a .k) (a .index .now) (a .count) (a .store .now) (a .row) (a .column) ≡ afterVerdict v (numberIn t (saidOf (a .k) (a .index .now) (a .count) t))
+number-is : (c : tie.After-judge-pixel) (v : Verdict) → c .judge-pixel .result ≡ v →
+    let a = c .before .before .before .before .before .before .args in
+    let t = tileOf (a .k) (natAbs (a .row)) (natAbs (a .column)) in
+    numberOf (a .k) (a .index .now) (a .count) (a .store .now) (a .row) (a .column)
+    ≡ afterVerdict v (numberIn t (saidOf (a .k) (a .index .now) (a .count) t))
 number-is c v e =
     let a = c .before .before .before .before .before .before .args in
-    let w : storeWrong (a .k) (a .index .now) (a .count) (a .store .now) ≡ false = rw (right (c .before .before), eq-eqb _ _ (c .before .if2 .left)) in
+    let t = tileOf (a .k) (natAbs (a .row)) (natAbs (a .column)) in
+    let w : storeWrong (a .k) (a .index .now) (a .count) (a .store .now) ≡ false =
+    rw (right (c .before .before), eq-eqb _ _ (c .before .if2 .left)) in
     number-by (a .k) (a .row) (a .column) (a .index .now) (a .count) (a .store .now) w
-    ∙ ap (λ (x : Verdict). afterVerdict x (numberIn (tileOf (a .k) (natAbs (a .row)) (natAbs (a .column))) (saidOf (a .k) (a .index .now) (a .count) (tileOf (a .k) (natAbs (a .row)) (natAbs (a .column)))))) (sym (verdict c) ∙ e)
+    ∙ ap (λ (x : Verdict). afterVerdict x
+    (numberIn t (saidOf (a .k) (a .index .now) (a .count) t))) (sym (verdict c) ∙ e)
 
 -- an accepted pixel's tile
-inside : (c : tie.After-enum-told) → let a = c .before .before .before .before .before .before .before .before .args in tileOf (a .k) (natAbs (a .row)) (natAbs (a .column)) < tiles (a .k)
-inside c = let a = c .before .before .before .before .before .before .before .before .args in tile-in (a .k) (a .row) (a .column) (verdict-in (a .k) (a .row) (a .column) (sym (verdict (c .before .before)) ∙ c .enum-told .given .1))
+inside : (c : tie.After-enum-told) → let a = c .before .before .before .before .before .before .before .before .args in
+    tileOf (a .k) (natAbs (a .row)) (natAbs (a .column)) < tiles (a .k)
+inside c = let a = c .before .before .before .before .before .before .before .before .args in
+    tile-in (a .k) (a .row) (a .column)
+    (verdict-in (a .k) (a .row) (a .column) (sym (verdict (c .before .before)) ∙ c .enum-told .given .1))
 
-small : (c : tie.After-enum-told) → let a = c .before .before .before .before .before .before .before .before .args in tileOf (a .k) (natAbs (a .row)) (natAbs (a .column)) < 998001
-small c = omega (arith, inside c, tiles-small _ (known-sized _ (c .before .before .before .before .before .before .before .before .pre)))
+small : (c : tie.After-enum-told) → let a = c .before .before .before .before .before .before .before .before .args in
+    tileOf (a .k) (natAbs (a .row)) (natAbs (a .column)) < 998001
+small c = omega (
+  arith,
+  inside c,
+  tiles-small _ (known-sized _ (c .before .before .before .before .before .before .before .before .pre)),
+)
 
-rows : (c : tie.After-size) → c .size .result ≡ natAbs (c .before .before .before .before .before .before .before .before .before .args .row)
-rows c = let s = c .before .before .before .before .before .before .before .before .before in c .size .ensures ∙ ap natAbs (toZ-ofZ w64 (s .args .row) (s .fits .row))
+rows : (c : tie.After-size)
+    → c .size .result ≡ natAbs (c .before .before .before .before .before .before .before .before .before .args .row)
+rows c = let s = c .before .before .before .before .before .before .before .before .before in
+    c .size .ensures ∙ ap natAbs (toZ-ofZ w64 (s .args .row) (s .fits .row))
 
-here : (c : tie.After-size2) → let a = c .before .before .before .before .before .before .before .before .before .before .before .args in c .before .before .size .result / 128 * a .k .nfc + c .size2 .result / 128 ≡ tileOf (a .k) (natAbs (a .row)) (natAbs (a .column))
+here : (c : tie.After-size2) →
+    let a = c .before .before .before .before .before .before .before .before .before .before .before .args in
+    c .before .before .size .result / 128 * a .k .nfc + c .size2 .result / 128
+    ≡ tileOf (a .k) (natAbs (a .row)) (natAbs (a .column))
 here c =
     let s = c .before .before .before .before .before .before .before .before .before .before .before in
-    ap₂ (λ (x y : ℕ). x / 128 * s .args .k .nfc + y / 128) (rows (c .before .before)) (c .size2 .ensures ∙ ap natAbs (toZ-ofZ w64 (s .args .column) (s .fits .column)))
+    ap₂ (λ (x y : ℕ). x / 128 * s .args .k .nfc + y / 128) (rows (c .before .before))
+    (c .size2 .ensures ∙ ap natAbs (toZ-ofZ w64 (s .args .column) (s .fits .column)))
 
 index-wrong-requires : tie.Need-index-wrong-requires
 index-wrong-requires c κs = known-sized _ (c .before .before .pre)
@@ -60,17 +84,20 @@ refused-requires c κs = search needs
 
 returns : tie.Need-returns
 unfolding numberOf
-returns c = rw (sym (c .before .before .index-wrong .ensures) ∙ c .before .if1 .taken) (ap NumberAnswer.Refused (c .refused .ensures))
+returns c = rw (sym (c .before .before .index-wrong .ensures) ∙ c .before .if1 .taken)
+    (ap NumberAnswer.Refused (c .refused .ensures))
 
 mul-if2 : tie.Need-mul-if2
-mul-if2 c = let s = c .before .before .before .before in omega (arith, tiles-small _ (known-sized _ (s .pre)), count-most _ _ _ (right c))
+mul-if2 c = let s = c .before .before .before .before in
+    omega (arith, tiles-small _ (known-sized _ (s .pre)), count-most _ _ _ (right c))
 
 refused-requires-2 : tie.Need-refused-requires-2
 refused-requires-2 c κs = search needs
 
 returns-2 : tie.Need-returns-2
 unfolding numberOf
-returns-2 c = rw (right (c .before .before), ne-eqb _ _ (c .before .if2 .taken)) (ap NumberAnswer.Refused (c .refused2 .ensures))
+returns-2 c = rw (right (c .before .before), ne-eqb _ _ (c .before .if2 .taken))
+    (ap NumberAnswer.Refused (c .refused2 .ensures))
 
 judge-pixel-requires : tie.Need-judge-pixel-requires
 judge-pixel-requires c κs = search needs
@@ -82,7 +109,8 @@ size-requires : tie.Need-size-requires
 size-requires c κs = search needs
 
 mul-tile : tie.Need-mul-tile
-mul-tile c = let a = c .before .before .before .before .before .before .before .before .before .before .args in omega (arith, small (c .before .before), ap (λ (x : ℕ). x / 128 * a .k .nfc) (rows (c .before)))
+mul-tile c = let a = c .before .before .before .before .before .before .before .before .before .before .args in
+    omega (arith, small (c .before .before), ap (λ (x : ℕ). x / 128 * a .k .nfc) (rows (c .before)))
 
 size-requires-2 : tie.Need-size-requires-2
 size-requires-2 c κs = search needs
@@ -91,7 +119,13 @@ add-tile : tie.Need-add-tile
 add-tile c = omega (arith, small (c .before .before .before), here c)
 
 number-of-requires : tie.Need-number-of-requires
-number-of-requires c κs = (known-sized _ (c .before .before .before .before .before .before .before .before .before .before .before .pre), (right (c .before .before .before .before .before .before .before), rw (here c) (inside (c .before .before .before))))
+number-of-requires c κs = (
+  known-sized _ (c .before .before .before .before .before .before .before .before .before .before .before .pre),
+  (
+    right (c .before .before .before .before .before .before .before),
+    rw (here c) (inside (c .before .before .before)),
+  ),
+)
 
 enum-known-e : tie.Need-enum-known-e
 enum-known-e c = search needs
@@ -101,10 +135,12 @@ returns-3 c =
     let a = c .before .before .before .before .before .before .before .before .before .before .before .before .args in
     c .number-of .ensures
     ∙ ap (λ (t : ℕ). numberIn t (saidOf (a .k) (a .index .now) (a .count) t)) (here (c .before))
-    ∙ sym (number-is (c .before .before .before .before .before .before) Verdict.Accepted (c .before .before .before .before .enum-told .given .1))
+    ∙ sym (number-is (c .before .before .before .before .before .before) Verdict.Accepted
+    (c .before .before .before .before .enum-told .given .1))
 
 returns-4 : tie.Need-returns-4
-returns-4 c = sym (number-is (c .before .before .before) (Verdict.Refused (c .before .e .given .0 .0)) (c .before .e .given .1))
+returns-4 c = sym (number-is (c .before .before .before) (Verdict.Refused (c .before .e .given .0 .0))
+    (c .before .e .given .1))
 
 pub stored-number-spec : {M : Type 1} → statement M
 stored-number-spec =

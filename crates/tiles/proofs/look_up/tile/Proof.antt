@@ -8,14 +8,20 @@ use Rattle.tiles.proofs.look_up.tile.Statement.{statement}
 use Rattle.tiles.proofs.look_up.tile.Tie as tie
 
 -- what the stored number is
-told : (c : tie.After-stored-number) → let a = c .before .before .before .args in c .stored-number .result ≡ numberOf (a .k) (a .index .now) (a .count) (a .store .now) (a .row) (a .column)
+told : (c : tie.After-stored-number) → let a = c .before .before .before .args in
+    c .stored-number .result ≡ numberOf (a .k) (a .index .now) (a .count) (a .store .now) (a .row) (a .column)
 told c = let s = c .before .before .before in
-    c .stored-number .ensures ∙ number-plain (s .args .k) (s .args .index .now) (s .args .count) (s .args .store .now) (s .args .row) (s .args .column) (s .fits .row) (s .fits .column)
+    c .stored-number .ensures
+    ∙ number-plain (s .args .k) (s .args .index .now) (s .args .count) (s .args .store .now) (s .args .row)
+    (s .args .column) (s .fits .row) (s .fits .column)
 
-stored-at : (c : tie.After-known-told) → let a = c .before .before .before .before .before .before .args in numberOf (a .k) (a .index .now) (a .count) (a .store .now) (a .row) (a .column) ≡ NumberAnswer.Stored (c .before .n .given .0 .0)
+stored-at : (c : tie.After-known-told) → let a = c .before .before .before .before .before .before .args in
+    numberOf (a .k) (a .index .now) (a .count) (a .store .now) (a .row) (a .column)
+    ≡ NumberAnswer.Stored (c .before .n .given .0 .0)
 stored-at c = sym (told (c .before .before .before)) ∙ c .before .n .given .1
 
-held : (c : tie.After-known-told) → let a = c .before .before .before .before .before .before .args in InStore (c .before .n .given .0 .0) (a .count) (a .store .now)
+held : (c : tie.After-known-told) → let a = c .before .before .before .before .before .before .args in
+    InStore (c .before .n .given .0 .0) (a .count) (a .store .now)
 held c = number-held _ _ _ _ _ _ _ (stored-at c)
 
 stored-number-requires : tie.Need-stored-number-requires

@@ -14,7 +14,9 @@ use Rattle.tiles.proofs.scan.first_missing.Tie as tie
 abbrev Inv-loop : tie.InvT-loop
 Inv-loop k index count top left height width answer₀ r start c₀ answer c =
     (answer ≡ WindowAnswer.AllStored) × (c ≤ width)
-    × (scan k index count (windowTiles k top left height width) ≡ scan k index count (rowTiles (start + c) (width - c) ++ windowTiles k (top + (r + 1)) left (height - (r + 1)) width))
+    × (scan k index count (windowTiles k top left height width)
+    ≡ scan k index count (rowTiles (start + c) (width - c) ++ windowTiles k (top + (r + 1)) left
+    (height - (r + 1)) width))
 
 abbrev μ-loop : tie.MeasureT-loop
 μ-loop k index count top left height width answer₀ r start c₀ answer c = width - c
@@ -22,13 +24,15 @@ abbrev μ-loop : tie.MeasureT-loop
 abbrev Inv-rows : tie.InvT-rows
 Inv-rows k index count top left height width answer₀ r₀ answer r =
     (answer ≡ WindowAnswer.AllStored) × (r ≤ height)
-    × (scan k index count (windowTiles k top left height width) ≡ scan k index count (windowTiles k (top + r) left (height - r) width))
+    × (scan k index count (windowTiles k top left height width)
+    ≡ scan k index count (windowTiles k (top + r) left (height - r) width))
 
 abbrev μ-rows : tie.MeasureT-rows
 μ-rows k index count top left height width answer₀ r₀ answer r = height - r
 
 -- the row's first tile is small, and the tile lies in the index
-small : (c : tie.After-struct-known Inv-loop μ-loop Inv-rows μ-rows) → (c .before .before .before .before .args .top + c .before .before .rows .r) * c .before .before .before .before .args .k .nfc ≤ 999 * 999
+small : (c : tie.After-struct-known Inv-loop μ-loop Inv-rows μ-rows)
+    → let a = c .before .before .before .before .args in (a .top + c .before .before .rows .r) * a .k .nfc ≤ 999 * 999
 small c =
     let s = c .before .before .before .before in
     mul-le-mul {n₂ = 999} {m₂ = 999} (omega (arith, s .pre .down, s .pre .sized .rows)) (s .pre .sized .columns)
@@ -38,14 +42,16 @@ here c =
     let a = c .before .before .before .before .before .before .args in
     (a .top + c .before .before .before .before .rows .r) * a .k .nfc + a .left + c .before .loop .c
 
-inside : (c : tie.In-loop Inv-loop μ-loop Inv-rows μ-rows) → here c < length (c .before .before .before .before .before .before .args .index .now)
+inside : (c : tie.In-loop Inv-loop μ-loop Inv-rows μ-rows)
+    → here c < length (c .before .before .before .before .before .before .args .index .now)
 inside c =
     let s = c .before .before .before .before .before .before in
     let a = s .args in
     omega (
       arith,
       s .pre .long,
-      within (a .top) (c .before .before .before .before .rows .r) (a .height) (a .k .nfc) (a .left) (a .width) (c .before .loop .c) (a .k .nfl)
+      within (a .top) (c .before .before .before .before .rows .r) (a .height) (a .k .nfc) (a .left) (a .width)
+          (c .before .loop .c) (a .k .nfl)
           (c .before .before .before .rows-test .taken) (c .loop-test .taken) (s .pre .across) (s .pre .down),
     )
 
@@ -63,13 +69,23 @@ mul-start : tie.Need-mul-start Inv-loop μ-loop Inv-rows μ-rows
 mul-start c = omega (arith, small c)
 
 add-start-2 : tie.Need-add-start-2 Inv-loop μ-loop Inv-rows μ-rows
-add-start-2 c = omega (arith, small c, c .before .before .before .before .pre .across, c .before .before .before .before .pre .sized .columns)
+add-start-2 c = omega (
+  arith,
+  small c,
+  c .before .before .before .before .pre .across,
+  c .before .before .before .before .pre .sized .columns,
+)
 
 loop-holds : tie.Need-loop-holds Inv-loop μ-loop Inv-rows μ-rows
 loop-holds c =
     let s = c .before .before .before .before in
-    let l = c .before .before .rows in
-    (l .inv .0, omega arith, l .inv .2 ∙ enter (s .args .k) (s .args .index .now) (s .args .count) (s .args .top) (s .args .left) (l .r) (s .args .height) (s .args .width) (c .before .rows-test .taken))
+    let l = c .before .before .rows in (
+      l .inv .0,
+      omega arith,
+      l .inv .2
+          ∙ enter (s .args .k) (s .args .index .now) (s .args .count) (s .args .top) (s .args .left) (l .r)
+          (s .args .height) (s .args .width) (c .before .rows-test .taken),
+    )
 
 add-tile : tie.Need-add-tile Inv-loop μ-loop Inv-rows μ-rows
 add-tile c = omega (arith, inside c)
@@ -94,8 +110,13 @@ loop-less c = omega arith
 
 loop-again : tie.Need-loop-again Inv-loop μ-loop Inv-rows μ-rows
 loop-again c =
-    let l = c .before .before .before .before .loop in
-    (l .inv .0, omega arith, l .inv .2 ∙ advance _ _ _ (c .before .before .before .before .before .before .before .before .before .pre .indexed) _ (l .c) _ _ (c .before .before .before .loop-test .taken) (c .before .if1 .left) (c .if2 .left))
+    let l = c .before .before .before .before .loop in (
+      l .inv .0,
+      omega arith,
+      l .inv .2
+          ∙ advance _ _ _ (c .before .before .before .before .before .before .before .before .before .pre .indexed) _
+          (l .c) _ _ (c .before .before .before .loop-test .taken) (c .before .if1 .left) (c .if2 .left),
+    )
 
 add-r : tie.Need-add-r Inv-loop μ-loop Inv-rows μ-rows
 add-r c = omega arith
@@ -112,18 +133,23 @@ returns : tie.Need-returns Inv-loop μ-loop Inv-rows μ-rows
 returns c =
     let a = c .before .before .before .args in
     let l = c .before .rows in
-    l .inv .0 ∙ sym (l .inv .2 ∙ done (a .k) (a .index .now) (a .count) (a .top) (a .left) (l .r) (a .height) (a .width) (c .rows-test .left))
+    l .inv .0 ∙ sym (l .inv .2
+    ∙ done (a .k) (a .index .now) (a .count) (a .top) (a .left) (l .r) (a .height) (a .width) (c .rows-test .left))
 
 returns-2 : tie.Need-returns-2 Inv-loop μ-loop Inv-rows μ-rows
 returns-2 c =
     let l = c .before .before .before .loop in
-    sym (l .inv .2 ∙ at-missing _ _ _ (c .before .before .before .before .before .before .before .before .pre .indexed) _ (l .c) _ _ (c .before .before .loop-test .taken) (c .if1 .taken))
+    sym (l .inv .2 ∙ at-missing _ _ _
+    (c .before .before .before .before .before .before .before .before .pre .indexed) _ (l .c) _ _
+    (c .before .before .loop-test .taken) (c .if1 .taken))
 
 returns-3 : tie.Need-returns-3 Inv-loop μ-loop Inv-rows μ-rows
 returns-3 c =
     let l = c .before .before .before .before .before .loop in
     ap WindowAnswer.Refused (c .bad-entry .ensures)
-    ∙ sym (l .inv .2 ∙ at-above _ _ _ (c .before .before .before .before .before .before .before .before .before .before .pre .indexed) _ (l .c) _ _ (c .before .before .before .before .loop-test .taken) (c .before .before .if1 .left) (c .before .if2 .taken))
+    ∙ sym (l .inv .2 ∙ at-above _ _ _
+    (c .before .before .before .before .before .before .before .before .before .before .pre .indexed) _ (l .c) _ _
+    (c .before .before .before .before .loop-test .taken) (c .before .before .if1 .left) (c .before .if2 .taken))
 
 pub first-missing-spec : {M : Type 1} → statement M
 first-missing-spec =

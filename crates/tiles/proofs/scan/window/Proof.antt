@@ -15,12 +15,14 @@ use Rattle.tiles.proofs.scan.window.Statement.{statement}
 use Rattle.tiles.proofs.scan.window.Tie as tie
 
 -- the lengths are right
-right : (c : tie.Else1) → let a = c .before .before .before .args in indexWrong (a .k) (a .index .now) (a .count) ≡ false
+right : (c : tie.Else1) → let a = c .before .before .before .args in
+    indexWrong (a .k) (a .index .now) (a .count) ≡ false
 right c = sym (c .before .index-wrong .ensures) ∙ c .if1 .left
 
 -- the test of 12
 past : (c : tie.After-reaches-past2) → let a = c .before .before .before .before .before .args in
-    ltb (a .k .nfl) (a .top + a .height) || ltb (a .k .nfc) (a .left + a .width) ≡ c .before .reaches-past .result || c .reaches-past2 .result
+    ltb (a .k .nfl) (a .top + a .height) || ltb (a .k .nfc) (a .left + a .width)
+    ≡ c .before .reaches-past .result || c .reaches-past2 .result
 past c = ap₂ (λ (x y : Bool). x || y) (sym (c .before .reaches-past .ensures)) (sym (c .reaches-past2 .ensures))
 
 index-wrong-requires : tie.Need-index-wrong-requires
@@ -31,7 +33,8 @@ refused-requires c κs = search needs
 
 returns : tie.Need-returns
 unfolding windowOf
-returns c = rw (sym (c .before .before .index-wrong .ensures) ∙ c .before .if1 .taken) (ap WindowAnswer.Refused (c .refused .ensures))
+returns c = rw (sym (c .before .before .index-wrong .ensures) ∙ c .before .if1 .taken)
+    (ap WindowAnswer.Refused (c .refused .ensures))
 
 reaches-past-requires : tie.Need-reaches-past-requires
 reaches-past-requires c κs = search needs
@@ -44,14 +47,19 @@ refused-requires-2 c κs = search needs
 
 returns-2 : tie.Need-returns-2
 unfolding windowOf
-returns-2 c = rw (right (c .before .before .before .before), past (c .before .before) ∙ c .before .if2 .taken) (ap WindowAnswer.Refused (c .refused2 .ensures))
+returns-2 c = rw (right (c .before .before .before .before), past (c .before .before) ∙ c .before .if2 .taken)
+    (ap WindowAnswer.Refused (c .refused2 .ensures))
 
 returns-3 : tie.Need-returns-3
 unfolding windowOf
 returns-3 c =
     let a = c .before .before .before .before .before .before .before .before .args in
-    rw (right (c .before .before .before .before .before), past (c .before .before .before) ∙ c .before .before .if2 .left)
-    (sym (scan-all (a .k) (a .index .now) (a .count) (not-true (a .k .tif) (c .if3 .taken)) (windowTiles (a .k) (a .top) (a .left) (a .height) (a .width))))
+    rw (
+      right (c .before .before .before .before .before),
+      past (c .before .before .before) ∙ c .before .before .if2 .left,
+    )
+    (sym (scan-all (a .k) (a .index .now) (a .count) (not-true (a .k .tif) (c .if3 .taken))
+    (windowTiles (a .k) (a .top) (a .left) (a .height) (a .width))))
 
 first-missing-requires : tie.Need-first-missing-requires
 first-missing-requires c κs =
@@ -67,7 +75,10 @@ first-missing-requires c κs =
 
 returns-4 : tie.Need-returns-4
 unfolding windowOf
-returns-4 c = rw (right (c .before .before .before .before .before .before), past (c .before .before .before .before) ∙ c .before .before .before .if2 .left) (c .first-missing .ensures)
+returns-4 c = rw (
+  right (c .before .before .before .before .before .before),
+  past (c .before .before .before .before) ∙ c .before .before .before .if2 .left,
+) (c .first-missing .ensures)
 
 pub window-spec : {M : Type 1} → statement M
 window-spec =

@@ -1,0 +1,103 @@
+-- The two numbers of a line are those of its parts before and after the first space. Assumes nothing.
+use mathlib.Core.Path.{_≡_, refl, sym, _∙_}
+use Prim.Native.Nat.{ℕ, suc, _+_, _*_, _-_, _^_, _≤_, _<_}
+use native.Mathlib.Nat.{zero-add, one-mul, mul-one, mul-assoc, mul-le-mul-right, pow-succ', pow-le-pow-right}
+use native.Mathlib.Omega.{arith}
+use mathlib.Core.Bool.{Bool, true, false, cond, _&&_, and-false}
+use mathlib.Core.List.{List, [], _∷_}
+use mathlib.Core.Option.{Option, some, none}
+use lib.ListN.{length, take, drop, drop-of-length-le, length-drop}
+use lib.Seq.{take-all}
+use borrow.Author.Tests.{leb-true}
+use lib.Dec.{leb}
+use Rattle.card.specs.Text.{all, isDigit, onward, number}
+use Rattle.printing.specs.Lines.{upTo, beforeSpace, afterSpace, isNumber, Pair, numbersOf}
+use Rattle.printing.specs.Answers.{numbersAnswer}
+use Rattle.printing.specs.declared.parse.Numbers.{Numbers}
+use Rattle.printing.proofs.Scan.{both, upTo-take, space-drop, is-number}
+
+-- what stands after place k
+abbrev rest : List ℕ → ℕ → List ℕ
+rest s k = take (length s - (k + 1)) (drop (k + 1) s)
+
+-- k is where the first space stands, or the end
+module _ (s : List ℕ) (k : ℕ) (e : k ≡ 0 + length (upTo 32 s)) where
+  left-part : take k s ≡ beforeSpace s
+  left-part = rw (e, zero-add) (upTo-take 32 s)
+
+  right-part : rest s k ≡ afterSpace s
+  right-part = take-all (length s - (k + 1)) (drop (k + 1) s) (omega (arith, length-drop (k + 1) s)) ∙ rw (e, zero-add) (space-drop s)
+
+  -- there is no space
+  pub bad-whole : length s ≤ k → Numbers.Bad ≡ numbersAnswer (numbersOf s)
+  unfolding numbersOf
+  bad-whole h =
+      let n : [] ≡ afterSpace s = sym (drop-of-length-le s {i = k + 1} (omega arith)) ∙ rw (e, zero-add) (space-drop s) in
+      rw (← n, and-false (isNumber (beforeSpace s)))
+
+  -- x and y tell whether the parts are numbers
+  module _ {x y : Bool} (p : x ≡ isNumber (take k s)) (q : y ≡ isNumber (rest s k)) where
+    pub bad-parts : x && y ≡ false → Numbers.Bad ≡ numbersAnswer (numbersOf s)
+    unfolding numbersOf
+    bad-parts t = rw (← left-part, ← right-part, ← p, ← q, t)
+
+    pub good-parts : x && y ≡ true → {v w : ℕ} → v ≡ number (take k s) → w ≡ number (rest s k) → Numbers.Pair v w ≡ numbersAnswer (numbersOf s)
+    unfolding numbersOf
+    good-parts t f g = rw (← left-part, ← right-part, ← p, ← q, t, f, g)
+
+-- ---- the numbers are below 10 ^ 9
+
+onward-below : (bs : List ℕ) (v : ℕ) → all isDigit bs ≡ true → onward v bs < (v + 1) * 10 ^ length bs
+onward-below [] v t = omega (arith, mul-one (v + 1))
+onward-below (b ∷ bs) v t =
+    let w = both (isDigit b) (all isDigit bs) t in
+    let d = leb-true b 57 (both (leb 48 b) (leb b 57) (w .0) .1) in
+    let x : ℕ = v * 10 + (b - 48) in
+    let m : (x + 1) * 10 ^ length bs ≤ (v + 1) * 10 * 10 ^ length bs = mul-le-mul-right (10 ^ length bs) (omega arith) in
+    let e : (v + 1) * 10 * 10 ^ length bs ≡ (v + 1) * 10 ^ suc (length bs) = rw pow-succ' (mul-assoc (v + 1) 10 (10 ^ length bs)) in
+    omega (arith, onward-below bs x (w .1))
+
+number-below : (s : List ℕ) → isNumber s ≡ true → number s < 1000000000
+unfolding number
+number-below s t =
+    let n = is-number s t in
+    let p : 10 ^ length s ≤ 1000000000 = pow-le-pow-right (omega arith) (n .nine-digits) in
+    omega (arith, onward-below s 0 (n .of-digits), one-mul (10 ^ length s))
+
+pub pair-below : (l : List ℕ) (p : Pair) → numbersOf l ≡ some p → (p .left < 1000000000) × (p .right < 1000000000)
+unfolding numbersOf
+pair-below l p e = split (isNumber (beforeSpace l) && isNumber (afterSpace l)) refl e
+  where
+    x : Pair
+    x = record { left = number (beforeSpace l); right = number (afterSpace l) }
+
+    split : (t : Bool) → isNumber (beforeSpace l) && isNumber (afterSpace l) ≡ t → cond t (some x) none ≡ some p
+        → (p .left < 1000000000) × (p .right < 1000000000)
+    split true t e =
+        let b = both (isNumber (beforeSpace l)) (isNumber (afterSpace l)) t in
+        let w : x ≡ p = cc in
+        rw (← w) (number-below (beforeSpace l) (b .0), number-below (afterSpace l) (b .1))
+    split false t e = let z : _≡_ {A = ℕ} 0 1 = cc in absurd (omega arith)
+
+-- ---- what `numbers_in` tells of a line
+
+pair-of : (o : Option Pair) {x y : ℕ} → numbersAnswer o ≡ Numbers.Pair x y → o ≡ some (record { left = x; right = y })
+pair-of (some p) {x} {y} e =
+    let l : p .left ≡ x = cc in
+    let r : p .right ≡ y = cc in
+    rw (← l, ← r)
+pair-of none e = let z : _≡_ {A = ℕ} 0 1 = cc in absurd (omega arith)
+
+none-of : (o : Option Pair) → numbersAnswer o ≡ Numbers.Bad → o ≡ none
+none-of (some p) e = let z : _≡_ {A = ℕ} 0 1 = cc in absurd (omega arith)
+none-of none e = refl
+
+module _ (l : List ℕ) {a : Numbers} (e : a ≡ numbersAnswer (numbersOf l)) where
+  pub told-pair : {x y : ℕ} → a ≡ Numbers.Pair x y → numbersOf l ≡ some (record { left = x; right = y })
+  told-pair w = pair-of (numbersOf l) (sym e ∙ w)
+
+  pub told-below : {x y : ℕ} → a ≡ Numbers.Pair x y → (x < 1000000000) × (y < 1000000000)
+  told-below {x} {y} w = pair-below l (record { left = x; right = y }) (told-pair w)
+
+  pub told-bad : a ≡ Numbers.Bad → numbersOf l ≡ none
+  told-bad w = none-of (numbersOf l) (sym e ∙ w)

@@ -1,0 +1,69 @@
+-- A piece put where the last one ends makes one piece with it, and a loop that stores a piece byte by byte has put it.
+-- Assumes nothing.
+use mathlib.Core.Path.{_≡_, refl, ap, _∙_}
+use Prim.Native.Nat.{ℕ, _+_, _≤_, _<_}
+use native.Mathlib.Nat.{add-zero, add-assoc}
+use native.Mathlib.Numerals.{add-one}
+use native.Mathlib.Omega.{arith}
+use mathlib.Core.List.{List, [], _∷_, _++_, append-assoc}
+use lib.ListN.{length, take, drop, set, getD, length-append, length-take, length-drop, length-set}
+use lib.Seq.{paste, paste-zero, paste-suc, take-at, take-all, drop-append-add, drop-drop}
+use Rattle.printing.specs.Put.{splice, Put}
+
+pub length-splice : (o : ℕ) (x s : List ℕ) → o + length x ≤ length s → length (splice o x s) ≡ length s
+unfolding splice
+length-splice o x s h = simp (length-append, length-take, length-drop) (omega arith)
+
+-- a piece put after a piece is one piece
+pub splice-splice : (o : ℕ) (x y s : List ℕ) → o ≤ length s → splice (o + length x) y (splice o x s) ≡ splice o (x ++ y) s
+unfolding splice
+splice-splice o x y s h =
+    let p = take o s ++ x in
+    let r = drop (o + length x) s in
+    let hp : length p ≡ o + length x = simp (length-append, length-take) (omega arith) in
+    let t : take (o + length x) (p ++ r) ≡ p = take-at p r (o + length x) hp in
+    let n : o + length x + length y ≡ length p + length y = omega arith in
+    rw (t, n, drop-append-add p r (length y), drop-drop, length-append) (simp (append-assoc, add-assoc))
+
+-- the buffer stays as long as it was
+pub put-length : {x s t : List ℕ} {o r : ℕ} → Put x o s t r → length t ≡ length s
+put-length {x} {s} {t} {o} {r} p = ap length (p .holds) ∙ length-splice o x s (omega (arith, p .ends, p .fits))
+
+pub put-then : {x y s t u : List ℕ} {o r q : ℕ} → Put x o s t r → Put y r t u q → Put (x ++ y) o s u q
+put-then {x} {y} {s} {t} {u} {o} {r} {q} p w =
+    let l : length t ≡ length s = put-length p in
+    record {
+      ends = omega (arith, p .ends, w .ends, length-append x y);
+      fits = omega (arith, w .fits);
+      holds = w .holds ∙ rw (p .holds, p .ends) (splice-splice o x y s (omega (arith, p .ends, p .fits)));
+    }
+
+-- the first j bytes of a piece stand at the offset
+pub record Partly (x s : List ℕ) (o : ℕ) (t : List ℕ) (j : ℕ) : Type 0 where
+  pub same : length t ≡ length s
+  pub so : t ≡ paste s o x j
+
+pub partly-none : (x s : List ℕ) (o : ℕ) → Partly x s o s 0
+partly-none x s o = record { same = refl; so = paste-zero s o x }
+
+module _ {x s t : List ℕ} {o j : ℕ} (p : Partly x s o t j) where
+  -- one turn
+  pub partly-next : (b : ℕ) → o + length x ≤ length s → j < length x → getD x j 0 ≡ b → Partly x s o (set t (o + j) b) (j + 1)
+  partly-next b h l e =
+      record { same = length-set t (o + j) b ∙ p .same; so = rw (p .so, add-one, ← e) (paste-suc s o x j 0 (omega arith) l) }
+
+  -- the last turn
+  pub partly-all : o + length x ≤ length s → j ≡ length x → Put x o s t (o + j)
+  unfolding splice
+  partly-all h e =
+      record {
+        ends = omega arith;
+        fits = omega arith;
+        holds = p .so ∙ rw (e, take-all (length x) x (omega arith));
+      }
+
+-- one byte
+pub put-byte : (s : List ℕ) (o b : ℕ) → o < length s → Put (b ∷ []) o s (set s o b) (o + 1)
+put-byte s o b h =
+    let p = partly-next (partly-none (b ∷ []) s o) b (omega arith) (omega arith) refl in
+    rw add-zero at (partly-all p (omega arith) refl)

@@ -1,0 +1,109 @@
+-- Every text that is printed at once fits 64 bytes, and lines follow only an accepted card. Assumes nothing.
+use mathlib.Core.Path.{_≡_, refl}
+use Prim.Native.Nat.{ℕ, _+_, _≤_}
+use native.Mathlib.Omega.{arith}
+use mathlib.Core.Bool.{Bool, true, false, cond, false≢true}
+use mathlib.Core.List.{List, []}
+use mathlib.Core.Option.{Option, some, none}
+use lib.Dec.{leb, ltb}
+use lib.IntN.{ℤ, pos}
+use lib.ListN.{length, length-append}
+use borrow.Author.Tests.{ltb-false}
+use Rattle.arc.specs.declared.Verdict.{Verdict}
+use Rattle.card.specs.declared.Card.{Card}
+use Rattle.card.specs.declared.PositionAnswer.{PositionAnswer}
+use Rattle.card.specs.Text.{bytes}
+use Rattle.card.specs.Write.{angleText}
+use Rattle.card.specs.Grid.{positionOf}
+use Rattle.card.specs.Read.{readOf, Accepted, Known}
+use Rattle.printing.specs.Lines.{Pair, numbersOf}
+use Rattle.printing.specs.Printed.{badLine, tooLong, answerText, lineOut, lineFor, cardOut}
+use Rattle.printing.specs.Run.{lineAt, nextAt, Opened, closed, openedWith, openedCard, openingOf}
+use Rattle.printing.specs.Answers.{openingFor, openingAnswer, served, textAt, lineAnswer}
+use Rattle.printing.specs.declared.OpeningAnswer.{OpeningAnswer}
+use Rattle.printing.specs.declared.LineAnswer.{LineAnswer}
+use Rattle.printing.proofs.Digits.{length-digits, decimal-short, decimal-most}
+use Rattle.printing.proofs.Pairs.{pair-below}
+
+length-angle : (d : ℕ) (z : ℤ) → length (angleText d z) ≡ d + 8
+unfolding angleText
+length-angle d z = simp (length-append, length-digits) (omega arith)
+
+answer-short : (a : PositionAnswer) → length (answerText a) ≤ 29
+answer-short (PositionAnswer.At lat lon) = simp (length-append, length-angle) (omega arith)
+answer-short (PositionAnswer.Refused e) = simp length-append (omega (arith, decimal-most (e .number)))
+
+pub line-short : (k : Card) (l : List ℕ) → length (lineFor k l) ≤ 64
+unfolding lineFor
+line-short k l = split (numbersOf l) refl
+  where
+    split : (o : Option Pair) → numbersOf l ≡ o → length (lineOut k o) ≤ 64
+    split (some p) e =
+        let b = pair-below l p e in
+        let x = decimal-short (p .left) 9 (omega arith) (b .0) in
+        let y = decimal-short (p .right) 9 (omega arith) (b .1) in
+        let z = answer-short (positionOf k (pos (p .left)) (pos (p .right))) in
+        simp length-append (omega arith)
+    split none e = omega arith
+
+-- what `pixel_line` puts
+pub text-short : (k : Card) (s : List ℕ) (at : ℕ) (out : List ℕ) → length (textAt k s at out) ≤ 64
+unfolding textAt
+text-short k s at out = split (served s at out)
+  where
+    split : (t : Bool) → length (cond t (lineFor k (lineAt s at)) []) ≤ 64
+    split true = line-short k (lineAt s at)
+    split false = omega arith
+
+-- ---- what `opening` puts
+
+pub record Opening (s : List ℕ) (o : Opened) : Type 0 where
+  pub short : length (o .text) ≤ 64
+  pub known : o .more ≡ true → Known (o .card)
+  pub small : o .more ≡ true → length s ≤ 65536
+
+shut : (s x : List ℕ) → length x ≤ 64 → Opening s (closed x)
+shut s x h = record { short = h; known = λ e. absurd (false≢true e); small = λ e. absurd (false≢true e) }
+
+with-card : (s : List ℕ) → length s ≤ 65536 → (o : Option Pair) (card : List ℕ) (next : ℕ) → Opening s (openedCard o card next)
+with-card s h none card next = shut s badLine (omega arith)
+with-card s h (some p) card next = verdict (readOf (p .left) (p .right) card .verdict) (readOf (p .left) (p .right) card .card) refl
+  where
+    verdict : (v : Verdict) (k : Card) → readOf (p .left) (p .right) card ≡ record { verdict = v; card = k } → Opening s (openedWith v k next)
+    verdict Verdict.Accepted k e =
+        record {
+          short = omega arith;
+          known = λ m. record { scale = p .left; zone = p .right; is-read = record { bytes = card; read = e } };
+          small = λ m. h;
+        }
+    verdict (Verdict.Refused n) k e =
+        shut s (cardOut (Verdict.Refused n) k []) (simp length-append (omega (arith, decimal-most (n .number), decimal-most (n .at))))
+
+pub openings : (s out : List ℕ) → Opening s (openingFor s out)
+unfolding openingFor openingOf
+openings s out = split (leb 64 (length out)) (ltb 65536 (length s)) (leb (length s) (nextAt s 0)) refl
+  where
+    rest : Opened
+    rest = openedCard (numbersOf (lineAt s 0)) (lineAt s (nextAt s 0)) (nextAt s (nextAt s 0))
+
+    split : (t u v : Bool) → ltb 65536 (length s) ≡ u → Opening s (cond t (cond u (closed tooLong) (cond v (closed badLine) rest)) (closed []))
+    split true true v e = shut s tooLong (omega arith)
+    split true false true e = shut s badLine (omega arith)
+    split true false false e = with-card s (ltb-false 65536 (length s) e) (numbersOf (lineAt s 0)) (lineAt s (nextAt s 0)) (nextAt s (nextAt s 0))
+    split false u v e = shut s [] (omega arith)
+
+-- ---- for a caller
+
+pub line-fits : (k : Card) (s : List ℕ) (at : ℕ) (out : List ℕ) {r : LineAnswer} → r ≡ lineAnswer k s at out → r .length ≤ 64
+unfolding lineAnswer
+line-fits k s at out e = rw e (text-short k s at out)
+
+module _ (s out : List ℕ) {r : OpeningAnswer} (e : r ≡ openingAnswer (openingFor s out)) where
+  pub opening-fits : r .length ≤ 64
+  opening-fits = rw e (openings s out .short)
+
+  -- where lines follow, the card is one that reading accepts, and the input is no longer than the program takes
+  pub opening-known : r .more ≡ true → Known (r .card) × (length s ≤ 65536)
+  opening-known m =
+      let n : openingFor s out .more ≡ true = rw e at m in
+      (rw e (openings s out .known n), openings s out .small n)

@@ -1,0 +1,68 @@
+// What is printed for a line of row and column (01, "The printing program").
+use crate::parse::Numbers;
+use crate::parse::{self};
+use crate::write;
+use card::Card;
+use card::PositionAnswer;
+ghost use mathlib.Core.Path.{_≡_};
+ghost use Prim.Native.Nat.{_+_, _<_, _≤_};
+ghost use lib.IntN.{pos};
+ghost use lib.ListN.{length};
+ghost use Rattle.card.specs.Grid.{positionOf};
+ghost use Rattle.card.specs.Read.{Known};
+ghost use Rattle.printing.specs.Put.{Put};
+ghost use Rattle.printing.specs.Printed.{answerText, pixelText, lineFor};
+
+// Latitude and longitude in card form, or "refused" and the number.
+fn put_answer(out: &mut [u8], o: usize, a: PositionAnswer) -> usize
+    requires { ⌜ o + 29 ≤ length (now out) ⌝ }
+    ensures { λ r. ⌜ Put (answerText a) o (now (out .entry)) (now (out .exit)) r ⌝ }
+{
+    match a {
+        PositionAnswer::At { lat, lon } => {
+            let o1 = write::angle(out, o, 2, lat);
+            let o2 = write::byte(out, o1, 32);
+            let o3 = write::angle(out, o2, 3, lon);
+            write::byte(out, o3, 10)
+        }
+        PositionAnswer::Refused(e) => {
+            let o1 = write::text(out, o, b"refused ");
+            let o2 = write::decimal(out, o1, e.number as u64);
+            write::byte(out, o2, 10)
+        }
+    }
+}
+
+// Row, column and the answer.
+fn put_line(out: &mut [u8], row: u64, column: u64, a: PositionAnswer) -> usize
+    requires { ⌜ (64 ≤ length (now out)) × (row < 1000000000) × (column < 1000000000) ⌝ }
+    ensures { λ r. ⌜ Put (pixelText row column a) 0 (now (out .entry)) (now (out .exit)) r ⌝ }
+{
+    let o1 = write::decimal(out, 0, row);
+    let o2 = write::byte(out, o1, 32);
+    let o3 = write::decimal(out, o2, column);
+    let o4 = write::byte(out, o3, 32);
+    put_answer(out, o4, a)
+}
+
+// The answer for a row and a column of up to nine digits.
+fn position_at(k: Card, row: u64, column: u64) -> PositionAnswer
+    requires { ⌜ Known k ⌝ ∗ ⌜ row < 1000000000 ⌝ ∗ ⌜ column < 1000000000 ⌝ }
+    ensures { λ r. ⌜ r ≡ positionOf k (pos row) (pos column) ⌝ }
+{
+    k.position(row as i64, column as i64)
+}
+
+// Row, column and the answer, or "bad line".
+pub fn put_pixel(out: &mut [u8], k: Card, line: &[u8]) -> usize
+    requires { ⌜ Known k ⌝ ∗ ⌜ 64 ≤ length (now out) ⌝ }
+    ensures { λ r. ⌜ Put (lineFor k (now (line .entry))) 0 (now (out .entry)) (now (out .exit)) r ⌝ }
+{
+    match parse::numbers_in(line) {
+        Numbers::Pair { left, right } => {
+            let a = position_at(k, left, right);
+            put_line(out, left, right, a)
+        }
+        Numbers::Bad => write::text(out, 0, b"bad line\n"),
+    }
+}

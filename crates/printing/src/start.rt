@@ -1,0 +1,125 @@
+// What is printed first (01, "The printing program").
+use crate::OpeningAnswer;
+use crate::parse::Numbers;
+use crate::parse::{self};
+use crate::write;
+use arc::Refusal;
+use arc::Verdict;
+use card::Card;
+ghost use mathlib.Core.Path.{_≡_};
+ghost use mathlib.Core.List.{[]};
+ghost use Prim.Native.Nat.{_≤_};
+ghost use lib.ListN.{length};
+ghost use Rattle.arc.specs.declared.Verdict.{Verdict};
+ghost use Rattle.card.specs.Read.{noCard};
+ghost use Rattle.printing.specs.Put.{Put};
+ghost use Rattle.printing.specs.Lines.{numbersOf};
+ghost use Rattle.printing.specs.Printed.{cardOut};
+ghost use Rattle.printing.specs.Run.{closed, openedWith, openedCard, openingOf};
+ghost use Rattle.printing.specs.Answers.{stopped, Opens};
+
+// A refused card: the number and the place.
+fn put_refusal(out: &mut [u8], e: Refusal) -> usize
+    requires { ⌜ 64 ≤ length (now out) ⌝ }
+    ensures { λ r. ⌜ Put (cardOut (Verdict.Refused e) noCard []) 0 (now (out .entry)) (now (out .exit)) r ⌝ }
+{
+    let o1 = write::text(out, 0, b"card refused ");
+    let o2 = write::decimal(out, o1, e.number as u64);
+    let o3 = write::byte(out, o2, 32);
+    let o4 = write::decimal(out, o3, e.at);
+    write::byte(out, o4, 10)
+}
+
+// Nothing follows.
+pub fn stop(length: usize) -> OpeningAnswer
+    ensures { λ r. ⌜ r ≡ stopped length ⌝ }
+{
+    let card = Card {
+        scale: 0,
+        zone: 0,
+        a: 0,
+        b: 0,
+        n: 0,
+        m: 0,
+        nul: 0,
+        nus: 0,
+        nll: 0,
+        nls: 0,
+        nfl: 0,
+        nfc: 0,
+        bad: [0; 12],
+        tif: false,
+        north: 0,
+        east: 0,
+    };
+    OpeningAnswer {
+        length,
+        more: false,
+        card,
+        next: 0,
+    }
+}
+
+// The header, where the card is accepted; lines follow.
+fn opened(out: &mut [u8], verdict: Verdict, card: Card, next: usize) -> OpeningAnswer
+    requires { ⌜ 64 ≤ length (now out) ⌝ }
+    ensures { λ r. ⌜ Opens (openedWith verdict card next) (now (out .entry)) (now (out .exit)) r ⌝ }
+{
+    match verdict {
+        Verdict::Accepted => {
+            let length = write::text(out, 0, b"row column latitude longitude\n");
+            OpeningAnswer {
+                length,
+                more: true,
+                card,
+                next,
+            }
+        }
+        Verdict::Refused(e) => {
+            let length = put_refusal(out, e);
+            stop(length)
+        }
+    }
+}
+
+// A text after which nothing follows.
+fn stop_with(out: &mut [u8], text: &[u8]) -> OpeningAnswer
+    requires { ⌜ length (now text) ≤ length (now out) ⌝ }
+    ensures { λ r. ⌜ Opens (closed (now (text .entry))) (now (out .entry)) (now (out .exit)) r ⌝ }
+{
+    let length = write::text(out, 0, text);
+    stop(length)
+}
+
+// The scale and the zone of the first line, the card of the second; the other lines start at `next`.
+fn two_lines(out: &mut [u8], first: &[u8], second: &[u8], next: usize) -> OpeningAnswer
+    requires { ⌜ 64 ≤ length (now out) ⌝ }
+    ensures { λ r. ⌜ Opens (openedCard (numbersOf (now (first .entry))) (now (second .entry)) next) (now (out .entry)) (now (out .exit)) r ⌝ }
+{
+    match parse::numbers_in(first) {
+        Numbers::Pair { left, right } => {
+            let r = card_text::read_card(left, right, second);
+            let verdict = r.verdict;
+            let card = r.card;
+            opened(out, verdict, card, next)
+        }
+        Numbers::Bad => stop_with(out, b"bad line\n"),
+    }
+}
+
+// The whole of what is printed first.
+pub fn opening_of(out: &mut [u8], input: &[u8]) -> OpeningAnswer
+    requires { ⌜ 64 ≤ length (now out) ⌝ }
+    ensures { λ r. ⌜ Opens (openingOf (now (input .entry))) (now (out .entry)) (now (out .exit)) r ⌝ }
+{
+    if 65536 < input.len() {
+        return stop_with(out, b"input too long\n");
+    }
+    let end = parse::until(input, 0, 10);
+    let from = end + 1;
+    if input.len() <= from {
+        return stop_with(out, b"bad line\n");
+    }
+    let to = parse::until(input, from, 10);
+    two_lines(out, &input[..end], &input[from..to], to + 1)
+}
