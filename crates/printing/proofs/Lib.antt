@@ -6,3 +6,4 @@ pub mod Pairs
 pub mod Openings
 pub mod Served
 pub mod Short
+pub mod Shown

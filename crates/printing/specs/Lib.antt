@@ -3,3 +3,4 @@ pub mod Printed
 pub mod Run
 pub mod Put
 pub mod Answers
+pub mod Example

@@ -8,6 +8,6 @@ pub mod Ahead
 pub mod Once
 pub mod Accepts
 pub mod Alike
-pub mod Parts
+pub mod PartOf
 pub mod Apart
 pub mod Image

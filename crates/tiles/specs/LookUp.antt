@@ -76,7 +76,7 @@ abbrev pub bandsReport : BandsAnswer → Report
 bandsReport (BandsAnswer.Bands x y z) = answered (pos x ∷ pos y ∷ pos z ∷ [])
 bandsReport (BandsAnswer.Refused e) = refusedWith e 3
 
--- ---- what look-up is held to: proved in proofs/Alike.antt, proofs/Parts.antt and proofs/Apart.antt
+-- ---- what look-up is held to: proved in proofs/Alike.antt, proofs/PartOf.antt and proofs/Apart.antt
 
 -- of the index, only its length and that tile's entry matter
 abbrev pub OneEntry : Type 0
