@@ -13,20 +13,28 @@ fn tile(n: i64, m: i64) -> Record {
 fn one_pixel(scale: u64, zone: u64, n: i64, m: i64, row: i64, column: i64) {
     let card = cards::written(scale, zone, tile(n, m));
     ask::read(scale, zone, &card);
-    ask::pixel(scale, zone, &card, row, column);
-    ask::carry(scale, zone, &card, &card, row, column);
+    there_and_back(scale, zone, &card, row, column);
+}
+
+fn there_and_back(scale: u64, zone: u64, card: &[u8], row: i64, column: i64) {
+    ask::pixel(scale, zone, card, row, column);
+    ask::carry(scale, zone, card, card, row, column);
 }
 
 // A card of 01 with another LSO: its first column, and both ends of the date line put to it.
 fn end_of_m(lso: &[u8]) {
     let card = cards::with(cards::worked(), 17, lso);
-    ask::read(1_000_000, 1, &card);
-    ask::pixel(1_000_000, 1, &card, 0, 0);
-    ask::pixel(1_000_000, 1, &card, 0, 127);
-    ask::position(1_000_000, 1, &card, 4_143_223, 64_800_000);
-    ask::position(1_000_000, 1, &card, 4_143_223, -64_800_000);
-    ask::position(1_000_000, 1, &card, 4_143_223, 64_799_825);
-    ask::position(1_000_000, 1, &card, 4_143_223, 64_799_824);
+    both_ends(&card);
+}
+
+fn both_ends(card: &[u8]) {
+    ask::read(1_000_000, 1, card);
+    ask::pixel(1_000_000, 1, card, 0, 0);
+    ask::pixel(1_000_000, 1, card, 0, 127);
+    ask::position(1_000_000, 1, card, 4_143_223, 64_800_000);
+    ask::position(1_000_000, 1, card, 4_143_223, -64_800_000);
+    ask::position(1_000_000, 1, card, 4_143_223, 64_799_825);
+    ask::position(1_000_000, 1, card, 4_143_223, 64_799_824);
 }
 
 // (01, "Origins and the zone grid")
@@ -42,12 +50,13 @@ fn ends() {
 fn over_date_line(scale: u64, zone: u64, m: i64) {
     let card = cards::written(scale, zone, cards::record(5, m, 0, 255, 127, 0, 1, 2));
     ask::read(scale, zone, &card);
-    ask::pixel(scale, zone, &card, 0, 127);
-    ask::pixel(scale, zone, &card, 0, 128);
-    ask::pixel(scale, zone, &card, 0, 129);
-    ask::carry(scale, zone, &card, &card, 0, 127);
-    ask::carry(scale, zone, &card, &card, 0, 128);
-    ask::carry(scale, zone, &card, &card, 0, 129);
+    three_columns(scale, zone, &card);
+}
+
+fn three_columns(scale: u64, zone: u64, card: &[u8]) {
+    there_and_back(scale, zone, card, 0, 127);
+    there_and_back(scale, zone, card, 0, 128);
+    there_and_back(scale, zone, card, 0, 129);
 }
 
 // (01, "Units and the zone table")
@@ -71,15 +80,19 @@ fn whole_circle() {
         8,
         cards::record(40, -18, 0, 4_607, 127, 0, 1, 36),
     );
-    ask::read(20_000_000, 8, &card);
-    ask::pixel(20_000_000, 8, &card, 0, 0);
-    ask::pixel(20_000_000, 8, &card, 0, 4_607);
-    ask::pixel(20_000_000, 8, &card, 0, 4_608);
-    ask::position(20_000_000, 8, &card, 32_400_000, 64_800_000);
-    ask::position(20_000_000, 8, &card, 32_400_000, -64_800_000);
-    ask::position(20_000_000, 8, &card, 32_400_000, 64_785_938);
-    ask::position(20_000_000, 8, &card, 32_400_000, 64_785_937);
-    ask::position(20_000_000, 8, &card, 32_400_000, -1);
+    round_circle(&card);
+}
+
+fn round_circle(card: &[u8]) {
+    ask::read(20_000_000, 8, card);
+    ask::pixel(20_000_000, 8, card, 0, 0);
+    ask::pixel(20_000_000, 8, card, 0, 4_607);
+    ask::pixel(20_000_000, 8, card, 0, 4_608);
+    ask::position(20_000_000, 8, card, 32_400_000, 64_800_000);
+    ask::position(20_000_000, 8, card, 32_400_000, -64_800_000);
+    ask::position(20_000_000, 8, card, 32_400_000, 64_785_938);
+    ask::position(20_000_000, 8, card, 32_400_000, 64_785_937);
+    ask::position(20_000_000, 8, card, 32_400_000, -1);
 }
 
 // (01, "Origins and the zone grid")
@@ -88,24 +101,32 @@ fn north_pole() {
         b"# 01, \"Origins and the zone grid\": n = B/512, the North Pole is row 0; the South Pole is never found\n",
     );
     let card = cards::written(1_000_000, 1, tile(782, 0));
-    ask::read(1_000_000, 1, &card);
-    ask::pixel(1_000_000, 1, &card, 0, 0);
-    ask::pixel(1_000_000, 1, &card, 127, 127);
-    ask::position(1_000_000, 1, &card, 32_400_000, 0);
-    ask::position(1_000_000, 1, &card, 32_400_000, 64_800_000);
-    ask::position(1_000_000, 1, &card, -32_400_000, 0);
+    from_north(&card);
+}
+
+fn from_north(card: &[u8]) {
+    ask::read(1_000_000, 1, card);
+    ask::pixel(1_000_000, 1, card, 0, 0);
+    ask::pixel(1_000_000, 1, card, 127, 127);
+    ask::position(1_000_000, 1, card, 32_400_000, 0);
+    ask::position(1_000_000, 1, card, 32_400_000, 64_800_000);
+    ask::position(1_000_000, 1, card, -32_400_000, 0);
 }
 
 fn south_pole() {
     let card = cards::written(1_000_000, 1, tile(-781, 0));
-    ask::read(1_000_000, 1, &card);
-    ask::pixel(1_000_000, 1, &card, 127, 0);
-    ask::pixel(1_000_000, 1, &card, 128, 0);
-    ask::position(1_000_000, 1, &card, -32_399_676, 0);
-    ask::position(1_000_000, 1, &card, -32_399_838, 0);
-    ask::position(1_000_000, 1, &card, -32_399_839, 0);
-    ask::position(1_000_000, 1, &card, -32_400_000, 0);
-    ask::position(1_000_000, 1, &card, 32_400_000, 0);
+    from_south(&card);
+}
+
+fn from_south(card: &[u8]) {
+    ask::read(1_000_000, 1, card);
+    ask::pixel(1_000_000, 1, card, 127, 0);
+    ask::pixel(1_000_000, 1, card, 128, 0);
+    ask::position(1_000_000, 1, card, -32_399_676, 0);
+    ask::position(1_000_000, 1, card, -32_399_838, 0);
+    ask::position(1_000_000, 1, card, -32_399_839, 0);
+    ask::position(1_000_000, 1, card, -32_400_000, 0);
+    ask::position(1_000_000, 1, card, 32_400_000, 0);
 }
 
 // (01, "Units and the zone table")

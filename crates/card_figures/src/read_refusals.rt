@@ -10,15 +10,19 @@ fn scale_and_zone() {
     print::text(b"# 01, \"Numbers given in refusal\": 1, 2, 3\n");
     let card = cards::worked();
     let other = cards::with(card, 0, b"x");
-    ask::read(0, 0, &other);
-    ask::read(4_999, 0, &other);
-    ask::read(20_000_001, 9, &other);
-    ask::read(18_446_744_073_709_551_615, 1, &card);
-    ask::read(5_000, 0, &other);
-    ask::read(20_000_000, 19, &other);
-    ask::read(1_000_000, 4_294_967_297, &card);
-    ask::read(1_000_000, 9, &other);
-    ask::read(1_000_000, 18, &card);
+    outside(&card, &other);
+}
+
+fn outside(card: &[u8], other: &[u8]) {
+    ask::read(0, 0, other);
+    ask::read(4_999, 0, other);
+    ask::read(20_000_001, 9, other);
+    ask::read(18_446_744_073_709_551_615, 1, card);
+    ask::read(5_000, 0, other);
+    ask::read(20_000_000, 19, other);
+    ask::read(1_000_000, 4_294_967_297, card);
+    ask::read(1_000_000, 9, other);
+    ask::read(1_000_000, 18, card);
 }
 
 // (01, "Numbers given in refusal")
@@ -57,11 +61,7 @@ fn longer(card: [u8; 98]) -> [u8; 99]
 fn constants() {
     print::text(b"# 01, \"Numbers given in refusal\": 9, which comes before 10 and 11\n");
     let card = cards::worked();
-    ask::read(1_000_000, 10, &card);
-    ask::read(1_000_000, 2, &card);
-    ask::read(500_000, 1, &card);
-    ask::read(1_000_001, 1, &card);
-    ask::read(999_999, 1, &card);
+    elsewhere(&card);
     ask::changed(1, b"00369665");
     ask::changed(1, b"00369152");
     ask::changed(9, b"00400385");
@@ -69,6 +69,15 @@ fn constants() {
     ask::changed(9, b"00400383");
     ask::changed(1, b"0036966500400384-0022935.08");
     ask::changed(1, b"0036966500400384-0022935.07+113032.23000256");
+}
+
+// The card at other scales and in other zones.
+fn elsewhere(card: &[u8]) {
+    ask::read(1_000_000, 10, card);
+    ask::read(1_000_000, 2, card);
+    ask::read(500_000, 1, card);
+    ask::read(1_000_001, 1, card);
+    ask::read(999_999, 1, card);
 }
 
 // (01, "Numbers given in refusal")

@@ -39,6 +39,7 @@ fn opening(name: &[u8], index: &[u32], count: u64) {
     print::text(b", ");
 }
 
+// The line of an index check, on these marks.
 fn check(k: Card, index: &[u32], count: u64, marks: &mut [u8])
     requires { ⌜ Known k ⌝ }
 {
@@ -83,6 +84,7 @@ fn bands_of(answer: BandsAnswer) {
     }
 }
 
+// The line of a look-up, in this store.
 fn found(k: Card, index: &[u32], count: u64, store: &[u8], row: i64, column: i64)
     requires { ⌜ Known k ⌝ }
 {
@@ -111,15 +113,7 @@ pub fn look_up(k: Card, index: &[u32], count: u64, bytes: usize, row: i64, colum
 }
 
 // The window of tiles (01, "Tiles").
-pub fn window(
-    k: Card,
-    index: &[u32],
-    count: u64,
-    top: u64,
-    left: u64,
-    height: u64,
-    width: u64,
-)
+pub fn window(k: Card, index: &[u32], count: u64, top: u64, left: u64, height: u64, width: u64)
     requires { ⌜ Known k ⌝ }
 {
     opening(b"window", index, count);

@@ -19,7 +19,9 @@ fn accepted(k: Card)
 fn refused(k: Card)
     requires { ⌜ Known k ⌝ }
 {
-    print::text(b"# 01, \"Numbers given in refusal\": 15 at the first bad entry, marks from those before\n");
+    print::text(
+        b"# 01, \"Numbers given in refusal\": 15 at the first bad entry, marks from those before\n",
+    );
     row::check(k, [1, 1, 9], 2, 4);
     row::check(k, [1, 9, 1], 2, 4);
     row::check(k, [9, 1, 1], 2, 4);
@@ -35,7 +37,9 @@ fn refused(k: Card)
 fn never_named(k: Card)
     requires { ⌜ Known k ⌝ }
 {
-    print::text(b"# 01, \"Numbers given in refusal\": 15 at the index length where a tile is never named\n");
+    print::text(
+        b"# 01, \"Numbers given in refusal\": 15 at the index length where a tile is never named\n",
+    );
     row::check(k, [1, 0, 0], 2, 4);
     row::check(k, [2, 0, 0], 2, 4);
     row::check(k, [0, 0, 0], 1, 4);

@@ -5,6 +5,7 @@ use card::Card;
 ghost use Prim.Native.Nat.{_≤_};
 ghost use Rattle.card.specs.Read.{Known};
 
+// The questions of `ask`, on an empty index.
 fn check(k: Card, count: u64, marks: usize)
     requires { ⌜ Known k ⌝ ∗ ⌜ marks ≤ 16 ⌝ }
 {

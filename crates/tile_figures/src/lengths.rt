@@ -39,14 +39,7 @@ fn counts(k: Card)
     row::check(k, [1, 2, 3], 18_446_744_073_709_551_615, 3);
     row::look_up(k, [1, 2, 3], 3, 147_456, 0, 256);
     row::look_up(k, [1, 2, 3], 4, 196_608, 0, 256);
-    row::look_up(
-        k,
-        [1, 2, 3],
-        18_446_744_073_709_551_615,
-        147_456,
-        0,
-        256,
-    );
+    row::look_up(k, [1, 2, 3], 18_446_744_073_709_551_615, 147_456, 0, 256);
     row::window(k, [1, 2, 3], 3, 0, 0, 1, 3);
     row::window(k, [1, 2, 3], 4, 0, 0, 1, 3);
     row::window(k, [1, 2, 3], 18_446_744_073_709_551_615, 0, 0, 1, 3);
@@ -69,7 +62,9 @@ fn marks(k: Card)
 fn stores(k: Card)
     requires { ⌜ Known k ⌝ }
 {
-    print::text(b"# 01, \"Numbers given in refusal\": a store that is not the count's tiles is 6\n");
+    print::text(
+        b"# 01, \"Numbers given in refusal\": a store that is not the count's tiles is 6\n",
+    );
     row::look_up(k, [2, 0, 1], 2, 98_304, 0, 0);
     row::look_up(k, [2, 0, 1], 2, 98_303, 0, 0);
     row::look_up(k, [2, 0, 1], 2, 98_305, 0, 0);

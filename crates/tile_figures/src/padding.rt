@@ -4,6 +4,7 @@ use crate::print;
 use card::Card;
 ghost use Rattle.card.specs.Read.{Known};
 
+// Tile 0 is stored, 1 is missing, 2 has an entry above the count, 3 is stored.
 fn pixel(k: Card, row: i64, column: i64)
     requires { ⌜ Known k ⌝ }
 {
@@ -29,7 +30,8 @@ fn edges(k: Card)
 fn order(k: Card)
     requires { ⌜ Known k ⌝ }
 {
-    print::text(b"# 01, \"Numbers given in refusal\": 13 before 14 and 15\n");
+    print::text(b"# 01, \"Numbers given in refusal\": 6 before 13, 13 before 14 and 15\n");
+    ask::look_up(k, &[3, 0, 5, 1], 3, 147_455, 19, 128);
     pixel(k, 20, 128);
     pixel(k, 19, 128);
     pixel(k, 127, 150);
@@ -44,7 +46,9 @@ fn order(k: Card)
 fn outside(k: Card)
     requires { ⌜ Known k ⌝ }
 {
-    print::text(b"# 01, \"Numbers given in refusal\": 12 outside the tiles on any side, before 13\n");
+    print::text(
+        b"# 01, \"Numbers given in refusal\": 12 outside the tiles on any side, before 13\n",
+    );
     pixel(k, -1, 30);
     pixel(k, 20, -1);
     pixel(k, 256, 30);

@@ -81,9 +81,9 @@ pub fn part(bytes: &[u8]) {
     text(b"; part of ");
     number(bytes.len() as u64);
     if bytes.len() != 0 {
-        text(b", ");
+        text(b", first ");
         byte(bytes[0]);
-        text(b" to ");
+        text(b", last ");
         byte(bytes[bytes.len() - 1]);
     }
     text(b";");

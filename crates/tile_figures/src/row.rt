@@ -1,4 +1,4 @@
-// The questions on an index of three entries, and on none.
+// The questions of `ask`, on an index of three entries (01, "Tiles").
 use crate::ask;
 use card::Card;
 ghost use Prim.Native.Nat.{_≤_};
@@ -16,15 +16,7 @@ pub fn look_up(k: Card, index: [u32; 3], count: u64, bytes: usize, row: i64, col
     ask::look_up(k, &index, count, bytes, row, column);
 }
 
-pub fn window(
-    k: Card,
-    index: [u32; 3],
-    count: u64,
-    top: u64,
-    left: u64,
-    height: u64,
-    width: u64,
-)
+pub fn window(k: Card, index: [u32; 3], count: u64, top: u64, left: u64, height: u64, width: u64)
     requires { ⌜ Known k ⌝ }
 {
     ask::window(k, &index, count, top, left, height, width);

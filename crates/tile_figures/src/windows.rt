@@ -15,7 +15,9 @@ fn stored(k: Card, top: u64, left: u64, height: u64, width: u64)
 fn bounds(k: Card)
     requires { ⌜ Known k ⌝ }
 {
-    print::text(b"# 01, \"Numbers given in refusal\": 12 on both sides of each edge, for empty windows too\n");
+    print::text(
+        b"# 01, \"Numbers given in refusal\": 12 on both sides of each edge, for empty windows too\n",
+    );
     stored(k, 0, 0, 1, 3);
     stored(k, 0, 0, 2, 3);
     stored(k, 0, 0, 1, 4);
@@ -34,7 +36,9 @@ fn bounds(k: Card)
 fn sums(k: Card)
     requires { ⌜ Known k ⌝ }
 {
-    print::text(b"# 01, \"Numbers given in refusal\": 12 where the sum is above every number held\n");
+    print::text(
+        b"# 01, \"Numbers given in refusal\": 12 where the sum is above every number held\n",
+    );
     stored(k, 18_446_744_073_709_551_615, 0, 0, 0);
     stored(k, 18_446_744_073_709_551_615, 0, 1, 1);
     stored(k, 18_446_744_073_709_551_615, 0, 2, 1);

@@ -8,6 +8,7 @@ use borrow.Author.Needs.{needs}
 use Rattle.tile_figures.proofs.ask.look_up.Statement.{statement}
 use Rattle.tile_figures.proofs.ask.look_up.Tie as tie
 
+-- the bytes are in the store
 inside : (c : tie.After-store2) → c .before .before .before .before .args .bytes ≤ length (c .before .fill .last .0)
 inside c = omega (arith, c .before .fill .kept .0)
 
@@ -21,7 +22,9 @@ array-share-prefix-store : tie.Need-array-share-prefix-store
 array-share-prefix-store c = inside c
 
 slice-aggregate-found : tie.Need-slice-aggregate-found
-slice-aggregate-found c = sym (length-take-le (c .before .before .before .before .before .args .bytes) (c .before .before .fill .last .0) (inside (c .before)))
+slice-aggregate-found c =
+    let n = c .before .before .before .before .before .args .bytes in
+    sym (length-take-le n (c .before .before .fill .last .0) (inside (c .before)))
 
 found-requires : tie.Need-found-requires
 found-requires c κs = search needs
