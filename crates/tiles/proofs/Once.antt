@@ -1,6 +1,6 @@
 -- A number that occurs twice would be refused at its second place; and each number is named. Assumes nothing.
 use mathlib.Core.Path.{_≡_, refl, sym, ap, _∙_}
-use mathlib.Core.Bool.{Bool, true, false, cond, _&&_, _||_, or-true, true≢false, false≢true}
+use mathlib.Core.Bool.{Bool, true, false, cond, not, _&&_, _||_, or-true, true≢false, false≢true}
 use mathlib.Core.List.{List, [], _∷_}
 use mathlib.Core.Option.{Option, some, none}
 use Prim.Native.Nat.{ℕ, zero, suc, _+_, _-_, _≤_, _<_}
@@ -15,7 +15,7 @@ use Rattle.arc.specs.declared.Verdict.{Verdict}
 use Rattle.arc.specs.Refusals.{refusal}
 use Rattle.card.specs.declared.Card.{Card}
 use Rattle.tiles.specs.Index.{tiles, indexWrong, stored, missing, above, said}
-use Rattle.tiles.specs.Check.{occurs, badAt, firstOf, firstBad, named, judged, checkOf, OnePlace, EachOnce}
+use Rattle.tiles.specs.Check.{occurs, badAt, firstOf, firstBad, named, judged, checkOf, OnePlace, EachOnce, UpToCount}
 use Rattle.tiles.proofs.Entry.{neither, index-long, count-all, said-stored, said-in, said-all}
 use Rattle.tiles.proofs.Pass.{bad-again}
 
@@ -142,3 +142,34 @@ each-once k index marks count a n p q = go (indexWrong k index count || ltb (len
     go true y e f h = let z : _≡_ {A = ℕ} 0 1 = cc in absurd (omega arith)
     go false true e f h = indexed k index count n p q (right e) f (good k index count n p q h)
     go false false e f h = listed-all k index count n p q (right e) f
+
+-- an entry that is not above the count does not say so
+not-above : (count e : ℕ) → ltb count e ≡ false → said count e ≡ above → ⊥
+not-above count e = go (eqb e 0) (ltb count e)
+  where
+    go : (a b : Bool) → b ≡ false → cond a missing (cond b above (stored e)) ≡ above → ⊥
+    go true b p h = let z : _≡_ {A = ℕ} 0 1 = cc in omega arith
+    go false true p h = true≢false p
+    go false false p h = let z : _≡_ {A = ℕ} 0 1 = cc in omega arith
+
+pub up-to-count : UpToCount
+unfolding checkOf
+up-to-count k index marks count a t h above-is = go (indexWrong k index count || ltb (length marks) count) (k .tif) refl refl a
+  where
+    entries : (o : Option ℕ) → firstBad count index ≡ o → judged count index o ≡ Verdict.Accepted → firstBad count index ≡ none
+    entries none e j = e
+    entries (some i) e j = let z : _≡_ {A = ℕ} 0 1 = cc in absurd (omega arith)
+
+    go : (x y : Bool) → indexWrong k index count || ltb (length marks) count ≡ x → k .tif ≡ y
+        → cond x (Verdict.Refused (refusal 6)) (cond y (judged count index (firstBad count index)) Verdict.Accepted)
+        ≡ Verdict.Accepted → ⊥
+    go true y e f j = let z : _≡_ {A = ℕ} 0 1 = cc in omega arith
+    go false true e f j =
+        let w = neither (indexWrong k index count) (ltb (length marks) count) e .0 in
+        let l : length index ≡ tiles k = index-long k index count w f in
+        let g = none-of (badAt count index) 0 (length index) (entries (firstBad count index) refl j) t (omega arith) (omega arith) in
+        not-above count (getD index t 0) (neither (ltb count (getD index t 0)) (not (eqb (getD index t 0) 0) && occurs (getD index t 0) (take t index)) g .0)
+        (sym (said-in k index count t f) ∙ above-is)
+    go false false e f j =
+        let m : stored (t + 1) ≡ above = sym (said-all k index count t f) ∙ above-is in
+        let z : _≡_ {A = ℕ} 0 1 = cc in omega arith

@@ -100,3 +100,9 @@ abbrev pub OnceAccepted : Type 0
 OnceAccepted =
     (k : Card) (index marks : List ℕ) (count : ℕ) → indexWrong k index count ≡ false → count ≤ length marks
     → NoneAbove k index count → EachPlaced k index count → checkOf k index count marks ≡ Verdict.Accepted
+
+-- and an accepted index has no entry above the count
+abbrev pub UpToCount : Type 0
+UpToCount =
+    (k : Card) (index marks : List ℕ) (count : ℕ) → checkOf k index count marks ≡ Verdict.Accepted
+    → NoneAbove k index count
