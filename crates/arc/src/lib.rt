@@ -13,6 +13,7 @@ pub use units::{Circle, Scales, Tile, is_scale};
 pub use zone::{Meridian, Zone1, Zone2, Zone3, Zone4, Zone5, Zone6, Zone7, Zone8, Zone9};
 
 // A refusal: its number, and its place (01, "Numbers given in refusal").
+#[repr(C)]
 pub struct Refusal {
     pub number: u32,
     pub at: u64,

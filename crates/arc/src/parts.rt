@@ -5,6 +5,7 @@ ghost use Rattle.arc.specs.Refusals.{refusalOf};
 ghost use Rattle.arc.specs.Spacing.{constantReport, constantTold, spacingReport, spacingTold};
 
 // Number, place, and A or B.
+#[repr(C)]
 pub struct ConstantParts {
     pub number: u32,
     pub at: u64,
@@ -12,6 +13,7 @@ pub struct ConstantParts {
 }
 
 // Number, place, A and B.
+#[repr(C)]
 pub struct SpacingParts {
     pub number: u32,
     pub at: u64,

@@ -73,18 +73,18 @@ impl Card {
             & (((self.nls as i64) <= column) & (column <= (self.nus as i64)))
     }
 
-    // What a pixel is refused with (01, "Numbers given in refusal"): 12, 13.
+    // What a pixel is refused with (01, "Numbers given in refusal"): 12, 13. The chart lies in the tiles.
     pub fn judge_pixel(self, row: i64, column: i64) -> Verdict
         requires { ⌜ Known self ⌝ }
         ensures { λ r. ⌜ r ≡ verdictOf self row column ⌝ }
     {
-        if !self.in_tiles(row, column) {
-            return Verdict::Refused(arc::refused(12));
+        if self.in_chart(row, column) {
+            return Verdict::Accepted;
         }
-        if !self.in_chart(row, column) {
+        if self.in_tiles(row, column) {
             return Verdict::Refused(arc::refused(13));
         }
-        Verdict::Accepted
+        Verdict::Refused(arc::refused(12))
     }
 
     // 128n − r (01, "Origins and the zone grid").

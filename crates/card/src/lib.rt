@@ -12,6 +12,8 @@ pub use parts::OffsetParts;
 pub use parts::PixelParts;
 pub use parts::PlaceParts;
 pub use parts::PositionParts;
+pub use range::Ranged;
+pub use range::count_position;
 
 // What may stand in a subfield (01, "The image card, 98 bytes").
 pub enum Kind {

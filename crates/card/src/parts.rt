@@ -8,6 +8,7 @@ ghost use Rattle.card.specs.Grid.{placeReport, placeTold, positionReport
 ghost use Rattle.card.specs.Offset.{offsetParts};
 
 // Number, the refusal's place, and the place of the zone grid.
+#[repr(C)]
 pub struct PlaceParts {
     pub number: u32,
     pub at: u64,
@@ -16,6 +17,7 @@ pub struct PlaceParts {
 }
 
 // Number, place, latitude and longitude.
+#[repr(C)]
 pub struct PositionParts {
     pub number: u32,
     pub at: u64,
@@ -24,6 +26,7 @@ pub struct PositionParts {
 }
 
 // Number, place, row and column.
+#[repr(C)]
 pub struct PixelParts {
     pub number: u32,
     pub at: u64,
@@ -32,6 +35,7 @@ pub struct PixelParts {
 }
 
 // Number, place and the offset.
+#[repr(C)]
 pub struct OffsetParts {
     pub number: u32,
     pub at: u64,

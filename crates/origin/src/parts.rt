@@ -4,6 +4,7 @@ ghost use mathlib.Core.Path.{_≡_};
 ghost use Rattle.origin.specs.Origin.{originReport, originTold};
 
 // Number, place, n and m in tiles, and the two stored angles.
+#[repr(C)]
 pub struct OriginParts {
     pub number: u32,
     pub at: u64,

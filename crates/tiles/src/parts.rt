@@ -8,6 +8,7 @@ ghost use Rattle.tiles.specs.Window.{windowReport};
 ghost use Rattle.tiles.specs.Parts.{numberTold, bandsTold, windowTold};
 
 // Number, place and the stored number.
+#[repr(C)]
 pub struct NumberParts {
     pub number: u32,
     pub at: u64,
@@ -15,6 +16,7 @@ pub struct NumberParts {
 }
 
 // Number, place and the three band values.
+#[repr(C)]
 pub struct BandsParts {
     pub number: u32,
     pub at: u64,
@@ -24,6 +26,7 @@ pub struct BandsParts {
 }
 
 // Number, place, 1 where a tile is missing, and that tile.
+#[repr(C)]
 pub struct WindowParts {
     pub number: u32,
     pub at: u64,

@@ -4,6 +4,7 @@ ghost use mathlib.Core.Path.{_≡_};
 ghost use Rattle.zones.specs.Basic.{zoneReport, zoneTold};
 
 // Number, place and zone.
+#[repr(C)]
 pub struct ZoneParts {
     pub number: u32,
     pub at: u64,
