@@ -1,0 +1,176 @@
+-- An engine's axes give the plain rule's angles and pixels, for every row and column of its card's tiles. Assumes nothing.
+use mathlib.Core.Path.{_≡_, sym, ap, ap₂, _∙_, subst⁻¹}
+use Prim.Native.Nat.{ℕ, _+_, _-_, _*_, _/_, _%_, _≤_, _<_}
+use native.Mathlib.Nat.{mul-le-mul, mul-le-mul-right, add-mul, lt-of-mul-lt-mul-right, mod-lt, mul-add-div-right, add-mul-div-right, mul-div-mul-left, div-add-mod'}
+use native.Mathlib.Omega.{arith}
+use Rattle.whole.specs.Whole.{near}
+use Rattle.whole.proofs.Near.{near-low}
+use Rattle.arc.specs.Zones.{circle}
+use Rattle.arc.specs.Spacing.{Grid}
+use Rattle.card.specs.declared.Card.{Card}
+use Rattle.card.specs.Read.{Known}
+use Rattle.card.proofs.Laid.{Laid, known-laid}
+use Rattle.card.proofs.Axes.{north-high, down-high, east-high, row-fits}
+use Rattle.lists.specs.declared.engine.Axis.{Axis}
+use Rattle.lists.specs.declared.engine.Engine.{Engine}
+use Rattle.lists.specs.Engine.{scaleUp, rowsOf, columnsOf, engineOf, Made}
+use Rattle.lists.proofs.Fixed.{scale-high, fixed}
+use Rattle.lists.proofs.Units.{angle-unit, pixel-unit, quotient-under, quotient-down}
+
+-- ---- a spacing of 512 u, in u
+module _ (x : ℕ) (g : Grid x) where
+  pub some : 0 < 2 * (x / 512)
+  some = omega (arith, g .some, g .whole)
+
+  pub most : 2 * (x / 512) ≤ 312800
+  most = omega (arith, g .most, g .whole)
+
+  -- the error over a card's pixels stays below one part
+  pub close : (i : ℕ) → i < 127872 → (i + 1) * (2 * (x / 512)) ≤ 68719476736
+  close i h = let m : (i + 1) * (2 * (x / 512)) ≤ 127872 * 312800 = mul-le-mul {n₂ = 127872} (omega arith) most in omega arith
+
+  pub by-unit : (p : ℕ) → p * x ≡ 256 * (2 * (x / 512) * p)
+  by-unit p = ap (λ (y : ℕ). p * y) (g .whole) ∙ omega arith
+
+  -- a product of the engine fits 64 bits
+  pub reach : (i R : ℕ) → i ≤ x → R < 2 * (x / 512) → i * scaleUp 506250 (2 * (x / 512)) + scaleUp R (2 * (x / 512)) < 18446744073709551616
+  reach i R h hR =
+      let n : ℕ = 2 * (x / 512) in
+      let rate : ℕ = scaleUp 506250 n in
+      let start : ℕ = scaleUp R n in
+      let p : i * rate ≤ 256 * n * rate = mul-le-mul-right rate (omega (arith, g .whole)) in
+      let r : rate * n < 506250 * 68719476736 + n = scale-high n some 506250 in
+      let s : start * n < R * 68719476736 + n = scale-high n some R in
+      let t : start < 68719476737 = lt-of-mul-lt-mul-right n (omega arith) in
+      omega (arith, most)
+
+-- ---- what `engine_of` answered
+pub engine-card : {k : Card} {e : Engine} → e ≡ engineOf k → e .card ≡ k
+unfolding engineOf
+engine-card same = ap (λ (x : Engine). x .card) same
+
+pub engine-made : {k : Card} {e : Engine} → Known k → e ≡ engineOf k → Made e
+engine-made known same = record { known = subst⁻¹ Known (engine-card same) known; same = same ∙ ap engineOf (sym (engine-card same)) }
+
+-- ---- an engine's answers
+module _ (e : Engine) (made : Made e) where
+  abbrev k : Card
+  k = e .card
+
+  pub laid : Laid (e .card)
+  laid = known-laid k (made .known)
+
+  rows-are : e .rows ≡ rowsOf k
+  unfolding engineOf
+  rows-are = ap (λ (x : Engine). x .rows) (made .same)
+
+  columns-are : e .columns ≡ columnsOf k
+  unfolding engineOf
+  columns-are = ap (λ (x : Engine). x .columns) (made .same)
+
+  top-is : e .top ≡ 506250 * (k .north + k .b / 2) + 253125
+  unfolding engineOf
+  top-is = ap (λ (x : Engine). x .top) (made .same)
+
+  down-is : e .down ≡ 2 * (k .b / 512)
+  unfolding engineOf
+  down-is = ap (λ (x : Engine). x .down) (made .same)
+
+  left-is : e .left ≡ 506250 * (k .a - k .east) + 253125
+  unfolding engineOf
+  left-is = ap (λ (x : Engine). x .left) (made .same)
+
+  across-is : e .across ≡ 2 * (k .a / 512)
+  unfolding engineOf
+  across-is = ap (λ (x : Engine). x .across) (made .same)
+
+  -- ---- the latitude of a row, from the South Pole
+  module _ (r : ℕ) (h : r < 128 * e .card .nfl) where
+    abbrev u : ℕ
+    u = k .b / 512
+
+    abbrev n : ℕ
+    n = 2 * u
+
+    abbrev top : ℕ
+    top = 506250 * k .north + u
+
+    le : r ≤ k .north
+    le = omega (arith, down-high k laid)
+
+    steps : (r * e .rows .rate + e .rows .start) / 68719476736 ≡ (n - 1 - top % n + 506250 * r) / n
+    steps =
+        ap (λ (x : Axis). (r * x .rate + x .start) / 68719476736) rows-are
+        ∙ fixed n (some (k .b) (laid .rows)) 506250 (n - 1 - top % n) r (close (k .b) (laid .rows) r (omega (arith, laid .down-most)))
+
+    pub row-fits-64 : r * e .rows .rate + e .rows .start < 18446744073709551616
+    row-fits-64 =
+        rw rows-are (reach (k .b) (laid .rows) r (n - 1 - top % n) (omega (arith, le, north-high k laid)) (omega (arith, some (k .b) (laid .rows))))
+
+    pub row-under : (r * e .rows .rate + e .rows .start) / 68719476736 ≤ e .rows .base
+    row-under = rw (steps, rows-are) (quotient-under n (some (k .b) (laid .rows)) top (506250 * r) (omega (arith, le)))
+
+    pub row-angle : e .rows .base - (r * e .rows .rate + e .rows .start) / 68719476736 ≡ near ((e .card .north - r) * circle) (e .card .b)
+    row-angle =
+        ap₂ _-_ (ap (λ (x : Axis). x .base) rows-are) steps
+        ∙ quotient-down n (some (k .b) (laid .rows)) top (506250 * r) (omega (arith, le))
+        ∙ ap (λ (y : ℕ). y / n) (omega (arith, le))
+        ∙ sym (angle-unit u (k .north - r))
+        ∙ ap (near ((k .north - r) * circle)) (sym (laid .rows .whole))
+
+  -- ---- the longitude of a column, from 180° west, before the circle is taken off
+  module _ (c : ℕ) (h : c < 128 * e .card .nfc) where
+    abbrev v : ℕ
+    v = k .a / 512
+
+    abbrev m : ℕ
+    m = 2 * v
+
+    abbrev left : ℕ
+    left = 506250 * k .east + v
+
+    pub column-fits-64 : c * e .columns .rate + e .columns .start < 18446744073709551616
+    column-fits-64 =
+        rw columns-are (reach (k .a) (laid .columns) c (left % m) (omega (arith, laid .across)) (mod-lt left (some (k .a) (laid .columns))))
+
+    pub column-angle : e .columns .base + (c * e .columns .rate + e .columns .start) / 68719476736 ≡ near ((e .card .east + c) * circle) (e .card .a)
+    column-angle =
+        ap (λ (x : Axis). x .base + (c * x .rate + x .start) / 68719476736) columns-are
+        ∙ ap (λ (q : ℕ). left / m + q) (fixed m (some (k .a) (laid .columns)) 506250 (left % m) c (close (k .a) (laid .columns) c (omega (arith, laid .across-most))))
+        ∙ sym (mul-add-div-right (some (k .a) (laid .columns)) (left / m) (left % m + 506250 * c))
+        ∙ ap (λ (y : ℕ). y / m) (omega (arith, div-add-mod' left m))
+        ∙ sym (angle-unit v (k .east + c))
+        ∙ ap (near ((k .east + c) * circle)) (sym (laid .columns .whole))
+
+    -- one circle at most
+    pub column-below : near ((e .card .east + c) * circle) (e .card .a) < 2 * circle
+    column-below =
+        let x : ℕ = near ((k .east + c) * circle) (k .a) in
+        lt-of-mul-lt-mul-right (k .a)
+        (omega (arith, near-low (k .a) (omega (arith, laid .columns .some)) ((k .east + c) * circle), east-high k laid, laid .across, laid .columns .most, laid .columns .some))
+
+  -- ---- the rows from the top, the columns from the left
+  pub top-low : e .top < 18446744073709551616
+  top-low = rw top-is (omega (arith, north-high k laid, laid .rows .most))
+
+  pub row-product : (p : ℕ) → p ≤ 64800000 → e .down * p ≤ e .top
+  row-product p h = rw (down-is, top-is) (omega (arith, row-fits k laid p h, by-unit (k .b) (laid .rows) p))
+
+  pub row-count : (p : ℕ) → p ≤ 64800000 → (e .top - e .down * p) / 506250 ≡ near ((e .card .north + e .card .b / 2) * circle - p * e .card .b) circle
+  unfolding near
+  row-count p h =
+      ap₂ (λ (x y : ℕ). (x - y * p) / 506250) top-is down-is
+      ∙ sym (ap (λ (y : ℕ). y / (2 * circle)) (omega (arith, row-fits k laid p h, by-unit (k .b) (laid .rows) p))
+      ∙ mul-div-mul-left {m = 512} (506250 * (k .north + k .b / 2) + 253125 - 2 * (k .b / 512) * p) 506250 (omega arith))
+
+  pub column-product : (p : ℕ) → p ≤ 129600000 → e .across * p + e .left < 18446744073709551616
+  column-product p h =
+      let q : 2 * (k .a / 512) * p ≤ 312800 * 129600000 = mul-le-mul (most (k .a) (laid .columns)) h in
+      rw (across-is, left-is) (omega (arith, laid .columns .most))
+
+  pub column-count : (p : ℕ) → (e .across * p + e .left) / 506250 ≡ near (p * e .card .a) circle + (e .card .a - e .card .east)
+  column-count p =
+      ap₂ (λ (x y : ℕ). (x * p + y) / 506250) across-is left-is
+      ∙ ap (λ (y : ℕ). y / 506250) (omega arith)
+      ∙ add-mul-div-right (2 * (k .a / 512) * p + 253125) (k .a - k .east) (omega arith)
+      ∙ ap (λ (q : ℕ). q + (k .a - k .east)) (sym (pixel-unit (k .a / 512) p) ∙ ap (λ (y : ℕ). near (p * y) circle) (sym (laid .columns .whole)))

@@ -1,0 +1,97 @@
+-- A list filled pair by pair, and its numbers one by one, from the reports of a question: what each turn of the loop leaves. Assumes nothing.
+use mathlib.Core.Path.{_≡_, refl, sym, ap, ap₂, _∙_}
+use mathlib.Core.List.{List, [], _∷_, _++_, append-assoc}
+use Prim.Native.Nat.{ℕ, zero, suc, _+_, _-_, _*_, _%_, _≤_, _<_}
+use native.Mathlib.Nat.{add-mul, zero-mul}
+use native.Mathlib.Numerals.{add-one}
+use native.Mathlib.Omega.{arith}
+use mathlib.Core.Bool.{true, _&&_}
+use borrow.Author.Tests.{leb-true}
+use lib.Dec.{leb, eqb}
+use lib.ListN.{length, set, drop, length-append, length-drop}
+use lib.Seq.{drop-cons, append-snoc, set-append-seam}
+use lib.IntN.{ℤ, pos}
+use mir.Syntax.{w64}
+use mir.Val.{SFits, toZ, ofZ}
+use mir.ValLaws.{toZ-ofZ}
+use Rattle.arc.specs.Refusals.{Report}
+use Rattle.card.specs.declared.PositionAnswer.{PositionAnswer}
+use Rattle.card.specs.declared.PixelAnswer.{PixelAnswer}
+use Rattle.card.specs.Grid.{positionReport, pixelReport}
+use Rattle.card.proofs.Laid.{both}
+use Rattle.lists.specs.Lists.{each, valuesIn, numbersIn, over, pairs, listsFit}
+
+module _ {A : Type 0} where
+  pub length-over : (xs out : List A) → length xs ≤ length out → length (over xs out) ≡ length out
+  length-over xs out h = length-append xs (drop (length xs) out) ∙ ap (λ (n : ℕ). length xs + n) (length-drop (length xs) out) ∙ omega arith
+
+  pub length-each : (w n : ℕ) (f : ℕ → List A) → ((i : ℕ) → length (f i) ≡ w) → length (each n f) ≡ n * w
+  length-each w zero f h = sym (zero-mul w)
+  length-each w (suc n) f h = length-append (each n f) (f n) ∙ ap₂ _+_ (length-each w n f h) (h n) ∙ omega (arith, add-mul n 1 w)
+
+  -- one element more
+  pub over-next : (xs out : List A) (j : ℕ) (a d : A) → j ≡ length xs → j < length out → set (over xs out) j a ≡ over (xs ++ a ∷ []) out
+  over-next xs out j a d e h =
+      let l : length (xs ++ a ∷ []) ≡ suc j = length-append xs (a ∷ []) ∙ omega arith in
+      ap₂ (λ (s : List A) (n : ℕ). set s n a) (ap (λ (n : ℕ). xs ++ drop n out) (sym e) ∙ ap (λ (s : List A). xs ++ s) (drop-cons out j d h)) e
+      ∙ set-append-seam xs _ (drop (suc j) out) a
+      ∙ sym (append-snoc xs a (drop (suc j) out))
+      ∙ ap (λ (n : ℕ). (xs ++ a ∷ []) ++ drop n out) (sym l)
+
+-- after i turns of n
+pub record Filled (f : ℕ → Report) (n : ℕ) (out : List ℤ) (num : List ℕ) (i : ℕ) (now : List ℤ) (nums : List ℕ) : Type 0 where
+  pub upto : i ≤ n
+  pub values : now ≡ over (valuesIn i f) out
+  pub numbers : nums ≡ over (numbersIn i f) num
+
+module _ (f : ℕ → Report) where
+  values-length : ((i : ℕ) → length (f i .values) ≡ 2) → (i : ℕ) → length (valuesIn i f) ≡ i * 2
+  values-length two i = length-each 2 i (λ (j : ℕ). f j .values) two
+
+  numbers-length : (i : ℕ) → length (numbersIn i f) ≡ i * 1
+  numbers-length i = length-each 1 i (λ (j : ℕ). f j .number ∷ []) (λ j. refl)
+
+  module _ (two : (i : ℕ) → length (f i .values) ≡ 2) {n : ℕ} {out : List ℤ} (room : 2 * n ≤ length out) {num : List ℕ} (slots : n ≤ length num) where
+    pub filled-length : {i : ℕ} {now : List ℤ} {nums : List ℕ} → Filled f n out num i now nums → length now ≡ length out
+    filled-length {i} t = ap length (t .values) ∙ length-over (valuesIn i f) out (omega (arith, t .upto, room, values-length two i))
+
+    pub filled-numbers : {i : ℕ} {now : List ℤ} {nums : List ℕ} → Filled f n out num i now nums → length nums ≡ length num
+    filled-numbers {i} t = ap length (t .numbers) ∙ length-over (numbersIn i f) num (omega (arith, t .upto, slots, numbers-length i))
+
+    -- the pair as the machine holds it
+    pub filled-next : {i : ℕ} {now : List ℤ} {nums : List ℕ} → Filled f n out num i now nums → i < n → (x y : ℤ) (z : ℕ) → SFits w64 x → SFits w64 y
+        → f i .values ≡ x ∷ y ∷ [] → f i .number ≡ z
+        → Filled f n out num (i + 1) (set (set now (2 * i) (toZ w64 (ofZ w64 x))) (2 * i + 1) (toZ w64 (ofZ w64 y))) (set nums i z)
+    filled-next {i} {now} t h x y z fx fy ev en =
+        let vs : List ℤ = valuesIn i f in
+        let first : set (over vs out) (2 * i) x ≡ over (vs ++ x ∷ []) out =
+        over-next vs out (2 * i) x (pos 0) (omega (arith, values-length two i)) (omega (arith, room)) in
+        let second : set (over (vs ++ x ∷ []) out) (2 * i + 1) y ≡ over ((vs ++ x ∷ []) ++ y ∷ []) out =
+        over-next (vs ++ x ∷ []) out (2 * i + 1) y (pos 0) (omega (arith, values-length two i, length-append vs (x ∷ []))) (omega (arith, room)) in
+        record {
+          upto = omega arith;
+          values =
+            ap₂ (λ (a b : ℤ). set (set now (2 * i) a) (2 * i + 1) b) (toZ-ofZ w64 x fx) (toZ-ofZ w64 y fy)
+            ∙ ap (λ (s : List ℤ). set (set s (2 * i) x) (2 * i + 1) y) (t .values)
+            ∙ ap (λ (s : List ℤ). set s (2 * i + 1) y) first
+            ∙ second
+            ∙ ap (λ (s : List ℤ). over s out) (append-assoc vs (x ∷ []) (y ∷ []) ∙ ap (λ (s : List ℤ). vs ++ s) (sym ev) ∙ ap (λ (k : ℕ). valuesIn k f) (sym (add-one i)));
+          numbers =
+            ap (λ (s : List ℕ). set s i z) (t .numbers)
+            ∙ over-next (numbersIn i f) num i z 0 (omega (arith, numbers-length i)) (omega (arith, slots))
+            ∙ ap (λ (s : List ℕ). over s num) (ap (λ (k : ℕ). numbersIn i f ++ k ∷ []) (sym en) ∙ ap (λ (k : ℕ). numbersIn k f) (sym (add-one i)));
+        }
+
+-- ---- the lengths fit
+pub lists-fit : (p o n : ℕ) → listsFit p o n ≡ true → (p ≤ o) × (pairs p ≤ n)
+lists-fit p o n e =
+    let t = both (eqb (p % 2) 0 && leb p o) (leb (pairs p) n) e in (leb-true p o (both (eqb (p % 2) 0) (leb p o) (t .0) .1), leb-true (pairs p) n (t .1))
+
+-- ---- two value parts, in a refusal too
+pub position-values : (a : PositionAnswer) → length (positionReport a .values) ≡ 2
+position-values (PositionAnswer.At lat lon) = refl
+position-values (PositionAnswer.Refused r) = refl
+
+pub pixel-values : (a : PixelAnswer) → length (pixelReport a .values) ≡ 2
+pixel-values (PixelAnswer.At row column) = refl
+pixel-values (PixelAnswer.Refused r) = refl

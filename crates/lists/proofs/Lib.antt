@@ -1,0 +1,4 @@
+pub mod Fixed
+pub mod Units
+pub mod Engines
+pub mod Filling

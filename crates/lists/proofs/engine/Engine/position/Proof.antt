@@ -1,0 +1,122 @@
+-- The verdict decides as `positionOf` does, and an accepted pixel's angles are those of its axes. Assumes nothing.
+use mathlib.Core.Path.{_≡_, ap, ap₂, _∙_}
+use mathlib.Core.Bool.{true}
+use Prim.Native.Nat.{ℕ, _+_, _-_, _*_, _%_}
+use native.Mathlib.Omega.{arith}
+use lib.IntN.{pos, natAbs, _-ℤ_}
+use mir.Syntax.{w64}
+use mir.Val.{toZ, ofZ}
+use Rattle.whole.specs.Whole.{near}
+use Rattle.arc.specs.Zones.{circle, half, quarter}
+use Rattle.card.specs.declared.PositionAnswer.{PositionAnswer}
+use Rattle.card.specs.Grid.{inTiles, inChart, latitudeOf, longitudeOf, positionOf}
+use Rattle.card.proofs.Regions.{Inside, tiles-inside}
+use Rattle.card.proofs.Axes.{north-high, down-high, latitude-is, latitude-high, longitude-is}
+use Rattle.card.proofs.Answers.{told, judged-refused, judged-accepted, cast-fits, cast-below, cast-same}
+use Rattle.lists.proofs.Engines.{laid}
+use borrow.Author.Needs.{needs}
+use Rattle.lists.proofs.engine.Engine.position.Statement.{statement}
+use Rattle.lists.proofs.engine.Engine.position.Tie as tie
+
+-- what the verdict tells where it accepts
+tests : (c : tie.After-enum-told) → (inTiles (c .before .before .before .before .args .self .card) (c .before .before .before .before .args .row) (c .before .before .before .before .args .column) ≡ true)
+    × (inChart (c .before .before .before .before .args .self .card) (c .before .before .before .before .args .row) (c .before .before .before .before .args .column) ≡ true)
+tests c =
+    let s = c .before .before .before .before in
+    judged-accepted (s .args .self .card) (s .args .row) (s .args .column) (s .fits .row) (s .fits .column) (c .before .before .judge-pixel .ensures) (c .enum-told .given .1)
+
+inside : (c : tie.After-enum-told)
+    → Inside (c .before .before .before .before .args .self .card) (c .before .before .before .before .args .row) (c .before .before .before .before .args .column)
+inside c = tiles-inside _ _ _ (tests c .0)
+
+judge-pixel-requires : tie.Need-judge-pixel-requires
+judge-pixel-requires c κs = search needs
+
+enum-told : tie.Need-enum-told
+enum-told c = search needs
+
+cast-north-of : tie.Need-cast-north-of
+cast-north-of c =
+    let s = c .before .before .before .before in
+    cast-fits _ (s .args .row) (s .fits .row) (inside c .row) (omega (arith, laid _ (s .pre)))
+
+north-of-requires : tie.Need-north-of-requires
+north-of-requires c κs =
+    let s = c .before .before .before .before in (s .pre, cast-below _ (s .args .row) (s .fits .row) (inside c .row))
+
+cast-difference : tie.Need-cast-difference
+cast-difference c =
+    let s = c .before .before .before .before .before in
+    let e = s .args .self in
+    let r = cast-below _ (s .args .row) (s .fits .row) (inside (c .before) .row) in
+    omega (arith, latitude-high (e .card) (laid e (s .pre)) (e .card .north - natAbs (toZ w64 (ofZ w64 (s .args .row)))) (omega (arith, north-high (e .card) (laid e (s .pre)))), c .north-of .ensures)
+
+difference-requires : tie.Need-difference-requires
+difference-requires c κs = search needs
+
+cast-east-of : tie.Need-cast-east-of
+cast-east-of c =
+    let s = c .before .before .before .before .before .before in
+    cast-fits _ (s .args .column) (s .fits .column) (inside (c .before .before) .column) (omega (arith, laid _ (s .pre)))
+
+east-of-requires : tie.Need-east-of-requires
+east-of-requires c κs =
+    let s = c .before .before .before .before .before .before in (s .pre, cast-below _ (s .args .column) (s .fits .column) (inside (c .before .before) .column))
+
+cast-difference-2 : tie.Need-cast-difference-2
+cast-difference-2 c = search needs
+
+difference-requires-2 : tie.Need-difference-requires-2
+difference-requires-2 c κs = search needs
+
+enum-known-r : tie.Need-enum-known-r
+enum-known-r c = search needs
+
+returns : tie.Need-returns
+unfolding positionOf
+returns c =
+    let s = c .before .before .before .before .before .before .before .before in
+    let e = s .args .self in
+    let k = e .card in
+    let l = laid e (s .pre) in
+    let t = tests (c .before .before .before .before) in
+    let i = inside (c .before .before .before .before) in
+    let r : ℕ = natAbs (toZ w64 (ofZ w64 (s .args .row))) in
+    let v : ℕ = natAbs (toZ w64 (ofZ w64 (s .args .column))) in
+    let high = cast-below _ (s .args .row) (s .fits .row) (i .row) in
+    rw (t .0, t .1)
+    (ap₂ PositionAnswer.At
+    (told (near ((k .north - r) * circle) (k .b)) quarter (c .before .before .difference .ok)
+    (c .before .before .difference .ensures ∙ ap (λ (n : ℕ). pos n -ℤ pos quarter) (c .before .before .before .north-of .ensures))
+    (latitude-is k l r (omega (arith, down-high k l, high)))
+    ∙ ap (latitudeOf k) (cast-same _ (s .args .row) (s .fits .row) (i .row)))
+    (told (near ((k .east + v) * circle) (k .a) % circle) half (c .difference2 .ok)
+    (c .difference2 .ensures ∙ ap (λ (n : ℕ). pos n -ℤ pos half) (c .before .east-of .ensures))
+    (longitude-is k l v)
+    ∙ ap (longitudeOf k) (cast-same _ (s .args .column) (s .fits .column) (i .column))))
+
+returns-2 : tie.Need-returns-2
+unfolding positionOf
+returns-2 c =
+    let s = c .before .before .before .before .before in
+    let k = s .args .self .card in
+    judged-refused k (s .args .row) (s .args .column) (s .fits .row) (s .fits .column) (c .before .before .before .judge-pixel .ensures)
+    PositionAnswer.Refused (PositionAnswer.At (latitudeOf k (s .args .row)) (longitudeOf k (s .args .column))) (c .before .r .given .1)
+
+pub position-spec : {M : Type 1} → statement M
+position-spec =
+    tie.close
+    (tie.spec
+    judge-pixel-requires
+    enum-told
+    cast-north-of
+    north-of-requires
+    cast-difference
+    difference-requires
+    cast-east-of
+    east-of-requires
+    cast-difference-2
+    difference-requires-2
+    enum-known-r
+    returns
+    returns-2)

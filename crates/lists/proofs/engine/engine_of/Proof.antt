@@ -1,0 +1,60 @@
+-- Every number fits, and the axes are the definition's. Assumes nothing.
+use native.Mathlib.Omega.{arith}
+use Rattle.card.proofs.Laid.{known-laid}
+use Rattle.card.proofs.Axes.{east-high}
+use Rattle.lists.specs.Engine.{engineOf}
+use borrow.Author.Needs.{needs}
+use Rattle.lists.proofs.engine.engine_of.Statement.{statement}
+use Rattle.lists.proofs.engine.engine_of.Tie as tie
+
+rows-of-requires : tie.Need-rows-of-requires
+rows-of-requires c κs = search needs
+
+columns-of-requires : tie.Need-columns-of-requires
+columns-of-requires c κs = search needs
+
+add-t5 : tie.Need-add-t5
+add-t5 c = omega (arith, known-laid _ (c .before .before .before .before .pre))
+
+mul-t6 : tie.Need-mul-t6
+mul-t6 c = omega (arith, known-laid _ (c .before .before .before .before .pre))
+
+add-t7 : tie.Need-add-t7
+add-t7 c = omega (arith, known-laid _ (c .before .before .before .before .pre))
+
+mul-t9 : tie.Need-mul-t9
+mul-t9 c = search needs
+
+sub-t10 : tie.Need-sub-t10
+sub-t10 c =
+    omega (arith, known-laid _ (c .before .before .before .before .before .before .pre), east-high _ (known-laid _ (c .before .before .before .before .before .before .pre)))
+
+mul-t11 : tie.Need-mul-t11
+mul-t11 c = omega (arith, known-laid _ (c .before .before .before .before .before .before .pre))
+
+add-t12 : tie.Need-add-t12
+add-t12 c = omega (arith, known-laid _ (c .before .before .before .before .before .before .pre))
+
+mul-t14 : tie.Need-mul-t14
+mul-t14 c = search needs
+
+returns : tie.Need-returns
+unfolding engineOf
+returns c =
+    rw (c .before .before .before .before .before .columns-of .ensures, c .before .before .before .before .before .before .rows-of .ensures)
+
+pub engine-of-spec : {M : Type 1} → statement M
+engine-of-spec =
+    tie.close
+    (tie.spec
+    rows-of-requires
+    columns-of-requires
+    add-t5
+    mul-t6
+    add-t7
+    mul-t9
+    sub-t10
+    mul-t11
+    add-t12
+    mul-t14
+    returns)

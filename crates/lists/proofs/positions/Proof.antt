@@ -1,0 +1,57 @@
+-- Lists that do not fit are refused as they are; else the loop fills them from the card's own engine. Assumes nothing.
+use mathlib.Core.Path.{_≡_, refl, sym, ap, _∙_}
+use mathlib.Core.Bool.{true}
+use borrow.Author.Tests.{not-true, not-false}
+use lib.ListN.{length}
+use Rattle.arc.specs.declared.Verdict.{Verdict}
+use Rattle.lists.proofs.Engines.{engine-card, engine-made}
+use Rattle.lists.proofs.Filling.{lists-fit}
+use borrow.Author.Needs.{needs}
+use Rattle.lists.proofs.positions.Statement.{statement}
+use Rattle.lists.proofs.positions.Tie as tie
+
+lists-fit-requires : tie.Need-lists-fit-requires
+lists-fit-requires c κs = search needs
+
+refused-requires : tie.Need-refused-requires
+refused-requires c κs = search needs
+
+returns : tie.Need-returns
+returns c =
+    let f = sym (c .before .before .lists-fit .ensures) ∙ not-true _ (c .before .if1 .taken) in
+    (rw f (ap Verdict.Refused (c .refused .ensures)), (rw f refl, rw f refl))
+
+engine-of-requires : tie.Need-engine-of-requires
+engine-of-requires c κs = search needs
+
+fill-positions-requires : tie.Need-fill-positions-requires
+fill-positions-requires c κs =
+    let s = c .before .before .before .before .before .before in
+    let f = lists-fit (length (s .args .pixels .now)) (length (s .args .positions .now)) (length (s .args .numbers .now))
+    (sym (c .before .before .before .before .lists-fit .ensures) ∙ not-false _ (c .before .before .before .if1 .left)) in
+    (engine-made (s .pre) (c .before .before .engine-of .ensures), f)
+
+same-length : tie.Need-same-length
+same-length c = search needs
+
+same-length-2 : tie.Need-same-length-2
+same-length-2 c = search needs
+
+returns-2 : tie.Need-returns-2
+returns-2 c =
+    let f = sym (c .before .before .before .before .before .before .before .before .lists-fit .ensures) ∙ not-false _ (c .before .before .before .before .before .before .before .if1 .left) in
+    let card = engine-card (c .before .before .before .before .before .before .engine-of .ensures) in
+    (rw f refl, (rw f (rw card at (c .before .before .before .fill-positions .ensures .0)), rw f (rw card at (c .before .before .before .fill-positions .ensures .1))))
+
+pub positions-spec : {M : Type 1} → statement M
+positions-spec =
+    tie.close
+    (tie.spec
+    lists-fit-requires
+    refused-requires
+    returns
+    engine-of-requires
+    fill-positions-requires
+    same-length
+    same-length-2
+    returns-2)

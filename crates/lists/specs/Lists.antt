@@ -1,0 +1,55 @@
+-- Lists of pixels and of positions of one card (01, "Origins and the zone grid"). Definitions only.
+--     each n f               f 0, f 1, .., f (n − 1), one after the other
+--     pairs p                the pairs in a list of length p
+--     listsFit p o n         the length p handed in is even, the list to fill, of length o, is no shorter, and there is a number for each pair
+--     listsVerdict p o n     6 where they do not fit
+--     positionAt k ps i      the report of pixel i of the list: its row stands at 2i, its column at 2i + 1
+--     pixelOfEach k qs i     the report of position i of the list: its latitude stands at 2i, its longitude at 2i + 1
+--     valuesIn, numbersIn    the value parts, and the numbers, of the first n reports
+--     over xs out            xs, and then what out has past it
+--     valuesLeft, numbersLeft    what the list to fill and the numbers hold at the end
+use Prim.Native.Nat.{ℕ, zero, suc, _+_, _*_, _/_, _%_}
+use mathlib.Core.List.{List, [], _∷_, _++_}
+use mathlib.Core.Bool.{Bool, cond, _&&_}
+use lib.Dec.{leb, eqb}
+use lib.ListN.{length, getD, drop}
+use lib.IntN.{ℤ, pos}
+use Rattle.arc.specs.declared.Verdict.{Verdict}
+use Rattle.arc.specs.Refusals.{refusal, Report}
+use Rattle.card.specs.declared.Card.{Card}
+use Rattle.card.specs.Grid.{positionOf, pixelOf, positionReport, pixelReport}
+
+abbrev pub each : {A : Type 0} → ℕ → (ℕ → List A) → List A
+each zero f = []
+each (suc n) f = each n f ++ f n
+
+abbrev pub pairs : ℕ → ℕ
+pairs p = p / 2
+
+abbrev pub listsFit : ℕ → ℕ → ℕ → Bool
+listsFit p o n = eqb (p % 2) 0 && leb p o && leb (pairs p) n
+
+abbrev pub listsVerdict : ℕ → ℕ → ℕ → Verdict
+listsVerdict p o n = cond (listsFit p o n) Verdict.Accepted (Verdict.Refused (refusal 6))
+
+abbrev pub positionAt : Card → List ℤ → ℕ → Report
+positionAt k ps i = positionReport (positionOf k (getD ps (2 * i) (pos 0)) (getD ps (2 * i + 1) (pos 0)))
+
+abbrev pub pixelOfEach : Card → List ℤ → ℕ → Report
+pixelOfEach k qs i = pixelReport (pixelOf k (getD qs (2 * i) (pos 0)) (getD qs (2 * i + 1) (pos 0)))
+
+abbrev pub valuesIn : ℕ → (ℕ → Report) → List ℤ
+valuesIn n f = each n (λ i. f i .values)
+
+abbrev pub numbersIn : ℕ → (ℕ → Report) → List ℕ
+numbersIn n f = each n (λ i. f i .number ∷ [])
+
+abbrev pub over : {A : Type 0} → List A → List A → List A
+over xs out = xs ++ drop (length xs) out
+
+-- what is left in the list to fill, and in the numbers, f being the reports of the pairs handed in: as they were on a refusal
+abbrev pub valuesLeft : (List ℤ → ℕ → Report) → List ℤ → List ℤ → List ℕ → List ℤ
+valuesLeft f ps out nums = cond (listsFit (length ps) (length out) (length nums)) (over (valuesIn (pairs (length ps)) (f ps)) out) out
+
+abbrev pub numbersLeft : (List ℤ → ℕ → Report) → List ℤ → List ℤ → List ℕ → List ℕ
+numbersLeft f ps out nums = cond (listsFit (length ps) (length out) (length nums)) (over (numbersIn (pairs (length ps)) (f ps)) nums) nums

@@ -1,0 +1,86 @@
+// Lists of pixels and of positions of one card (01, "Origins and the zone grid").
+use arc::Verdict;
+use card::Card;
+use engine::Engine;
+ghost use mathlib.Core.Path.{_≡_};
+ghost use Prim.Native.Nat.{_≤_};
+ghost use lib.ListN.{length};
+ghost use Rattle.card.specs.Read.{Known};
+ghost use Rattle.lists.specs.Engine.{Made};
+ghost use Rattle.lists.specs.Lists.{listsFit, listsVerdict, pairs, positionAt, pixelOfEach, valuesIn, numbersIn, over, valuesLeft, numbersLeft};
+
+mod engine;
+
+// Whether the lists' lengths are right: pairs handed in, and room for their answers.
+fn lists_fit(handed: usize, fill: usize, numbers: usize) -> bool
+    ensures { λ r. ⌜ r ≡ listsFit handed fill numbers ⌝ }
+{
+    (handed % 2 == 0) & (handed <= fill) & (handed / 2 <= numbers)
+}
+
+// The position of each pixel.
+fn fill_positions(e: Engine, pixels: &[i64], positions: &mut [i64], numbers: &mut [u32])
+    requires { ⌜ Made e ⌝ ∗ ⌜ length (now pixels) ≤ length (now positions) ⌝ ∗ ⌜ pairs (length (now pixels)) ≤ length (now numbers) ⌝ }
+    ensures positions { λ _. ⌜ now (positions .exit) ≡ over (valuesIn (pairs (length (now (pixels .entry)))) (positionAt (e .card) (now (pixels .entry)))) (now (positions .entry)) ⌝ }
+    ensures numbers { λ _. ⌜ now (numbers .exit) ≡ over (numbersIn (pairs (length (now (pixels .entry)))) (positionAt (e .card) (now (pixels .entry)))) (now (numbers .entry)) ⌝ }
+{
+    let n = pixels.len() / 2;
+    let mut i = 0;
+    while i < n {
+        let p = e.position(pixels[2 * i], pixels[2 * i + 1]).into_parts();
+        let lat = p.lat;
+        let lon = p.lon;
+        positions[2 * i] = lat;
+        positions[2 * i + 1] = lon;
+        numbers[i] = p.number;
+        i += 1;
+    }
+}
+
+// The pixel at each position.
+fn fill_pixels(e: Engine, positions: &[i64], pixels: &mut [i64], numbers: &mut [u32])
+    requires { ⌜ Made e ⌝ ∗ ⌜ length (now positions) ≤ length (now pixels) ⌝ ∗ ⌜ pairs (length (now positions)) ≤ length (now numbers) ⌝ }
+    ensures pixels { λ _. ⌜ now (pixels .exit) ≡ over (valuesIn (pairs (length (now (positions .entry)))) (pixelOfEach (e .card) (now (positions .entry)))) (now (pixels .entry)) ⌝ }
+    ensures numbers { λ _. ⌜ now (numbers .exit) ≡ over (numbersIn (pairs (length (now (positions .entry)))) (pixelOfEach (e .card) (now (positions .entry)))) (now (numbers .entry)) ⌝ }
+{
+    let n = positions.len() / 2;
+    let mut i = 0;
+    while i < n {
+        let p = e.pixel(positions[2 * i], positions[2 * i + 1]).into_parts();
+        let row = p.row;
+        let column = p.column;
+        pixels[2 * i] = row;
+        pixels[2 * i + 1] = column;
+        numbers[i] = p.number;
+        i += 1;
+    }
+}
+
+// The positions of a list of pixels: rows at the even places, columns at the odd ones, and likewise latitudes and longitudes. A number is
+// 0 where the pixel is answered. Refuses 6, and then leaves both lists as they were.
+pub fn positions(k: Card, pixels: &[i64], positions: &mut [i64], numbers: &mut [u32]) -> Verdict
+    requires { ⌜ Known k ⌝ }
+    ensures answer { λ r. ⌜ r ≡ listsVerdict (length (now (pixels .entry))) (length (now (positions .entry))) (length (now (numbers .entry))) ⌝ }
+    ensures positions { λ _. ⌜ now (positions .exit) ≡ valuesLeft (positionAt k) (now (pixels .entry)) (now (positions .entry)) (now (numbers .entry)) ⌝ }
+    ensures numbers { λ _. ⌜ now (numbers .exit) ≡ numbersLeft (positionAt k) (now (pixels .entry)) (now (positions .entry)) (now (numbers .entry)) ⌝ }
+{
+    if !lists_fit(pixels.len(), positions.len(), numbers.len()) {
+        return Verdict::Refused(arc::refused(6));
+    }
+    fill_positions(engine::engine_of(k), pixels, positions, numbers);
+    Verdict::Accepted
+}
+
+// The pixels of a list of positions, likewise.
+pub fn pixels(k: Card, positions: &[i64], pixels: &mut [i64], numbers: &mut [u32]) -> Verdict
+    requires { ⌜ Known k ⌝ }
+    ensures answer { λ r. ⌜ r ≡ listsVerdict (length (now (positions .entry))) (length (now (pixels .entry))) (length (now (numbers .entry))) ⌝ }
+    ensures pixels { λ _. ⌜ now (pixels .exit) ≡ valuesLeft (pixelOfEach k) (now (positions .entry)) (now (pixels .entry)) (now (numbers .entry)) ⌝ }
+    ensures numbers { λ _. ⌜ now (numbers .exit) ≡ numbersLeft (pixelOfEach k) (now (positions .entry)) (now (pixels .entry)) (now (numbers .entry)) ⌝ }
+{
+    if !lists_fit(positions.len(), pixels.len(), numbers.len()) {
+        return Verdict::Refused(arc::refused(6));
+    }
+    fill_pixels(engine::engine_of(k), positions, pixels, numbers);
+    Verdict::Accepted
+}
