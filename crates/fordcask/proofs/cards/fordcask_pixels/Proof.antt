@@ -1,0 +1,66 @@
+-- An accepted card fills the lists, and a refused one leaves them. Assumes nothing.
+use mathlib.Core.Path.{ap, _∙_}
+use lib.ListN.{length}
+use Rattle.arc.specs.declared.Refusal.{Refusal}
+use Rattle.arc.specs.declared.Verdict.{Verdict}
+use Rattle.arc.specs.Refusals.{refusalOf}
+use Rattle.card.specs.declared.Card.{Card}
+use Rattle.lists.specs.Lists.{listsVerdict, pixelOfEach, valuesLeft, numbersLeft}
+use Rattle.fordcask.proofs.Questions.{card-known, card-answers, card-refuses}
+use borrow.Author.Needs.{needs}
+use Rattle.fordcask.proofs.cards.fordcask_pixels.Statement.{statement}
+use Rattle.fordcask.proofs.cards.fordcask_pixels.Tie as tie
+
+read-card-requires : tie.Need-read-card-requires
+read-card-requires c κs = search needs
+
+enum-told : tie.Need-enum-told
+enum-told c = search needs
+
+pixels-requires : tie.Need-pixels-requires
+pixels-requires c κs =
+    let s = c .before .before .before .before .before .before .before .before in
+    card-known (s .args .scale) (s .args .zone) (s .args .card .now) (c .before .before .before .before .before .read-card .ensures) (c .before .before .enum-told .given .1)
+
+refusal-requires : tie.Need-refusal-requires
+refusal-requires c κs = search needs
+
+enum-known-verdict : tie.Need-enum-known-verdict
+enum-known-verdict c = search needs
+
+same-length : tie.Need-same-length
+same-length c = search needs
+
+same-length-2 : tie.Need-same-length-2
+same-length-2 c = search needs
+
+returns : tie.Need-returns
+returns c =
+    let s = c .before .before .before .before .before .before .before .before .before .before .before .before .before in
+    let x = c .before .before .before .before .pixels .ensures in
+    let v = c .before .before .before .before .before .before .before .enum-told .given .1 in
+    ( c .refusal .ensures ∙ ap refusalOf (x .0 ∙ card-answers (s .args .scale) (s .args .zone) (s .args .card .now) (c .before .before .before .before .before .before .before .before .before .before .read-card .ensures) Verdict.Refused (λ (k : Card). listsVerdict (length (s .args .positions .now)) (length (s .args .pixels .now)) (length (s .args .numbers .now))) v),
+    ( x .1 .0 ∙ card-answers (s .args .scale) (s .args .zone) (s .args .card .now) (c .before .before .before .before .before .before .before .before .before .before .read-card .ensures) (λ (e : Refusal). s .args .pixels .now) (λ (k : Card). valuesLeft (pixelOfEach k) (s .args .positions .now) (s .args .pixels .now) (s .args .numbers .now)) v,
+    x .1 .1 ∙ card-answers (s .args .scale) (s .args .zone) (s .args .card .now) (c .before .before .before .before .before .before .before .before .before .before .read-card .ensures) (λ (e : Refusal). s .args .numbers .now) (λ (k : Card). numbersLeft (pixelOfEach k) (s .args .positions .now) (s .args .pixels .now) (s .args .numbers .now)) v ) )
+
+returns-2 : tie.Need-returns-2
+returns-2 c =
+    let s = c .before .before .before .before .before .before .before in
+    let v = c .before .verdict .given .1 in
+    ( ap refusalOf (card-refuses (s .args .scale) (s .args .zone) (s .args .card .now) (c .before .before .before .before .read-card .ensures) Verdict.Refused (λ (k : Card). listsVerdict (length (s .args .positions .now)) (length (s .args .pixels .now)) (length (s .args .numbers .now))) v),
+    ( card-refuses (s .args .scale) (s .args .zone) (s .args .card .now) (c .before .before .before .before .read-card .ensures) (λ (e : Refusal). s .args .pixels .now) (λ (k : Card). valuesLeft (pixelOfEach k) (s .args .positions .now) (s .args .pixels .now) (s .args .numbers .now)) v,
+    card-refuses (s .args .scale) (s .args .zone) (s .args .card .now) (c .before .before .before .before .read-card .ensures) (λ (e : Refusal). s .args .numbers .now) (λ (k : Card). numbersLeft (pixelOfEach k) (s .args .positions .now) (s .args .pixels .now) (s .args .numbers .now)) v ) )
+
+pub fordcask-pixels-spec : {M : Type 1} → statement M
+fordcask-pixels-spec =
+    tie.close
+    (tie.spec
+    read-card-requires
+    enum-told
+    pixels-requires
+    refusal-requires
+    enum-known-verdict
+    same-length
+    same-length-2
+    returns
+    returns-2)

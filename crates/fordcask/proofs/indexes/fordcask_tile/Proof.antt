@@ -1,0 +1,88 @@
+-- A stored number's bytes begin that many tiles into the store, and lie in it. Assumes nothing.
+use mathlib.Core.Path.{_≡_, sym, ap, _∙_}
+use native.Mathlib.Omega.{arith}
+use Rattle.card.specs.declared.Card.{Card}
+use Rattle.card.specs.Read.{readOf}
+use Rattle.tiles.specs.declared.NumberAnswer.{NumberAnswer}
+use Rattle.tiles.specs.LookUp.{numberOf}
+use Rattle.tiles.proofs.Pixel.{InStore, number-held, number-plain}
+use Rattle.fordcask.specs.Entry.{onCard, tileParts}
+use Rattle.fordcask.proofs.Questions.{card-known, card-answers, card-refuses}
+use borrow.Author.Needs.{needs}
+use Rattle.fordcask.proofs.indexes.fordcask_tile.Statement.{statement}
+use Rattle.fordcask.proofs.indexes.fordcask_tile.Tie as tie
+
+told : (c : tie.After-stored-number) → let s = c .before .before .before .before .before .before .before .before in
+    c .stored-number .result ≡ onCard (readOf (s .args .scale) (s .args .zone) (s .args .card .now)) NumberAnswer.Refused (λ (k : Card). numberOf k (s .args .index .now) (s .args .count) (s .args .store .now) (s .args .row) (s .args .column))
+told c =
+    let s = c .before .before .before .before .before .before .before .before in
+    c .stored-number .ensures
+    ∙ number-plain _ (s .args .index .now) (s .args .count) (s .args .store .now) (s .args .row) (s .args .column) (s .fits .row) (s .fits .column)
+    ∙ card-answers (s .args .scale) (s .args .zone) (s .args .card .now) (c .before .before .before .before .read-card .ensures) NumberAnswer.Refused (λ (k : Card). numberOf k (s .args .index .now) (s .args .count) (s .args .store .now) (s .args .row) (s .args .column)) (c .before .enum-told .given .1)
+
+held : (c : tie.After-known-told) → let s = c .before .before .before .before .before .before .before .before .before .before .before in InStore (c .before .n .given .0 .0) (s .args .count) (s .args .store .now)
+held c = let s = c .before .before .before .before .before .before .before .before .before .before .before in number-held _ _ _ _ _ _ _ (sym (c .before .before .before .stored-number .ensures ∙ number-plain _ (s .args .index .now) (s .args .count) (s .args .store .now) (s .args .row) (s .args .column) (s .fits .row) (s .fits .column)) ∙ c .before .n .given .1)
+
+read-card-requires : tie.Need-read-card-requires
+read-card-requires c κs = search needs
+
+enum-told : tie.Need-enum-told
+enum-told c = search needs
+
+stored-number-requires : tie.Need-stored-number-requires
+stored-number-requires c κs =
+    let s = c .before .before .before .before .before .before .before in
+    card-known (s .args .scale) (s .args .zone) (s .args .card .now) (c .before .before .before .read-card .ensures) (c .enum-told .given .1)
+
+enum-known-n : tie.Need-enum-known-n
+enum-known-n c = search needs
+
+sub-t18 : tie.Need-sub-t18
+sub-t18 c = omega (arith, held c)
+
+mul-t19 : tie.Need-mul-t19
+mul-t19 c =
+    let s = c .before .before .before .before .before .before .before .before .before .before .before in omega (arith, held c)
+
+enum-known-e : tie.Need-enum-known-e
+enum-known-e c = search needs
+
+no-tile-requires : tie.Need-no-tile-requires
+no-tile-requires c κs = search needs
+
+enum-known-verdict : tie.Need-enum-known-verdict
+enum-known-verdict c = search needs
+
+no-tile-requires-2 : tie.Need-no-tile-requires-2
+no-tile-requires-2 c κs = search needs
+
+returns : tie.Need-returns
+returns c =
+    let s = c .before .before .before .before .before .before .before .before .before .before .before in ap tileParts (sym (c .before .n .given .1) ∙ told (c .before .before .before))
+
+returns-2 : tie.Need-returns-2
+returns-2 c =
+    c .no-tile .ensures ∙ ap tileParts (sym (c .before .before .e .given .1) ∙ told (c .before .before .before .before))
+
+returns-3 : tie.Need-returns-3
+returns-3 c =
+    let s = c .before .before .before .before .before .before .before .before .before in
+    c .no-tile2 .ensures ∙ ap tileParts (card-refuses (s .args .scale) (s .args .zone) (s .args .card .now) (c .before .before .before .before .before .read-card .ensures) NumberAnswer.Refused (λ (k : Card). numberOf k (s .args .index .now) (s .args .count) (s .args .store .now) (s .args .row) (s .args .column)) (c .before .before .verdict .given .1))
+
+pub fordcask-tile-spec : {M : Type 1} → statement M
+fordcask-tile-spec =
+    tie.close
+    (tie.spec
+    read-card-requires
+    enum-told
+    stored-number-requires
+    enum-known-n
+    sub-t18
+    mul-t19
+    enum-known-e
+    no-tile-requires
+    enum-known-verdict
+    no-tile-requires-2
+    returns
+    returns-2
+    returns-3)

@@ -1,0 +1,56 @@
+-- An accepted card answers, and a refused one gives its refusal. Assumes nothing.
+use mathlib.Core.Path.{ap, _∙_}
+use Rattle.card.specs.declared.Card.{Card}
+use Rattle.tiles.specs.declared.WindowAnswer.{WindowAnswer}
+use Rattle.tiles.specs.Window.{windowReport, windowOf}
+use Rattle.fordcask.proofs.Questions.{card-known, card-answers, card-refuses}
+use borrow.Author.Needs.{needs}
+use Rattle.fordcask.proofs.indexes.fordcask_window.Statement.{statement}
+use Rattle.fordcask.proofs.indexes.fordcask_window.Tie as tie
+
+read-card-requires : tie.Need-read-card-requires
+read-card-requires c κs = search needs
+
+enum-told : tie.Need-enum-told
+enum-told c = search needs
+
+window-requires : tie.Need-window-requires
+window-requires c κs =
+    let s = c .before .before .before .before .before .before in
+    card-known (s .args .scale) (s .args .zone) (s .args .card .now) (c .before .before .before .read-card .ensures) (c .enum-told .given .1)
+
+into-parts-requires : tie.Need-into-parts-requires
+into-parts-requires c κs = search needs
+
+enum-known-verdict : tie.Need-enum-known-verdict
+enum-known-verdict c = search needs
+
+into-parts-requires-2 : tie.Need-into-parts-requires-2
+into-parts-requires-2 c κs = search needs
+
+returns : tie.Need-returns
+returns c =
+    let s = c .before .before .before .before .before .before .before .before in
+    c .into-parts .ensures
+    ∙ ap windowReport
+    (c .before .window .ensures
+    ∙ card-answers (s .args .scale) (s .args .zone) (s .args .card .now) (c .before .before .before .before .before .read-card .ensures) WindowAnswer.Refused (λ (k : Card). windowOf k (s .args .index .now) (s .args .count) (s .args .top) (s .args .left) (s .args .height) (s .args .width)) (c .before .before .enum-told .given .1))
+
+returns-2 : tie.Need-returns-2
+returns-2 c =
+    let s = c .before .before .before .before .before .before .before .before in
+    c .into-parts2 .ensures
+    ∙ ap windowReport (card-refuses (s .args .scale) (s .args .zone) (s .args .card .now) (c .before .before .before .before .before .read-card .ensures) WindowAnswer.Refused (λ (k : Card). windowOf k (s .args .index .now) (s .args .count) (s .args .top) (s .args .left) (s .args .height) (s .args .width)) (c .before .before .verdict .given .1))
+
+pub fordcask-window-spec : {M : Type 1} → statement M
+fordcask-window-spec =
+    tie.close
+    (tie.spec
+    read-card-requires
+    enum-told
+    window-requires
+    into-parts-requires
+    enum-known-verdict
+    into-parts-requires-2
+    returns
+    returns-2)

@@ -1,0 +1,23 @@
+-- The parts of the library's own answer. Assumes nothing.
+use mathlib.Core.Path.{ap, _∙_}
+use mathlib.Core.Path.{ap, _∙_}
+use mir.Syntax.{w64}
+use mir.ValLaws.{toZ-ofZ}
+use Rattle.origin.specs.Origin.{originReport}
+use borrow.Author.Needs.{needs}
+use Rattle.fordcask.proofs.plain.fordcask_align.Statement.{statement}
+use Rattle.fordcask.proofs.plain.fordcask_align.Tie as tie
+
+align-requires : tie.Need-align-requires
+align-requires c κs = search needs
+
+into-parts-requires : tie.Need-into-parts-requires
+into-parts-requires c κs = search needs
+
+returns : tie.Need-returns
+returns c =
+    let s = c .before .before in
+    c .into-parts .ensures ∙ ap originReport (rw (toZ-ofZ w64 (s .args .lat) (s .fits .lat), toZ-ofZ w64 (s .args .lon) (s .fits .lon)) at (c .before .align .ensures))
+
+pub fordcask-align-spec : {M : Type 1} → statement M
+fordcask-align-spec = tie.close (tie.spec align-requires into-parts-requires returns)

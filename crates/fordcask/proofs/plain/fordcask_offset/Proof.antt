@@ -1,0 +1,23 @@
+-- The parts of the library's own answer. Assumes nothing.
+use mathlib.Core.Path.{ap, _∙_}
+use mathlib.Core.Path.{ap, _∙_}
+use mir.Syntax.{w64}
+use mir.ValLaws.{toZ-ofZ}
+use Rattle.card.specs.Offset.{offsetParts}
+use borrow.Author.Needs.{needs}
+use Rattle.fordcask.proofs.plain.fordcask_offset.Statement.{statement}
+use Rattle.fordcask.proofs.plain.fordcask_offset.Tie as tie
+
+offset-from-requires : tie.Need-offset-from-requires
+offset-from-requires c κs = search needs
+
+into-parts-requires : tie.Need-into-parts-requires
+into-parts-requires c κs = search needs
+
+returns : tie.Need-returns
+returns c =
+    let s = c .before .before in
+    c .into-parts .ensures ∙ ap offsetParts (rw (toZ-ofZ w64 (s .args .lat) (s .fits .lat), toZ-ofZ w64 (s .args .lon) (s .fits .lon), toZ-ofZ w64 (s .args .clat) (s .fits .clat), toZ-ofZ w64 (s .args .clon) (s .fits .clon)) at (c .before .offset-from .ensures))
+
+pub fordcask-offset-spec : {M : Type 1} → statement M
+fordcask-offset-spec = tie.close (tie.spec offset-from-requires into-parts-requires returns)
