@@ -38,6 +38,11 @@ module _ {A : Type 0} where
       ∙ sym (append-snoc xs a (drop (suc j) out))
       ∙ ap (λ (n : ℕ). (xs ++ a ∷ []) ++ drop n out) (sym l)
 
+-- ---- the lengths fit
+pub lists-fit : (p o n : ℕ) → listsFit p o n ≡ true → (p ≤ o) × (pairs p ≤ n)
+lists-fit p o n e =
+    let t = both (eqb (p % 2) 0 && leb p o) (leb (pairs p) n) e in (leb-true p o (both (eqb (p % 2) 0) (leb p o) (t .0) .1), leb-true (pairs p) n (t .1))
+
 -- after i turns of n
 pub record Filled (f : ℕ → Report) (n : ℕ) (out : List ℤ) (num : List ℕ) (i : ℕ) (now : List ℤ) (nums : List ℕ) : Type 0 where
   pub upto : i ≤ n
@@ -51,23 +56,27 @@ module _ (f : ℕ → Report) where
   numbers-length : (i : ℕ) → length (numbersIn i f) ≡ i * 1
   numbers-length i = length-each 1 i (λ (j : ℕ). f j .number ∷ []) (λ j. refl)
 
-  module _ (two : (i : ℕ) → length (f i .values) ≡ 2) {n : ℕ} {out : List ℤ} (room : 2 * n ≤ length out) {num : List ℕ} (slots : n ≤ length num) where
-    pub filled-length : {i : ℕ} {now : List ℤ} {nums : List ℕ} → Filled f n out num i now nums → length now ≡ length out
-    filled-length {i} t = ap length (t .values) ∙ length-over (valuesIn i f) out (omega (arith, t .upto, room, values-length two i))
+  module _ (two : (i : ℕ) → length (f i .values) ≡ 2) (p : ℕ) {out : List ℤ} {num : List ℕ} (fit : listsFit p (length out) (length num) ≡ true) where
+    pub filled-length : {i : ℕ} {now : List ℤ} {nums : List ℕ} → Filled f (pairs p) out num i now nums → length now ≡ length out
+    filled-length {i} t = ap length (t .values) ∙ length-over (valuesIn i f) out (omega (arith, t .upto, lists-fit p (length out) (length num) fit, values-length two i))
 
-    pub filled-numbers : {i : ℕ} {now : List ℤ} {nums : List ℕ} → Filled f n out num i now nums → length nums ≡ length num
-    filled-numbers {i} t = ap length (t .numbers) ∙ length-over (numbersIn i f) num (omega (arith, t .upto, slots, numbers-length i))
+    pub filled-numbers : {i : ℕ} {now : List ℤ} {nums : List ℕ} → Filled f (pairs p) out num i now nums → length nums ≡ length num
+    filled-numbers {i} t = ap length (t .numbers) ∙ length-over (numbersIn i f) num (omega (arith, t .upto, lists-fit p (length out) (length num) fit, numbers-length i))
+
+    -- room for one pair more
+    pub filled-room : {i : ℕ} {now : List ℤ} {nums : List ℕ} → Filled f (pairs p) out num i now nums → i < pairs p → (2 * i + 1 < length now) × (i < length nums)
+    filled-room t h = (omega (arith, filled-length t, lists-fit p (length out) (length num) fit), omega (arith, filled-numbers t, lists-fit p (length out) (length num) fit))
 
     -- the pair as the machine holds it
-    pub filled-next : {i : ℕ} {now : List ℤ} {nums : List ℕ} → Filled f n out num i now nums → i < n → (x y : ℤ) (z : ℕ) → SFits w64 x → SFits w64 y
+    pub filled-next : {i : ℕ} {now : List ℤ} {nums : List ℕ} → Filled f (pairs p) out num i now nums → i < pairs p → (x y : ℤ) (z : ℕ) → SFits w64 x → SFits w64 y
         → f i .values ≡ x ∷ y ∷ [] → f i .number ≡ z
-        → Filled f n out num (i + 1) (set (set now (2 * i) (toZ w64 (ofZ w64 x))) (2 * i + 1) (toZ w64 (ofZ w64 y))) (set nums i z)
+        → Filled f (pairs p) out num (i + 1) (set (set now (2 * i) (toZ w64 (ofZ w64 x))) (2 * i + 1) (toZ w64 (ofZ w64 y))) (set nums i z)
     filled-next {i} {now} t h x y z fx fy ev en =
         let vs : List ℤ = valuesIn i f in
         let first : set (over vs out) (2 * i) x ≡ over (vs ++ x ∷ []) out =
-        over-next vs out (2 * i) x (pos 0) (omega (arith, values-length two i)) (omega (arith, room)) in
+        over-next vs out (2 * i) x (pos 0) (omega (arith, values-length two i)) (omega (arith, lists-fit p (length out) (length num) fit)) in
         let second : set (over (vs ++ x ∷ []) out) (2 * i + 1) y ≡ over ((vs ++ x ∷ []) ++ y ∷ []) out =
-        over-next (vs ++ x ∷ []) out (2 * i + 1) y (pos 0) (omega (arith, values-length two i, length-append vs (x ∷ []))) (omega (arith, room)) in
+        over-next (vs ++ x ∷ []) out (2 * i + 1) y (pos 0) (omega (arith, values-length two i, length-append vs (x ∷ []))) (omega (arith, lists-fit p (length out) (length num) fit)) in
         record {
           upto = omega arith;
           values =
@@ -78,14 +87,9 @@ module _ (f : ℕ → Report) where
             ∙ ap (λ (s : List ℤ). over s out) (append-assoc vs (x ∷ []) (y ∷ []) ∙ ap (λ (s : List ℤ). vs ++ s) (sym ev) ∙ ap (λ (k : ℕ). valuesIn k f) (sym (add-one i)));
           numbers =
             ap (λ (s : List ℕ). set s i z) (t .numbers)
-            ∙ over-next (numbersIn i f) num i z 0 (omega (arith, numbers-length i)) (omega (arith, slots))
+            ∙ over-next (numbersIn i f) num i z 0 (omega (arith, numbers-length i)) (omega (arith, lists-fit p (length out) (length num) fit))
             ∙ ap (λ (s : List ℕ). over s num) (ap (λ (k : ℕ). numbersIn i f ++ k ∷ []) (sym en) ∙ ap (λ (k : ℕ). numbersIn k f) (sym (add-one i)));
         }
-
--- ---- the lengths fit
-pub lists-fit : (p o n : ℕ) → listsFit p o n ≡ true → (p ≤ o) × (pairs p ≤ n)
-lists-fit p o n e =
-    let t = both (eqb (p % 2) 0 && leb p o) (leb (pairs p) n) e in (leb-true p o (both (eqb (p % 2) 0) (leb p o) (t .0) .1), leb-true (pairs p) n (t .1))
 
 -- ---- two value parts, in a refusal too
 pub position-values : (a : PositionAnswer) → length (positionReport a .values) ≡ 2

@@ -3,8 +3,9 @@
 --     pairs p                the pairs in a list of length p
 --     listsFit p o n         the length p handed in is even, the list to fill, of length o, is no shorter, and there is a number for each pair
 --     listsVerdict p o n     6 where they do not fit
---     positionAt k ps i      the report of pixel i of the list: its row stands at 2i, its column at 2i + 1
---     pixelOfEach k qs i     the report of position i of the list: its latitude stands at 2i, its longitude at 2i + 1
+--     pairAt ps i            pair i of a list: its first number stands at 2i, its second at 2i + 1
+--     positionAt k ps i      the report of pixel i of the list, a pair of row and column
+--     pixelOfEach k qs i     the report of position i of the list, a pair of latitude and longitude
 --     valuesIn, numbersIn    the value parts, and the numbers, of the first n reports
 --     over xs out            xs, and then what out has past it
 --     valuesLeft, numbersLeft    what the list to fill and the numbers hold at the end
@@ -17,6 +18,7 @@ use lib.IntN.{ℤ, pos}
 use Rattle.arc.specs.declared.Verdict.{Verdict}
 use Rattle.arc.specs.Refusals.{refusal, Report}
 use Rattle.card.specs.declared.Card.{Card}
+use Rattle.lists.specs.declared.Pair.{Pair}
 use Rattle.card.specs.Grid.{positionOf, pixelOf, positionReport, pixelReport}
 
 abbrev pub each : {A : Type 0} → ℕ → (ℕ → List A) → List A
@@ -32,11 +34,14 @@ listsFit p o n = eqb (p % 2) 0 && leb p o && leb (pairs p) n
 abbrev pub listsVerdict : ℕ → ℕ → ℕ → Verdict
 listsVerdict p o n = cond (listsFit p o n) Verdict.Accepted (Verdict.Refused (refusal 6))
 
+abbrev pub pairAt : List ℤ → ℕ → Pair
+pairAt ps i = record { first = getD ps (2 * i) (pos 0); second = getD ps (2 * i + 1) (pos 0) }
+
 abbrev pub positionAt : Card → List ℤ → ℕ → Report
-positionAt k ps i = positionReport (positionOf k (getD ps (2 * i) (pos 0)) (getD ps (2 * i + 1) (pos 0)))
+positionAt k ps i = positionReport (positionOf k (pairAt ps i .first) (pairAt ps i .second))
 
 abbrev pub pixelOfEach : Card → List ℤ → ℕ → Report
-pixelOfEach k qs i = pixelReport (pixelOf k (getD qs (2 * i) (pos 0)) (getD qs (2 * i + 1) (pos 0)))
+pixelOfEach k qs i = pixelReport (pixelOf k (pairAt qs i .first) (pairAt qs i .second))
 
 abbrev pub valuesIn : ℕ → (ℕ → Report) → List ℤ
 valuesIn n f = each n (λ i. f i .values)

@@ -3,11 +3,12 @@ use arc::Verdict;
 use card::Card;
 use engine::Engine;
 ghost use mathlib.Core.Path.{_≡_};
-ghost use Prim.Native.Nat.{_≤_};
-ghost use lib.ListN.{length};
+ghost use mathlib.Core.Bool.{true};
+ghost use Prim.Native.Nat.{_+_, _*_, _<_};
+ghost use lib.ListN.{length, set};
 ghost use Rattle.card.specs.Read.{Known};
 ghost use Rattle.lists.specs.Engine.{Made};
-ghost use Rattle.lists.specs.Lists.{listsFit, listsVerdict, pairs, positionAt, pixelOfEach, valuesIn, numbersIn, over, valuesLeft, numbersLeft};
+ghost use Rattle.lists.specs.Lists.{listsFit, listsVerdict, pairs, pairAt, positionAt, pixelOfEach, valuesIn, numbersIn, over, valuesLeft, numbersLeft};
 
 mod engine;
 
@@ -18,40 +19,61 @@ fn lists_fit(handed: usize, fill: usize, numbers: usize) -> bool
     (handed % 2 == 0) & (handed <= fill) & (handed / 2 <= numbers)
 }
 
+// A row and a column, or a latitude and a longitude.
+struct Pair {
+    first: i64,
+    second: i64,
+}
+
+// Pair i of a list.
+fn pair_at(list: &[i64], i: usize) -> Pair
+    requires { ⌜ 2 * i + 1 < length (now list) ⌝ }
+    ensures { λ r. ⌜ r ≡ pairAt (now (list .entry)) i ⌝ }
+{
+    let first = list[2 * i];
+    let second = list[2 * i + 1];
+    Pair { first, second }
+}
+
+// Pair i of a list, and number i.
+fn put_pair(list: &mut [i64], numbers: &mut [u32], i: usize, first: i64, second: i64, number: u32)
+    requires { ⌜ 2 * i + 1 < length (now list) ⌝ ∗ ⌜ i < length (now numbers) ⌝ }
+    ensures pair { λ _. ⌜ now (list .exit) ≡ set (set (now (list .entry)) (2 * i) first) (2 * i + 1) second ⌝ }
+    ensures number { λ _. ⌜ now (numbers .exit) ≡ set (now (numbers .entry)) i number ⌝ }
+{
+    list[2 * i] = first;
+    list[2 * i + 1] = second;
+    numbers[i] = number;
+}
+
 // The position of each pixel.
 fn fill_positions(e: Engine, pixels: &[i64], positions: &mut [i64], numbers: &mut [u32])
-    requires { ⌜ Made e ⌝ ∗ ⌜ length (now pixels) ≤ length (now positions) ⌝ ∗ ⌜ pairs (length (now pixels)) ≤ length (now numbers) ⌝ }
+    requires { ⌜ Made e ⌝ ∗ ⌜ listsFit (length (now pixels)) (length (now positions)) (length (now numbers)) ≡ true ⌝ }
     ensures positions { λ _. ⌜ now (positions .exit) ≡ over (valuesIn (pairs (length (now (pixels .entry)))) (positionAt (e .card) (now (pixels .entry)))) (now (positions .entry)) ⌝ }
     ensures numbers { λ _. ⌜ now (numbers .exit) ≡ over (numbersIn (pairs (length (now (pixels .entry)))) (positionAt (e .card) (now (pixels .entry)))) (now (numbers .entry)) ⌝ }
 {
     let n = pixels.len() / 2;
     let mut i = 0;
     while i < n {
-        let p = e.position(pixels[2 * i], pixels[2 * i + 1]).into_parts();
-        let lat = p.lat;
-        let lon = p.lon;
-        positions[2 * i] = lat;
-        positions[2 * i + 1] = lon;
-        numbers[i] = p.number;
+        let x = pair_at(pixels, i);
+        let p = e.position(x.first, x.second).into_parts();
+        put_pair(positions, numbers, i, p.lat, p.lon, p.number);
         i += 1;
     }
 }
 
 // The pixel at each position.
 fn fill_pixels(e: Engine, positions: &[i64], pixels: &mut [i64], numbers: &mut [u32])
-    requires { ⌜ Made e ⌝ ∗ ⌜ length (now positions) ≤ length (now pixels) ⌝ ∗ ⌜ pairs (length (now positions)) ≤ length (now numbers) ⌝ }
+    requires { ⌜ Made e ⌝ ∗ ⌜ listsFit (length (now positions)) (length (now pixels)) (length (now numbers)) ≡ true ⌝ }
     ensures pixels { λ _. ⌜ now (pixels .exit) ≡ over (valuesIn (pairs (length (now (positions .entry)))) (pixelOfEach (e .card) (now (positions .entry)))) (now (pixels .entry)) ⌝ }
     ensures numbers { λ _. ⌜ now (numbers .exit) ≡ over (numbersIn (pairs (length (now (positions .entry)))) (pixelOfEach (e .card) (now (positions .entry)))) (now (numbers .entry)) ⌝ }
 {
     let n = positions.len() / 2;
     let mut i = 0;
     while i < n {
-        let p = e.pixel(positions[2 * i], positions[2 * i + 1]).into_parts();
-        let row = p.row;
-        let column = p.column;
-        pixels[2 * i] = row;
-        pixels[2 * i + 1] = column;
-        numbers[i] = p.number;
+        let x = pair_at(positions, i);
+        let p = e.pixel(x.first, x.second).into_parts();
+        put_pair(pixels, numbers, i, p.row, p.column, p.number);
         i += 1;
     }
 }

@@ -1,16 +1,15 @@
 -- After i turns the first i pairs and numbers are the reports of the first i positions. Assumes nothing.
 use mathlib.Core.Path.{_≡_, refl, sym, ap, ap₂, _∙_}
-use Prim.Native.Nat.{ℕ, _+_, _-_, _*_, _/_, _≤_}
+use Prim.Native.Nat.{ℕ, _-_, _/_}
 use native.Mathlib.Omega.{arith}
-use lib.IntN.{pos}
-use lib.ListN.{length, getD, length-set}
+use lib.ListN.{length}
 use mir.Syntax.{w64}
-use mir.Val.{toZ, ofZ}
 use mir.ValLaws.{toZ-ofZ}
 use Rattle.arc.specs.Refusals.{Report}
 use Rattle.card.specs.Grid.{pixelOf, pixelReport, pixelTold}
-use Rattle.lists.specs.Lists.{pixelOfEach}
-use Rattle.lists.proofs.Filling.{Filled, filled-length, filled-numbers, filled-next, pixel-values}
+use Rattle.lists.specs.declared.Pair.{Pair}
+use Rattle.lists.specs.Lists.{pairAt, pixelOfEach}
+use Rattle.lists.proofs.Filling.{Filled, filled-length, filled-numbers, filled-room, filled-next, pixel-values}
 use Rattle.lists.proofs.fill_pixels.Statement.{statement}
 use Rattle.lists.proofs.fill_pixels.Tie as tie
 
@@ -20,114 +19,65 @@ Inv-loop e positions pixels₀ numbers₀ n i₀ pixels numbers i = Filled (pixe
 abbrev μ-loop : tie.MeasureT-loop
 μ-loop e positions pixels₀ numbers₀ n i₀ pixels numbers i = n - i
 
--- the reports of the positions handed in: two value parts each
+-- the reports of the positions handed in, and their value parts
 abbrev reports : tie.Start Inv-loop μ-loop → ℕ → Report
 reports s = pixelOfEach (s .args .e .card) (s .args .positions .now)
 
 two : (s : tie.Start Inv-loop μ-loop) (i : ℕ) → length (reports s i .values) ≡ 2
-two s i = pixel-values (pixelOf (s .args .e .card) (getD (s .args .positions .now) (2 * i) (pos 0)) (getD (s .args .positions .now) (2 * i + 1) (pos 0)))
-
-room : (s : tie.Start Inv-loop μ-loop) → 2 * (length (s .args .positions .now) / 2) ≤ length (s .args .pixels .now)
-room s = omega (arith, s .pre .1 .0)
-
-length-now : (c : tie.At-loop Inv-loop μ-loop) → length (c .loop .pixels) ≡ length (c .before .before .args .pixels .now)
-length-now c = let s = c .before .before in filled-length (reports s) (two s) (room s) (s .pre .1 .1) (c .loop .inv)
-
-numbers-now : (c : tie.At-loop Inv-loop μ-loop) → length (c .loop .numbers) ≡ length (c .before .before .args .numbers .now)
-numbers-now c = let s = c .before .before in filled-numbers (reports s) (two s) (room s) (s .pre .1 .1) (c .loop .inv)
+two s i = pixel-values (pixelOf (s .args .e .card) (pairAt (s .args .positions .now) i .first) (pairAt (s .args .positions .now) i .second))
 
 loop-holds : tie.Need-loop-holds Inv-loop μ-loop
 loop-holds c = record { upto = omega arith; values = refl; numbers = refl }
 
-mul-pixel : tie.Need-mul-pixel Inv-loop μ-loop
-mul-pixel c = omega arith
-
-mul-pixel-2 : tie.Need-mul-pixel-2 Inv-loop μ-loop
-mul-pixel-2 c = omega arith
-
-shared-slice-copy-out-pixel : tie.Need-shared-slice-copy-out-pixel Inv-loop μ-loop
-shared-slice-copy-out-pixel c = omega (arith, c .loop-test .taken)
-
-mul-pixel-3 : tie.Need-mul-pixel-3 Inv-loop μ-loop
-mul-pixel-3 c = omega arith
-
-add-pixel : tie.Need-add-pixel Inv-loop μ-loop
-add-pixel c = omega arith
-
-mul-pixel-4 : tie.Need-mul-pixel-4 Inv-loop μ-loop
-mul-pixel-4 c = omega arith
-
-shared-slice-copy-out-pixel-2 : tie.Need-shared-slice-copy-out-pixel-2 Inv-loop μ-loop
-shared-slice-copy-out-pixel-2 c = omega (arith, c .before .loop-test .taken)
+pair-at-requires : tie.Need-pair-at-requires Inv-loop μ-loop
+pair-at-requires c κs = omega (arith, c .loop-test .taken)
 
 pixel-requires : tie.Need-pixel-requires Inv-loop μ-loop
-pixel-requires c κs = c .before .before .before .before .before .pre .0
+pixel-requires c κs = c .before .before .before .before .before .before .pre .0
 
 into-parts-requires : tie.Need-into-parts-requires Inv-loop μ-loop
 into-parts-requires c κs = tt
 
-mul-row : tie.Need-mul-row Inv-loop μ-loop
-mul-row c = omega arith
-
-mul-row-2 : tie.Need-mul-row-2 Inv-loop μ-loop
-mul-row-2 c = omega arith
-
-slice-set-from-row : tie.Need-slice-set-from-row Inv-loop μ-loop
-slice-set-from-row c =
-    let s = c .before .before .before .before .before .before .before .before .before in
-    omega (arith, c .before .before .before .before .before .before .loop-test .taken, room s, length-now (c .before .before .before .before .before .before .before))
-
-mul-column : tie.Need-mul-column Inv-loop μ-loop
-mul-column c = omega arith
-
-add-column : tie.Need-add-column Inv-loop μ-loop
-add-column c = omega arith
-
-mul-column-2 : tie.Need-mul-column-2 Inv-loop μ-loop
-mul-column-2 c = omega arith
-
-slice-set-from-column : tie.Need-slice-set-from-column Inv-loop μ-loop
-slice-set-from-column c =
-    let s = c .before .before .before .before .before .before .before .before .before in
-    let l = c .before .before .before .before .before .before .before .loop in
-    rw (length-set (l .pixels) (2 * l .i) (toZ w64 (ofZ w64 (c .before .before .into-parts .result .row))))
-    (omega (arith, c .before .before .before .before .before .before .loop-test .taken, room s, length-now (c .before .before .before .before .before .before .before)))
-
-mul-numbers : tie.Need-mul-numbers Inv-loop μ-loop
-mul-numbers c = omega arith
-
-slice-write-numbers : tie.Need-slice-write-numbers Inv-loop μ-loop
-slice-write-numbers c =
-    let s = c .before .before .before .before .before .before .before .before .before in
-    omega (arith, c .before .before .before .before .before .before .loop-test .taken, s .pre .1 .1, numbers-now (c .before .before .before .before .before .before .before))
+put-pair-requires : tie.Need-put-pair-requires Inv-loop μ-loop
+put-pair-requires c κs =
+    let l = c .before .before .before .before .before .before .before .before .before .before in
+    let s = l .before .before in
+    filled-room (reports s) (two s) (length (s .args .positions .now)) (s .pre .1) (l .loop .inv)
+    (omega (arith, c .before .before .before .before .before .before .before .before .before .loop-test .taken))
 
 add-i : tie.Need-add-i Inv-loop μ-loop
-add-i c = omega arith
+add-i c = omega (arith, c .before .before .before .before .before .before .before .before .before .before .before .before .before .loop-test .taken, c .before .before .before .before .before .before .before .before .before .before .before .before .before .before .before .before .good)
 
 loop-less : tie.Need-loop-less Inv-loop μ-loop
-loop-less c = omega arith
+loop-less c = omega (arith, c .before .before .before .before .before .before .before .before .before .before .before .before .before .loop-test .taken)
 
 loop-again : tie.Need-loop-again Inv-loop μ-loop
 loop-again c =
-    let s = c .before .before .before .before .before .before .before .before .before in
-    let l = c .before .before .before .before .before .before .before .loop in
-    let p = c .before .before .into-parts .result in
-    let ps = s .args .positions .now in
-    let asked : c .before .before .before .pixel .result ≡ pixelOf (s .args .e .card) (getD ps (2 * l .i) (pos 0)) (getD ps (2 * l .i + 1) (pos 0)) =
-    c .before .before .before .pixel .ensures
+    let d = c .before .before .before .before .before .before .before .before in
+    let l = d .before .before .before .before .before .before in
+    let s = l .before .before in
+    let x = d .before .before .before .before .pair-at .result in
+    let p = d .into-parts .result in
+    let asked : d .before .pixel .result ≡ pixelOf (s .args .e .card) (x .first) (x .second) =
+    d .before .pixel .ensures
     ∙ ap₂ (pixelOf (s .args .e .card))
-    (toZ-ofZ w64 (getD ps (2 * l .i) (pos 0)) (record { sfits = c .before .before .before .before .before .pixel-arg .given }))
-    (toZ-ofZ w64 (getD ps (2 * l .i + 1) (pos 0)) (record { sfits = c .before .before .before .before .pixel-arg2 .given })) in
-    let told : pixelTold p ≡ reports s (l .i) = c .before .before .into-parts .ensures ∙ ap pixelReport asked in
-    filled-next (reports s) (two s) (room s) (s .pre .1 .1) (l .inv) (omega (arith, c .before .before .before .before .before .before .loop-test .taken))
-    (p .row) (p .column) (p .number) (record { sfits = c .before .struct-told .given .1 .1 .0 .1 }) (record { sfits = c .struct-told2 .given .1 .1 .1 .0 .1 })
-    (sym (ap (λ (r : Report). r .values) told)) (sym (ap (λ (r : Report). r .number) told))
+    (toZ-ofZ w64 (x .first) (record { sfits = d .before .before .before .struct-told .given .0 .1 }))
+    (toZ-ofZ w64 (x .second) (record { sfits = d .before .before .struct-told2 .given .1 .0 .1 })) in
+    let told : pixelTold p ≡ reports s (l .loop .i) =
+    d .into-parts .ensures
+    ∙ ap pixelReport (asked ∙ ap (λ (y : Pair). pixelOf (s .args .e .card) (y .first) (y .second)) (d .before .before .before .before .pair-at .ensures)) in
+    rw (c .before .before .before .put-pair .ensures .0, c .before .before .before .put-pair .ensures .1)
+    (filled-next (reports s) (two s) (length (s .args .positions .now)) (s .pre .1) (l .loop .inv) (omega (arith, d .before .before .before .before .before .loop-test .taken))
+    (p .row) (p .column) (p .number)
+    (record { sfits = c .before .before .before .before .before .struct-told3 .given .1 .1 .0 .1 })
+    (record { sfits = c .before .before .before .before .struct-told4 .given .1 .1 .1 .0 .1 })
+    (sym (ap (λ (r : Report). r .values) told)) (sym (ap (λ (r : Report). r .number) told)))
 
 same-length : tie.Need-same-length Inv-loop μ-loop
-same-length c = length-now (c .before)
+same-length c = let s = c .before .before .before in filled-length (reports s) (two s) (length (s .args .positions .now)) (s .pre .1) (c .before .loop .inv)
 
 same-length-2 : tie.Need-same-length-2 Inv-loop μ-loop
-same-length-2 c = numbers-now (c .before)
+same-length-2 c = let s = c .before .before .before in filled-numbers (reports s) (two s) (length (s .args .positions .now)) (s .pre .1) (c .before .loop .inv)
 
 returns : tie.Need-returns Inv-loop μ-loop
 returns c =
@@ -142,24 +92,10 @@ fill-pixels-spec =
     Inv-loop
     μ-loop
     loop-holds
-    mul-pixel
-    mul-pixel-2
-    shared-slice-copy-out-pixel
-    mul-pixel-3
-    add-pixel
-    mul-pixel-4
-    shared-slice-copy-out-pixel-2
+    pair-at-requires
     pixel-requires
     into-parts-requires
-    mul-row
-    mul-row-2
-    slice-set-from-row
-    mul-column
-    add-column
-    mul-column-2
-    slice-set-from-column
-    mul-numbers
-    slice-write-numbers
+    put-pair-requires
     add-i
     loop-less
     loop-again

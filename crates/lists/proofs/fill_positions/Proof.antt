@@ -1,16 +1,15 @@
 -- After i turns the first i pairs and numbers are the reports of the first i pixels. Assumes nothing.
 use mathlib.Core.Path.{_≡_, refl, sym, ap, ap₂, _∙_}
-use Prim.Native.Nat.{ℕ, _+_, _-_, _*_, _/_, _≤_}
+use Prim.Native.Nat.{ℕ, _-_, _/_}
 use native.Mathlib.Omega.{arith}
-use lib.IntN.{pos}
-use lib.ListN.{length, getD, length-set}
+use lib.ListN.{length}
 use mir.Syntax.{w64}
-use mir.Val.{toZ, ofZ}
 use mir.ValLaws.{toZ-ofZ}
 use Rattle.arc.specs.Refusals.{Report}
 use Rattle.card.specs.Grid.{positionOf, positionReport, positionTold}
-use Rattle.lists.specs.Lists.{positionAt}
-use Rattle.lists.proofs.Filling.{Filled, filled-length, filled-numbers, filled-next, position-values}
+use Rattle.lists.specs.declared.Pair.{Pair}
+use Rattle.lists.specs.Lists.{pairAt, positionAt}
+use Rattle.lists.proofs.Filling.{Filled, filled-length, filled-numbers, filled-room, filled-next, position-values}
 use Rattle.lists.proofs.fill_positions.Statement.{statement}
 use Rattle.lists.proofs.fill_positions.Tie as tie
 
@@ -20,114 +19,65 @@ Inv-loop e pixels positions₀ numbers₀ n i₀ positions numbers i = Filled (p
 abbrev μ-loop : tie.MeasureT-loop
 μ-loop e pixels positions₀ numbers₀ n i₀ positions numbers i = n - i
 
--- the reports of the pixels handed in: two value parts each
+-- the reports of the pixels handed in, and their value parts
 abbrev reports : tie.Start Inv-loop μ-loop → ℕ → Report
 reports s = positionAt (s .args .e .card) (s .args .pixels .now)
 
 two : (s : tie.Start Inv-loop μ-loop) (i : ℕ) → length (reports s i .values) ≡ 2
-two s i = position-values (positionOf (s .args .e .card) (getD (s .args .pixels .now) (2 * i) (pos 0)) (getD (s .args .pixels .now) (2 * i + 1) (pos 0)))
-
-room : (s : tie.Start Inv-loop μ-loop) → 2 * (length (s .args .pixels .now) / 2) ≤ length (s .args .positions .now)
-room s = omega (arith, s .pre .1 .0)
-
-length-now : (c : tie.At-loop Inv-loop μ-loop) → length (c .loop .positions) ≡ length (c .before .before .args .positions .now)
-length-now c = let s = c .before .before in filled-length (reports s) (two s) (room s) (s .pre .1 .1) (c .loop .inv)
-
-numbers-now : (c : tie.At-loop Inv-loop μ-loop) → length (c .loop .numbers) ≡ length (c .before .before .args .numbers .now)
-numbers-now c = let s = c .before .before in filled-numbers (reports s) (two s) (room s) (s .pre .1 .1) (c .loop .inv)
+two s i = position-values (positionOf (s .args .e .card) (pairAt (s .args .pixels .now) i .first) (pairAt (s .args .pixels .now) i .second))
 
 loop-holds : tie.Need-loop-holds Inv-loop μ-loop
 loop-holds c = record { upto = omega arith; values = refl; numbers = refl }
 
-mul-position : tie.Need-mul-position Inv-loop μ-loop
-mul-position c = omega arith
-
-mul-position-2 : tie.Need-mul-position-2 Inv-loop μ-loop
-mul-position-2 c = omega arith
-
-shared-slice-copy-out-position : tie.Need-shared-slice-copy-out-position Inv-loop μ-loop
-shared-slice-copy-out-position c = omega (arith, c .loop-test .taken)
-
-mul-position-3 : tie.Need-mul-position-3 Inv-loop μ-loop
-mul-position-3 c = omega arith
-
-add-position : tie.Need-add-position Inv-loop μ-loop
-add-position c = omega arith
-
-mul-position-4 : tie.Need-mul-position-4 Inv-loop μ-loop
-mul-position-4 c = omega arith
-
-shared-slice-copy-out-position-2 : tie.Need-shared-slice-copy-out-position-2 Inv-loop μ-loop
-shared-slice-copy-out-position-2 c = omega (arith, c .before .loop-test .taken)
+pair-at-requires : tie.Need-pair-at-requires Inv-loop μ-loop
+pair-at-requires c κs = omega (arith, c .loop-test .taken)
 
 position-requires : tie.Need-position-requires Inv-loop μ-loop
-position-requires c κs = c .before .before .before .before .before .pre .0
+position-requires c κs = c .before .before .before .before .before .before .pre .0
 
 into-parts-requires : tie.Need-into-parts-requires Inv-loop μ-loop
 into-parts-requires c κs = tt
 
-mul-lat : tie.Need-mul-lat Inv-loop μ-loop
-mul-lat c = omega arith
-
-mul-lat-2 : tie.Need-mul-lat-2 Inv-loop μ-loop
-mul-lat-2 c = omega arith
-
-slice-set-from-lat : tie.Need-slice-set-from-lat Inv-loop μ-loop
-slice-set-from-lat c =
-    let s = c .before .before .before .before .before .before .before .before .before in
-    omega (arith, c .before .before .before .before .before .before .loop-test .taken, room s, length-now (c .before .before .before .before .before .before .before))
-
-mul-lon : tie.Need-mul-lon Inv-loop μ-loop
-mul-lon c = omega arith
-
-add-lon : tie.Need-add-lon Inv-loop μ-loop
-add-lon c = omega arith
-
-mul-lon-2 : tie.Need-mul-lon-2 Inv-loop μ-loop
-mul-lon-2 c = omega arith
-
-slice-set-from-lon : tie.Need-slice-set-from-lon Inv-loop μ-loop
-slice-set-from-lon c =
-    let s = c .before .before .before .before .before .before .before .before .before in
-    let l = c .before .before .before .before .before .before .before .loop in
-    rw (length-set (l .positions) (2 * l .i) (toZ w64 (ofZ w64 (c .before .before .into-parts .result .lat))))
-    (omega (arith, c .before .before .before .before .before .before .loop-test .taken, room s, length-now (c .before .before .before .before .before .before .before)))
-
-mul-numbers : tie.Need-mul-numbers Inv-loop μ-loop
-mul-numbers c = omega arith
-
-slice-write-numbers : tie.Need-slice-write-numbers Inv-loop μ-loop
-slice-write-numbers c =
-    let s = c .before .before .before .before .before .before .before .before .before in
-    omega (arith, c .before .before .before .before .before .before .loop-test .taken, s .pre .1 .1, numbers-now (c .before .before .before .before .before .before .before))
+put-pair-requires : tie.Need-put-pair-requires Inv-loop μ-loop
+put-pair-requires c κs =
+    let l = c .before .before .before .before .before .before .before .before .before .before in
+    let s = l .before .before in
+    filled-room (reports s) (two s) (length (s .args .pixels .now)) (s .pre .1) (l .loop .inv)
+    (omega (arith, c .before .before .before .before .before .before .before .before .before .loop-test .taken))
 
 add-i : tie.Need-add-i Inv-loop μ-loop
-add-i c = omega arith
+add-i c = omega (arith, c .before .before .before .before .before .before .before .before .before .before .before .before .before .loop-test .taken, c .before .before .before .before .before .before .before .before .before .before .before .before .before .before .before .before .good)
 
 loop-less : tie.Need-loop-less Inv-loop μ-loop
-loop-less c = omega arith
+loop-less c = omega (arith, c .before .before .before .before .before .before .before .before .before .before .before .before .before .loop-test .taken)
 
 loop-again : tie.Need-loop-again Inv-loop μ-loop
 loop-again c =
-    let s = c .before .before .before .before .before .before .before .before .before in
-    let l = c .before .before .before .before .before .before .before .loop in
-    let p = c .before .before .into-parts .result in
-    let ps = s .args .pixels .now in
-    let asked : c .before .before .before .position .result ≡ positionOf (s .args .e .card) (getD ps (2 * l .i) (pos 0)) (getD ps (2 * l .i + 1) (pos 0)) =
-    c .before .before .before .position .ensures
+    let d = c .before .before .before .before .before .before .before .before in
+    let l = d .before .before .before .before .before .before in
+    let s = l .before .before in
+    let x = d .before .before .before .before .pair-at .result in
+    let p = d .into-parts .result in
+    let asked : d .before .position .result ≡ positionOf (s .args .e .card) (x .first) (x .second) =
+    d .before .position .ensures
     ∙ ap₂ (positionOf (s .args .e .card))
-    (toZ-ofZ w64 (getD ps (2 * l .i) (pos 0)) (record { sfits = c .before .before .before .before .before .position-arg .given }))
-    (toZ-ofZ w64 (getD ps (2 * l .i + 1) (pos 0)) (record { sfits = c .before .before .before .before .position-arg2 .given })) in
-    let told : positionTold p ≡ reports s (l .i) = c .before .before .into-parts .ensures ∙ ap positionReport asked in
-    filled-next (reports s) (two s) (room s) (s .pre .1 .1) (l .inv) (omega (arith, c .before .before .before .before .before .before .loop-test .taken))
-    (p .lat) (p .lon) (p .number) (record { sfits = c .before .struct-told .given .1 .1 .0 .1 }) (record { sfits = c .struct-told2 .given .1 .1 .1 .0 .1 })
-    (sym (ap (λ (r : Report). r .values) told)) (sym (ap (λ (r : Report). r .number) told))
+    (toZ-ofZ w64 (x .first) (record { sfits = d .before .before .before .struct-told .given .0 .1 }))
+    (toZ-ofZ w64 (x .second) (record { sfits = d .before .before .struct-told2 .given .1 .0 .1 })) in
+    let told : positionTold p ≡ reports s (l .loop .i) =
+    d .into-parts .ensures
+    ∙ ap positionReport (asked ∙ ap (λ (y : Pair). positionOf (s .args .e .card) (y .first) (y .second)) (d .before .before .before .before .pair-at .ensures)) in
+    rw (c .before .before .before .put-pair .ensures .0, c .before .before .before .put-pair .ensures .1)
+    (filled-next (reports s) (two s) (length (s .args .pixels .now)) (s .pre .1) (l .loop .inv) (omega (arith, d .before .before .before .before .before .loop-test .taken))
+    (p .lat) (p .lon) (p .number)
+    (record { sfits = c .before .before .before .before .before .struct-told3 .given .1 .1 .0 .1 })
+    (record { sfits = c .before .before .before .before .struct-told4 .given .1 .1 .1 .0 .1 })
+    (sym (ap (λ (r : Report). r .values) told)) (sym (ap (λ (r : Report). r .number) told)))
 
 same-length : tie.Need-same-length Inv-loop μ-loop
-same-length c = length-now (c .before)
+same-length c = let s = c .before .before .before in filled-length (reports s) (two s) (length (s .args .pixels .now)) (s .pre .1) (c .before .loop .inv)
 
 same-length-2 : tie.Need-same-length-2 Inv-loop μ-loop
-same-length-2 c = numbers-now (c .before)
+same-length-2 c = let s = c .before .before .before in filled-numbers (reports s) (two s) (length (s .args .pixels .now)) (s .pre .1) (c .before .loop .inv)
 
 returns : tie.Need-returns Inv-loop μ-loop
 returns c =
@@ -142,24 +92,10 @@ fill-positions-spec =
     Inv-loop
     μ-loop
     loop-holds
-    mul-position
-    mul-position-2
-    shared-slice-copy-out-position
-    mul-position-3
-    add-position
-    mul-position-4
-    shared-slice-copy-out-position-2
+    pair-at-requires
     position-requires
     into-parts-requires
-    mul-lat
-    mul-lat-2
-    slice-set-from-lat
-    mul-lon
-    add-lon
-    mul-lon-2
-    slice-set-from-lon
-    mul-numbers
-    slice-write-numbers
+    put-pair-requires
     add-i
     loop-less
     loop-again

@@ -1,11 +1,8 @@
 -- Lists that do not fit are refused as they are; else the loop fills them from the card's own engine. Assumes nothing.
-use mathlib.Core.Path.{_≡_, refl, sym, ap, _∙_}
-use mathlib.Core.Bool.{true}
+use mathlib.Core.Path.{refl, sym, ap, _∙_}
 use borrow.Author.Tests.{not-true, not-false}
-use lib.ListN.{length}
 use Rattle.arc.specs.declared.Verdict.{Verdict}
 use Rattle.lists.proofs.Engines.{engine-card, engine-made}
-use Rattle.lists.proofs.Filling.{lists-fit}
 use borrow.Author.Needs.{needs}
 use Rattle.lists.proofs.positions.Statement.{statement}
 use Rattle.lists.proofs.positions.Tie as tie
@@ -26,10 +23,8 @@ engine-of-requires c κs = search needs
 
 fill-positions-requires : tie.Need-fill-positions-requires
 fill-positions-requires c κs =
-    let s = c .before .before .before .before .before .before in
-    let f = lists-fit (length (s .args .pixels .now)) (length (s .args .positions .now)) (length (s .args .numbers .now))
-    (sym (c .before .before .before .before .lists-fit .ensures) ∙ not-false _ (c .before .before .before .if1 .left)) in
-    (engine-made (s .pre) (c .before .before .engine-of .ensures), f)
+    (engine-made (c .before .before .before .before .before .before .pre) (c .before .before .engine-of .ensures),
+    sym (c .before .before .before .before .lists-fit .ensures) ∙ not-false _ (c .before .before .before .if1 .left))
 
 same-length : tie.Need-same-length
 same-length c = search needs
