@@ -1,18 +1,20 @@
 -- The values that the code keeps are those of the definitions: a number, an angle counted from its limit, a flag. Assumes nothing.
-use mathlib.Core.Path.{_≡_, refl}
+use mathlib.Core.Path.{_≡_, refl, _∙_}
 use mathlib.Core.Bool.{Bool, true, false, cond, not, _&&_}
 use mathlib.Core.List.{List}
-use Prim.Native.Nat.{ℕ, _*_, _-_, _≤_}
+use Prim.Native.Nat.{ℕ, _+_, _*_, _-_, _≤_}
 use native.Mathlib.Omega.{arith}
 use borrow.Author.Tests.{leb-true}
 use lib.Dec.{leb, ltb, eqb}
+use lib.ListN.{getD}
 use lib.IntN.{pos, negℤ}
 use Rattle.arc.specs.declared.Verdict.{Verdict}
 use Rattle.whole.proofs.Signed.{Is, is-same, is-nat, is-neg}
-use Rattle.card.specs.Text.{minus, minutes, seconds, angleSize, angleOf, angleValid}
+use Rattle.card.specs.Text.{part, isDigit, all, isSign, minus, angleLaid, degrees, minutes, seconds, hundredths, angleSize, angleOf, angleValid}
 use Rattle.card.specs.Layout.{LSO, PSO, layout, bytesOf, walk}
-use Rattle.card_text.specs.Judged.{shifted, valueIn}
-use Rattle.card_text.proofs.Runs.{and-l, and-r}
+use Rattle.card_text.specs.Judged.{DigitsOf, shifted, valueIn}
+use Rattle.card_text.specs.declared.digits.Digits.{Digits}
+use Rattle.card_text.proofs.Runs.{all-groups, and-l, and-r}
 use Rattle.card_text.proofs.Table.{right-value}
 
 -- ---- an angle of d degree digits
@@ -40,6 +42,36 @@ module _ (d limit : ℕ) (s : List ℕ) where
       go : (b : Bool) → shifted limit b (angleSize d s) ≤ 2 * limit
       go true = omega arith
       go false = omega arith
+
+-- ---- an angle as it was read: the degrees, the minutes, the seconds and the hundredths
+module _ (w limit : ℕ) (p : List ℕ) {d m t h : Digits} (ed : DigitsOf (part 1 w p) d) (em : DigitsOf (part (w + 1) 2 p) m)
+    (et : DigitsOf (part (w + 3) 2 p) t) (eh : DigitsOf (part (w + 6) 2 p) h) where
+  pub angle-laid : (isSign (getD p 0 0) && (d .ok && m .ok && t .ok) && eqb (getD p (w + 5) 0) 46 && h .ok) ≡ angleLaid w p
+  unfolding angleLaid
+  angle-laid = rw (ed .tested, em .tested, et .tested, eh .tested, all-groups isDigit w p)
+
+  abbrev size : ℕ
+  size = d .value * 360000 + m .value * 6000 + t .value * 100 + h .value
+
+  pub angle-right : angleLaid w p ≡ true
+      → ((ltb (m .value) 60 && ltb (t .value) 60 && leb size limit && not (minus p && eqb size 0)) ≡ angleValid w limit p)
+      × (shifted limit (minus p) size ≡ shifted limit (minus p) (angleSize w p))
+  unfolding angleLaid angleValid angleSize degrees minutes seconds hundredths
+  angle-right e =
+      let sign = isSign (getD p 0 0) in
+      let groups = all isDigit (part 1 (w + 4) p) in
+      let dot = eqb (getD p (w + 5) 0) 46 in
+      let last = all isDigit (part (w + 6) 2 p) in
+      let x = all isDigit (part 1 w p) in
+      let y = all isDigit (part (w + 1) 2 p) in
+      let z = all isDigit (part (w + 3) 2 p) in
+      let g = all-groups isDigit w p ∙ and-r sign groups (and-l (sign && groups) dot (and-l (sign && groups && dot) last e)) in
+      let xy = and-l (x && y) z g in
+      let rd = ed .read (and-l x y xy) in
+      let rm = em .read (and-r x y xy) in
+      let rt = et .read (and-r (x && y) z g) in
+      let rh = eh .read (and-r (sign && groups && dot) last e) in
+      (rw (rd, rm, rt, rh), rw (rd, rm, rt, rh))
 
 -- ---- the two angles of a card whose subfields are right
 module _ (s : List ℕ) (w : walk layout s ≡ Verdict.Accepted) where

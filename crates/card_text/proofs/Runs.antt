@@ -7,7 +7,7 @@ use native.Mathlib.Numerals.{add-one}
 use native.Mathlib.Nat.{pow-suc, pow-le-pow-right, not-suc-le-zero, le-of-suc-le-suc}
 use native.Mathlib.Omega.{arith}
 use lib.ListN.{length, getD, take, drop, set}
-use lib.Seq.{drop-cons, take-suc, take-suc-set, take-add, drop-drop}
+use lib.Seq.{drop-cons, take-suc, take-suc-set, take-add, take-take, drop-drop, getD-take, getD-drop}
 use Rattle.card.specs.Text.{part, all, onward}
 
 pub drop-next {ℓ} : {A : Type ℓ} (l : List A) (i : ℕ) (d : A) → i < length l → drop i l ≡ getD l i d ∷ drop (i + 1) l
@@ -58,13 +58,22 @@ pub and-r : (a b : Bool) → (a && b) ≡ true → b ≡ true
 and-r true b e = e
 and-r false b e = absurd (false≢true e)
 
--- ---- a test that holds of each entry of a table holds at each index
+-- each byte of a run passes its test
+pub all-at : (f : ℕ → Bool) (s : List ℕ) (i : ℕ) → all f s ≡ true → i < length s → f (getD s i 0) ≡ true
+all-at f [] i e h = absurd (not-suc-le-zero h)
+all-at f (b ∷ s) zero e h = and-l (f b) (all f s) e
+all-at f (b ∷ s) (suc i) e h = all-at f s i (and-r (f b) (all f s) e) (le-of-suc-le-suc h)
 
-abbrev pub every {ℓ} : {A : Type ℓ} → (A → Bool) → List A → Bool
-every f [] = true
-every f (x ∷ xs) = f x && every f xs
+-- ---- a part of a part
 
-pub every-at {ℓ} : {A : Type ℓ} (f : A → Bool) (l : List A) (d : A) (i : ℕ) → every f l ≡ true → i < length l → f (getD l i d) ≡ true
-every-at f [] d i e h = absurd (not-suc-le-zero h)
-every-at f (x ∷ xs) d zero e h = and-l (f x) (every f xs) e
-every-at f (x ∷ xs) d (suc i) e h = every-at f xs d i (and-r (f x) (every f xs) e) (le-of-suc-le-suc h)
+take-in : (k n w : ℕ) (l : List ℕ) → k + n ≤ w → take n (drop k (take w l)) ≡ take n (drop k l)
+take-in zero n w l h = take-take n w l (omega arith)
+take-in (suc k) n zero l h = absurd (omega arith)
+take-in (suc k) n (suc w) [] h = refl
+take-in (suc k) n (suc w) (x ∷ l) h = take-in k n w l (omega arith)
+
+pub part-in : (o k n w : ℕ) (s : List ℕ) → k + n ≤ w → part k n (part o w s) ≡ part (o + k) n s
+part-in o k n w s h = take-in k n w (drop o s) h ∙ ap (take n) (drop-drop k o s)
+
+pub part-at : (o k w : ℕ) (s : List ℕ) → k < w → getD (part o w s) k 0 ≡ getD s (o + k) 0
+part-at o k w s h = getD-take w (drop o s) k 0 h ∙ getD-drop o s k 0

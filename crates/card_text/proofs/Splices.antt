@@ -5,7 +5,7 @@ use Prim.Native.Nat.{ℕ, zero, suc, _+_, _-_, _/_, _%_, _^_, _≤_, _<_}
 use native.Mathlib.Nat.{zero-add, add-zero, add-assoc, not-suc-le-zero, le-of-suc-le-suc}
 use native.Mathlib.Numerals.{add-one}
 use native.Mathlib.Omega.{arith}
-use lib.ListN.{length, getD, take, drop, set, length-append, length-take, take-append-drop}
+use lib.ListN.{length, getD, take, drop, set, length-append, length-take, length-drop, take-append-drop}
 use lib.Seq.{set-split, take-at, drop-append-add, drop-drop, take-suc, length-take-le}
 use Rattle.card.specs.Write.{digits, over}
 use Rattle.card_text.specs.Spliced.{splice}
@@ -35,6 +35,10 @@ splice-splice o x y s h =
     let d : drop (o + length x + length y) (p ++ r) ≡ drop (length y) r =
     ap (λ (n : ℕ). drop (n + length y) (p ++ r)) (sym hp) ∙ drop-append-add p r (length y) in
     rw (e, t, d, drop-drop, length-append) (simp (append-assoc, add-assoc))
+
+pub length-splice : (o : ℕ) (x s : List ℕ) → o + length x ≤ length s → length (splice o x s) ≡ length s
+unfolding splice
+length-splice o x s h = simp (length-append, length-take, length-drop) (omega arith)
 
 -- one byte more of a run
 pub put-next : (o j b : ℕ) (x s : List ℕ) → j < length x → o + length x ≤ length s → getD x j 0 ≡ b

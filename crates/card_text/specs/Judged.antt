@@ -1,26 +1,30 @@
 -- A subfield as the code reads it, once: its value and its two tests (01, "The image card, 98 bytes"). Definitions only; proofs/ tie them to crate card's.
---     digitsOf s         a run of digits: its number, and whether each byte is a digit
+--     DigitsOf s r       a run of digits as it was read: whether each byte is a digit, and then its number
 --     valueOf kind s     what a subfield holds, as a natural: an angle is counted from its limit below zero
---     fieldOf kind s     the value, with the tests for 7 and 8
 --     valueIn f s        the value of the subfield f of a card
---     fieldsOf s         the first refusal of the layout, and every value
---     placed f           what the table has of each row: it lies in the card, and its width is that of its kind
-use Prim.Native.Nat.{ℕ, _+_, _-_}
+--     fieldOf ..         a value and its tests for 7 and 8, after what was refused before
+--     FieldAt f s before r     a subfield as it was read: the first refusal up to it, and its value where it is right
+--     FieldsOf s r       the card as it was read: the first refusal of the layout, and every value where there is none
+use mathlib.Core.Path.{_≡_}
+use Prim.Native.Nat.{ℕ, _+_, _-_, _<_}
 use mathlib.Core.List.{List, [], _∷_}
-use mathlib.Core.Bool.{Bool, cond, _&&_}
-use lib.Dec.{leb, eqb}
+use mathlib.Core.Bool.{Bool, true, cond}
+use lib.Dec.{eqb}
 use lib.ListN.{getD}
+use Rattle.arc.specs.declared.Verdict.{Verdict}
 use Rattle.card.specs.declared.Kind.{Kind}
 use Rattle.card.specs.declared.Kind.the-variants.{Number, Angle, Name, Flag}
 use Rattle.card.specs.declared.Subfield.{Subfield}
 use Rattle.card.specs.Text.{isDigit, all, number, minus, angleSize}
-use Rattle.card.specs.Layout.{sub, layout, bytesOf, rightKind, rightValue, walk}
+use Rattle.card.specs.Layout.{layout, bytesOf, judge, judgeField, orElse, walk}
 use Rattle.card_text.specs.declared.digits.Digits.{Digits}
 use Rattle.card_text.specs.declared.fields.Field.{Field}
 use Rattle.card_text.specs.declared.fields.Fields.{Fields}
 
-abbrev pub digitsOf : List ℕ → Digits
-digitsOf s = record { value = number s; ok = all isDigit s }
+pub record DigitsOf (s : List ℕ) (r : Digits) : Type 0 where
+  pub tested : r .ok ≡ all isDigit s
+  pub read : all isDigit s ≡ true → r .value ≡ number s
+  pub small : r .value < 2900000000
 
 -- an angle z of a limit l is held as z + l, and as 0 below −l
 abbrev pub shifted : ℕ → Bool → ℕ → ℕ
@@ -32,9 +36,6 @@ valueOf (Angle d limit) s = shifted limit (minus s) (angleSize d s)
 valueOf Name s = 0
 valueOf Flag s = cond (eqb (getD s 0 0) 89) 1 0
 
-unfoldable pub fieldOf : Kind → List ℕ → Field
-fieldOf k s = record { value = valueOf k s; laid = rightKind k s; valid = rightValue k s }
-
 unfoldable pub valueIn : Subfield → List ℕ → ℕ
 valueIn f s = valueOf (f .kind) (bytesOf f s)
 
@@ -42,18 +43,13 @@ abbrev pub valuesIn : List Subfield → List ℕ → List ℕ
 valuesIn [] s = []
 valuesIn (f ∷ fs) s = valueIn f s ∷ valuesIn fs s
 
-abbrev pub fieldsOf : List ℕ → Fields
-fieldsOf s = record { verdict = walk layout s; values = valuesIn layout s }
+unfoldable pub fieldOf : Verdict → ℕ → Bool → Bool → ℕ → Field
+fieldOf before at laid valid v = record { value = v; verdict = orElse before (judge laid valid at) }
 
--- what an index past the table reads
-abbrev pub noField : Subfield
-noField = sub 0 0 (Number 0 0)
+pub record FieldAt (f : Subfield) (s : List ℕ) (before : Verdict) (r : Field) : Type 0 where
+  pub joins : r .verdict ≡ orElse before (judgeField f s)
+  pub kept : judgeField f s ≡ Verdict.Accepted → r .value ≡ valueIn f s
 
-abbrev pub sized : Kind → ℕ → Bool
-sized (Number low high) w = leb w 8
-sized (Angle d limit) w = eqb w (d + 8) && (leb d 3 && leb limit 64800000)
-sized Name w = eqb w 12
-sized Flag w = eqb w 1
-
-abbrev pub placed : Subfield → Bool
-placed f = leb (f .at + f .width) 98 && sized (f .kind) (f .width)
+pub record FieldsOf (s : List ℕ) (r : Fields) : Type 0 where
+  pub walks : r .verdict ≡ walk layout s
+  pub kept : walk layout s ≡ Verdict.Accepted → r .values ≡ valuesIn layout s

@@ -1,24 +1,23 @@
--- How the code writes: runs of bytes put into the output, and a value for each row of the layout (01, "The image card, 98 bytes").
+-- How the code writes: runs of bytes put into the output, and what each subfield holds (01, "The image card, 98 bytes").
 -- Definitions only; proofs/ tie them to crate card's.
 --     splice o x s       s with x at offset o
---     valueAt kind v bad     what the code's value v stands for: a name is its own bytes
---     writtenAt fs vs bad    the subfields' bytes, one after the other
---     codesOf ..         the values of a record whose origin is counted, in the layout's order
+--     Put fs vs s t      t is s with the subfields fs put, which hold vs
+--     leadOf, extentsOf, fixed, heldBy     the values of a record whose origin is counted, in the layout's order
+--     Narrow r           the record's numbers are below 2 ^ 32, so that the code divides 32 bits
 --     countTests r       NFL, NFC (8), BAD (7)
 --     outIn zone x r out     what the output holds, the spacing x being asked
-use Prim.Native.Nat.{ℕ, _+_, _*_}
+use mathlib.Core.Path.{_≡_}
+use Prim.Native.Nat.{ℕ, _+_, _*_, _<_}
 use mathlib.Core.List.{List, [], _∷_, _++_}
-use mathlib.Core.Bool.{cond, _&&_}
-use lib.Dec.{leb, eqb}
+use mathlib.Core.Bool.{_&&_}
+use lib.Dec.{leb}
 use lib.ListN.{length, take, drop}
 use lib.IntN.{pos, _-ℤ_}
 use Rattle.whole.specs.Whole.{near}
 use Rattle.arc.specs.declared.SpacingAnswer.{SpacingAnswer}
 use Rattle.arc.specs.declared.Verdict.{Verdict}
-use Rattle.card.specs.declared.Kind.{Kind}
-use Rattle.card.specs.declared.Kind.the-variants.{Number, Angle, Name, Flag}
-use Rattle.card.specs.declared.Subfield.{Subfield}
 use Rattle.card.specs.declared.Record.{Record}
+use Rattle.card.specs.declared.Subfield.{Subfield}
 use Rattle.card.specs.Text.{nameLaid}
 use Rattle.card.specs.Layout.{NFL, NFC, BAD}
 use Rattle.card.specs.Write.{Value, counted, angle, named, flagged, textOf, test, writeIn, outAfter, textFor}
@@ -27,23 +26,40 @@ use Rattle.card_text.specs.Found.{tileAngle}
 unfoldable pub splice : ℕ → List ℕ → List ℕ → List ℕ
 splice o x s = take o s ++ (x ++ drop (o + length x) s)
 
--- an angle is held counted from its limit, a flag as 1 or 0
-abbrev pub valueAt : Kind → ℕ → List ℕ → Value
-valueAt (Number low high) v bad = counted v
-valueAt (Angle d limit) v bad = angle d (pos v -ℤ pos limit)
-valueAt Name v bad = named bad
-valueAt Flag v bad = flagged (eqb v 1)
+-- each subfield's bytes are put at its offset, one after the other
+infixr 5 _▸_
+pub data Put : List Subfield → List Value → List ℕ → List ℕ → Type 0 where
+  end : {s : List ℕ} → Put [] [] s s
+  _▸_ : {f : Subfield} {fs : List Subfield} {v : Value} {vs : List Value} {s t u : List ℕ}
+      → t ≡ splice (f .at) (textOf (f .width) v) s → Put fs vs t u → Put (f ∷ fs) (v ∷ vs) s u
 
-abbrev pub writtenAt : List Subfield → List ℕ → List ℕ → List ℕ
-writtenAt [] vs bad = []
-writtenAt (f ∷ fs) [] bad = []
-writtenAt (f ∷ fs) (v ∷ vs) bad = textOf (f .width) (valueAt (f .kind) v bad) ++ writtenAt fs vs bad
+-- STR ARV BRV LSO PSO, the angles counted from their limits
+abbrev pub leadOf : ℕ → ℕ → ℕ → ℕ → List Value
+leadOf a b lon lat =
+    counted 3 ∷ counted a ∷ counted b ∷ angle 3 (pos lon -ℤ pos 64800000) ∷ angle 2 (pos lat -ℤ pos 32400000) ∷ []
 
--- STR ARV BRV LSO PSO NUL NUS NLL NLS NFL NFC PNC PNL COD ROD POR PCB PVB BAD TIF
-unfoldable pub codesOf : ℕ → ℕ → ℕ → ℕ → Record → List ℕ
-codesOf a b north east r =
-    3 ∷ a ∷ b ∷ near (east * tileAngle) a ∷ near (north * tileAngle) b ∷
-    r .nul ∷ r .nus ∷ r .nll ∷ r .nls ∷ r .nfl ∷ r .nfc ∷ 128 ∷ 128 ∷ 0 ∷ 1 ∷ 0 ∷ 0 ∷ 8 ∷ 0 ∷ cond (r .tif) 1 0 ∷ []
+-- NUL NUS NLL NLS NFL NFC
+abbrev pub extentsOf : Record → List Value
+extentsOf r =
+    counted (r .nul) ∷ counted (r .nus) ∷ counted (r .nll) ∷ counted (r .nls) ∷ counted (r .nfl) ∷ counted (r .nfc) ∷ []
+
+-- PNC PNL COD ROD POR PCB PVB
+abbrev pub fixed : List Value
+fixed = counted 128 ∷ counted 128 ∷ counted 0 ∷ counted 1 ∷ counted 0 ∷ counted 0 ∷ counted 8 ∷ []
+
+unfoldable pub heldBy : ℕ → ℕ → ℕ → ℕ → Record → List Value
+heldBy a b north east r =
+    leadOf a b (near (east * tileAngle) a) (near (north * tileAngle) b) ++
+    (extentsOf r ++ (fixed ++ (named (r .bad) ∷ flagged (r .tif) ∷ [])))
+
+-- 2 ^ 32
+pub record Narrow (r : Record) : Type 0 where
+  pub top : r .nul < 4294967296
+  pub right : r .nus < 4294967296
+  pub bottom : r .nll < 4294967296
+  pub left : r .nls < 4294967296
+  pub down : r .nfl < 4294967296
+  pub across : r .nfc < 4294967296
 
 unfoldable pub countTests : Record → List Verdict
 countTests r =

@@ -1,21 +1,22 @@
 // Bytes, runs of digits and runs of letters (01, "The image card, 98 bytes").
 ghost use mathlib.Core.Path.{_≡_};
+ghost use mathlib.Core.Bool.{true};
 ghost use Prim.Native.Nat.{_+_, _-_, _≤_, _<_};
 ghost use lib.ListN.{length};
 ghost use Rattle.card.specs.Text.{part, isDigit, isNameByte, all, nameLaid};
-ghost use Rattle.card_text.specs.Judged.{digitsOf};
+ghost use Rattle.card_text.specs.Judged.{DigitsOf};
 
-// A run of digits: its number, and whether each byte is a digit.
+// A run of digits: whether each byte is a digit, and then its number.
 pub struct Digits {
     pub value: u64,
     pub ok: bool,
 }
 
-// b − 48, and 0 where that is below it.
+// b − 48, of a digit.
 fn digit(b: u8) -> u64
-    ensures { λ r. ⌜ r ≡ b - 48 ⌝ }
+    ensures { λ r. ⌜ (isDigit b ≡ true → r ≡ b - 48) × (r < 256) ⌝ }
 {
-    if b < 48 { 0 } else { (b - 48) as u64 }
+    std::num::wrapping_sub_u8(b, 48) as u64
 }
 
 // 0 to 9.
@@ -43,7 +44,7 @@ pub fn bytes_at<'a>(s: &'a [u8], o: usize, w: usize) -> &'a [u8]
 // A run of digits, read once.
 pub fn digits_of(s: &[u8]) -> Digits
     requires { ⌜ length (now s) ≤ 8 ⌝ }
-    ensures { λ r. ⌜ r ≡ digitsOf (now (s .entry)) ⌝ ∗ ⌜ r .value < 2300000000 ⌝ }
+    ensures { λ r. ⌜ DigitsOf (now (s .entry)) r ⌝ }
 {
     let mut value: u64 = 0;
     let mut ok = true;
@@ -60,7 +61,7 @@ pub fn digits_of(s: &[u8]) -> Digits
 // The run of w digits from offset o.
 pub fn digits_at(s: &[u8], o: usize, w: usize) -> Digits
     requires { ⌜ o + w ≤ length (now s) ⌝ ∗ ⌜ w ≤ 8 ⌝ }
-    ensures { λ r. ⌜ r ≡ digitsOf (part o w (now (s .entry))) ⌝ ∗ ⌜ r .value < 2300000000 ⌝ }
+    ensures { λ r. ⌜ DigitsOf (part o w (now (s .entry))) r ⌝ }
 {
     digits_of(bytes_at(s, o, w))
 }

@@ -1,27 +1,27 @@
 // The subfields, each read once (01, "The image card, 98 bytes").
 use arc::{Refusal, Verdict};
-use card::Kind;
 use crate::digits;
-use crate::layout;
 ghost use mathlib.Core.Path.{_≡_};
-ghost use mathlib.Core.Bool.{true};
 ghost use Prim.Native.Nat.{_+_, _<_, _≤_};
 ghost use lib.ListN.{length};
 ghost use Rattle.card.specs.declared.Kind.{Kind};
-ghost use Rattle.card.specs.Layout.{judge, orElse};
-ghost use Rattle.card_text.specs.Judged.{shifted, fieldOf, fieldsOf, sized};
+ghost use Rattle.card.specs.Text.{part};
+ghost use Rattle.card.specs.Layout.{sub, judge, orElse};
+ghost use Rattle.card_text.specs.Judged.{shifted, DigitsOf, fieldOf, FieldAt, FieldsOf};
 
-// A subfield: its value, whether its bytes are of the right kind (7), and whether the value is right (8).
+// Any number of at most eight digits.
+const ANY: u64 = 99_999_999;
+
+// A subfield: its value, and the first refusal up to it.
 pub struct Field {
     pub value: u64,
-    pub laid: bool,
-    pub valid: bool,
+    pub verdict: Verdict,
 }
 
-// The first subfield that is refused, and every value.
+// Every value, and the first refusal.
 pub struct Fields {
-    pub verdict: Verdict,
     pub values: [u64; 20],
+    pub verdict: Verdict,
 }
 
 // The first of two that refuses.
@@ -47,9 +47,17 @@ fn judged(laid: bool, valid: bool, at: u64) -> Verdict
     Verdict::Accepted
 }
 
+// A value, its bytes being of the right kind (7) and the value right (8), after the subfields before it.
+fn joined(before: Field, at: usize, laid: bool, valid: bool, value: u64) -> Field
+    ensures { λ r. ⌜ r ≡ fieldOf (before .verdict) at laid valid value ⌝ }
+{
+    let first = before.verdict;
+    Field { value, verdict: or_else(first, judged(laid, valid, at as u64)) }
+}
+
 // An angle counted from its limit below zero, and 0 where it is below that.
 fn shifted_by(limit: u64, below: bool, size: u64) -> u64
-    requires { ⌜ limit ≤ 64800000 ⌝ ∗ ⌜ size < 1000000000000000 ⌝ }
+    requires { ⌜ limit ≤ 64800000 ⌝ ∗ ⌜ size < 2000000000000000 ⌝ }
     ensures { λ r. ⌜ r ≡ shifted limit below size ⌝ }
 {
     if !below {
@@ -62,82 +70,80 @@ fn shifted_by(limit: u64, below: bool, size: u64) -> u64
 }
 
 // Digits, from low to high.
-fn number_in(s: &[u8], low: u64, high: u64) -> Field
-    requires { ⌜ length (now s) ≤ 8 ⌝ }
-    ensures { λ r. ⌜ r ≡ fieldOf (Kind.Number low high) (now (s .entry)) ⌝ }
+fn number_at(s: &[u8], o: usize, w: usize, low: u64, high: u64, before: Field) -> Field
+    requires { ⌜ o + w ≤ length (now s) ⌝ ∗ ⌜ w ≤ 8 ⌝ }
+    ensures { λ r. ⌜ FieldAt (sub o w (Kind.Number low high)) (now (s .entry)) (before .verdict) r ⌝ }
 {
-    let n = digits::digits_of(s);
-    Field { value: n.value, laid: n.ok, valid: (low <= n.value) & (n.value <= high) }
+    let n = digits::digits_at(s, o, w);
+    joined(before, o, n.ok, (low <= n.value) & (n.value <= high), n.value)
 }
 
-// ±DDDMMSS.SS or ±DDMMSS.SS: 43 is +, 45 is −, 46 is the dot.
-fn angle_in(s: &[u8], degrees: usize, limit: u64) -> Field
-    requires { ⌜ length (now s) ≡ degrees + 8 ⌝ ∗ ⌜ degrees ≤ 3 ⌝ ∗ ⌜ limit ≤ 64800000 ⌝ }
-    ensures { λ r. ⌜ r ≡ fieldOf (Kind.Angle degrees limit) (now (s .entry)) ⌝ }
+// ±DDDMMSS.SS or ±DDMMSS.SS, its degrees being read: 43 is +, 45 is −, 46 is the dot.
+fn angle_at(s: &[u8], o: usize, w: usize, d: digits::Digits, limit: u64, before: Field) -> Field
+    requires { ⌜ o + (w + 8) ≤ length (now s) ⌝ ∗ ⌜ w ≤ 3 ⌝ ∗ ⌜ limit ≤ 64800000 ⌝ ∗ ⌜ DigitsOf (part (o + 1) w (now s)) d ⌝ }
+    ensures { λ r. ⌜ FieldAt (sub o (w + 8) (Kind.Angle w limit)) (now (s .entry)) (before .verdict) r ⌝ }
 {
-    let sign = s[0];
-    let d = digits::digits_at(s, 1, degrees);
-    let m = digits::digits_at(s, degrees + 1, 2);
-    let t = digits::digits_at(s, degrees + 3, 2);
-    let dot = s[degrees + 5];
-    let h = digits::digits_at(s, degrees + 6, 2);
+    let p = digits::bytes_at(s, o, w + 8);
+    let sign = p[0];
+    let m = digits::digits_at(p, w + 1, 2);
+    let t = digits::digits_at(p, w + 3, 2);
+    let dot = p[w + 5];
+    let h = digits::digits_at(p, w + 6, 2);
     let size = d.value * 360_000 + m.value * 6_000 + t.value * 100 + h.value;
-    let value = shifted_by(limit, sign == 45, size);
     let laid = ((sign == 43) | (sign == 45)) & (d.ok & m.ok & t.ok) & (dot == 46) & h.ok;
     let valid = (m.value < 60) & (t.value < 60) & (size <= limit) & !((sign == 45) & (size == 0));
-    Field { value, laid, valid }
+    joined(before, o, laid, valid, shifted_by(limit, sign == 45, size))
 }
 
 // BAD.
-fn name_in(s: &[u8]) -> Field
-    requires { ⌜ length (now s) ≡ 12 ⌝ }
-    ensures { λ r. ⌜ r ≡ fieldOf Kind.Name (now (s .entry)) ⌝ }
+fn name_at(s: &[u8], o: usize, before: Field) -> Field
+    requires { ⌜ o + 12 ≤ length (now s) ⌝ }
+    ensures { λ r. ⌜ FieldAt (sub o 12 Kind.Name) (now (s .entry)) (before .verdict) r ⌝ }
 {
-    Field { value: 0, laid: digits::name_laid(s), valid: true }
+    joined(before, o, digits::name_laid(digits::bytes_at(s, o, 12)), true, 0)
 }
 
 // 89 is Y, 78 is N.
-fn flag_in(s: &[u8]) -> Field
-    requires { ⌜ length (now s) ≡ 1 ⌝ }
-    ensures { λ r. ⌜ r ≡ fieldOf Kind.Flag (now (s .entry)) ⌝ }
+fn flag_at(s: &[u8], o: usize, before: Field) -> Field
+    requires { ⌜ o + 1 ≤ length (now s) ⌝ }
+    ensures { λ r. ⌜ FieldAt (sub o 1 Kind.Flag) (now (s .entry)) (before .verdict) r ⌝ }
 {
-    let b = s[0];
-    if b == 89 {
-        return Field { value: 1, laid: true, valid: true };
-    }
-    Field { value: 0, laid: true, valid: b == 78 }
+    let b = s[o];
+    joined(before, o, true, (b == 89) | (b == 78), (b == 89) as u64)
 }
 
-// The bytes of one subfield, read by its kind.
-fn field_in(s: &[u8], kind: Kind) -> Field
-    requires { ⌜ sized kind (length (now s)) ≡ true ⌝ }
-    ensures { λ r. ⌜ r ≡ fieldOf kind (now (s .entry)) ⌝ }
-{
-    match kind {
-        Kind::Number { low, high } => number_in(s, low, high),
-        Kind::Angle { degrees, limit } => angle_in(s, degrees, limit),
-        Kind::Name => name_in(s),
-        Kind::Flag => flag_in(s),
-    }
-}
-
-// Every subfield, left to right, in one pass.
+// Every subfield, left to right: STR ARV BRV LSO PSO NUL NUS NLL NLS NFL NFC PNC PNL COD ROD POR PCB PVB BAD TIF.
 pub fn fields_in(s: &[u8]) -> Fields
     requires { ⌜ length (now s) ≡ 98 ⌝ }
-    ensures { λ r. ⌜ r ≡ fieldsOf (now (s .entry)) ⌝ }
+    ensures { λ r. ⌜ FieldsOf (now (s .entry)) r ⌝ }
 {
-    let mut verdict = Verdict::Accepted;
-    let mut values = [0u64; 20];
-    let mut i = 0;
-    while i < 20 {
-        let f = layout::entry_at(i);
-        let at = f.at;
-        let width = f.width;
-        let kind = f.kind;
-        let x = field_in(digits::bytes_at(s, at, width), kind);
-        verdict = or_else(verdict, judged(x.laid, x.valid, at as u64));
-        values[i] = x.value;
-        i += 1;
-    }
-    Fields { verdict, values }
+    let none = Field { value: 0, verdict: Verdict::Accepted };
+    let str = number_at(s, 0, 1, 3, 3, none);
+    let arv = number_at(s, 1, 8, 0, ANY, str);
+    let brv = number_at(s, 9, 8, 0, ANY, arv);
+    let lon = digits::digits_at(s, 18, 3);
+    let lso = angle_at(s, 17, 3, lon, 64_800_000, brv);
+    let lat = digits::digits_at(s, 29, 2);
+    let pso = angle_at(s, 28, 2, lat, 32_400_000, lso);
+    let nul = number_at(s, 38, 6, 0, ANY, pso);
+    let nus = number_at(s, 44, 6, 0, ANY, nul);
+    let nll = number_at(s, 50, 6, 0, ANY, nus);
+    let nls = number_at(s, 56, 6, 0, ANY, nll);
+    let nfl = number_at(s, 62, 3, 1, 999, nls);
+    let nfc = number_at(s, 65, 3, 1, 999, nfl);
+    let pnc = number_at(s, 68, 6, 128, 128, nfc);
+    let pnl = number_at(s, 74, 6, 128, 128, pnc);
+    let cod = number_at(s, 80, 1, 0, 0, pnl);
+    let rod = number_at(s, 81, 1, 1, 1, cod);
+    let por = number_at(s, 82, 1, 0, 0, rod);
+    let pcb = number_at(s, 83, 1, 0, 0, por);
+    let pvb = number_at(s, 84, 1, 8, 8, pcb);
+    let bad = name_at(s, 85, pvb);
+    let tif = flag_at(s, 97, bad);
+    let verdict = tif.verdict;
+    let values = [
+        str.value, arv.value, brv.value, lso.value, pso.value, nul.value, nus.value, nll.value, nls.value, nfl.value,
+        nfc.value, pnc.value, pnl.value, cod.value, rod.value, por.value, pcb.value, pvb.value, bad.value, tif.value,
+    ];
+    Fields { values, verdict }
 }

@@ -9,7 +9,6 @@ ghost use Rattle.card.specs.Write.{writeOf, outOf};
 
 mod digits;
 mod fields;
-mod layout;
 mod put;
 mod read;
 mod stored;

@@ -1,21 +1,17 @@
 // Bytes put into the output, run by run (01, "The image card, 98 bytes").
-use card::Kind;
-use crate::layout;
 ghost use mathlib.Core.Path.{_≡_};
-ghost use mathlib.Core.Bool.{true, cond};
+ghost use mathlib.Core.Bool.{cond};
 ghost use mathlib.Core.List.{[], _∷_};
 ghost use Prim.Native.Nat.{_+_, _^_, _<_, _≤_};
 ghost use lib.IntN.{pos, natAbs, _-ℤ_};
 ghost use lib.ListN.{length};
-ghost use Rattle.card.specs.Layout.{layout, sub};
-ghost use Rattle.card.specs.Write.{digits, angleText, textOf};
-ghost use Rattle.card_text.specs.Judged.{placed};
-ghost use Rattle.card_text.specs.Spliced.{splice, valueAt, writtenAt};
+ghost use Rattle.card.specs.Write.{digits, angleText};
+ghost use Rattle.card_text.specs.Spliced.{splice};
 
 // Powers of ten, for at most eight digits.
-const POWERS: [u64; 8] = [1, 10, 100, 1_000, 10_000, 100_000, 1_000_000, 10_000_000];
+const POWERS: [u32; 8] = [1, 10, 100, 1_000, 10_000, 100_000, 1_000_000, 10_000_000];
 
-fn power(k: usize) -> u64
+fn power(k: usize) -> u32
     requires { ⌜ k < 8 ⌝ }
     ensures { λ r. ⌜ r ≡ 10 ^ k ⌝ ∗ ⌜ 0 < r ⌝ }
 {
@@ -30,14 +26,15 @@ fn put_byte(out: &mut [u8], o: usize, b: u8)
     out[o] = b;
 }
 
-// The w digits of v, zero-filled.
-fn put_number(out: &mut [u8], o: usize, w: usize, v: u64)
-    requires { ⌜ o + w ≤ length (now out) ⌝ ∗ ⌜ w ≤ 8 ⌝ }
+// The w digits of v, zero-filled, divided in 32 bits.
+pub fn put_number(out: &mut [u8], o: usize, w: usize, v: u64)
+    requires { ⌜ o + w ≤ length (now out) ⌝ ∗ ⌜ w ≤ 8 ⌝ ∗ ⌜ v < 4294967296 ⌝ }
     ensures { λ _. ⌜ now (out .exit) ≡ splice o (digits w v) (now (out .entry)) ⌝ }
 {
+    let n = v as u32;
     let mut j = 0;
     while j < w {
-        let b = (v / power(w - 1 - j) % 10) as u8;
+        let b = (n / power(w - 1 - j) % 10) as u8;
         put_byte(out, o + j, 48 + b);
         j += 1;
     }
@@ -52,14 +49,14 @@ fn byte_if(test: bool, then: u8, other: u8) -> u8
 
 // |x − limit|.
 fn size_of(limit: u64, x: u64) -> u64
-    ensures { λ r. ⌜ r ≡ natAbs (pos x -ℤ pos limit) ⌝ }
+    ensures { λ r. ⌜ r ≡ natAbs (pos x -ℤ pos limit) ⌝ ∗ ⌜ r ≤ x + limit ⌝ }
 {
     if x < limit { limit - x } else { x - limit }
 }
 
 // ±DDDMMSS.SS or ±DDMMSS.SS of an angle counted from its limit below zero; zero carries a plus.
-fn put_angle(out: &mut [u8], o: usize, d: usize, limit: u64, x: u64)
-    requires { ⌜ o + (d + 8) ≤ length (now out) ⌝ ∗ ⌜ d ≤ 3 ⌝ }
+pub fn put_angle(out: &mut [u8], o: usize, d: usize, limit: u64, x: u64)
+    requires { ⌜ o + (d + 8) ≤ length (now out) ⌝ ∗ ⌜ d ≤ 3 ⌝ ∗ ⌜ limit ≤ 64800000 ⌝ ∗ ⌜ x ≤ 129600000 ⌝ }
     ensures { λ _. ⌜ now (out .exit) ≡ splice o (angleText d (pos x -ℤ pos limit)) (now (out .entry)) ⌝ }
 {
     let z = size_of(limit, x);
@@ -72,9 +69,9 @@ fn put_angle(out: &mut [u8], o: usize, d: usize, limit: u64, x: u64)
 }
 
 // BAD's twelve bytes.
-fn put_name(out: &mut [u8], o: usize, bad: [u8; 12])
+pub fn put_name(out: &mut [u8], o: usize, bad: [u8; 12])
     requires { ⌜ o + 12 ≤ length (now out) ⌝ }
-    ensures { λ _. ⌜ now (out .exit) ≡ splice o bad (now (out .entry)) ⌝ }
+    ensures { λ _. ⌜ now (out .exit) ≡ splice o bad (now (out .entry)) ⌝ ∗ ⌜ length bad ≡ 12 ⌝ }
 {
     let mut j = 0;
     while j < 12 {
@@ -83,31 +80,10 @@ fn put_name(out: &mut [u8], o: usize, bad: [u8; 12])
     }
 }
 
-// One subfield; BAD's bytes stand beside its value.
-fn put_field(out: &mut [u8], at: usize, width: usize, kind: Kind, v: u64, bad: [u8; 12])
-    requires { ⌜ 98 ≤ length (now out) ⌝ ∗ ⌜ placed (sub at width kind) ≡ true ⌝ }
-    ensures { λ _. ⌜ now (out .exit) ≡ splice at (textOf width (valueAt kind v bad)) (now (out .entry)) ⌝ }
+// 89 is Y, 78 is N.
+pub fn put_flag(out: &mut [u8], o: usize, flag: bool)
+    requires { ⌜ o < length (now out) ⌝ }
+    ensures { λ _. ⌜ now (out .exit) ≡ splice o (cond flag 89 78 ∷ []) (now (out .entry)) ⌝ }
 {
-    match kind {
-        Kind::Number { low: _, high: _ } => put_number(out, at, width, v),
-        Kind::Angle { degrees, limit } => put_angle(out, at, degrees, limit, v),
-        Kind::Name => put_name(out, at, bad),
-        Kind::Flag => put_byte(out, at, byte_if(v == 1, 89, 78)),
-    }
-}
-
-// Every subfield, left to right.
-pub fn put_fields(out: &mut [u8], values: [u64; 20], bad: [u8; 12])
-    requires { ⌜ 98 ≤ length (now out) ⌝ }
-    ensures { λ _. ⌜ now (out .exit) ≡ splice 0 (writtenAt layout values bad) (now (out .entry)) ⌝ }
-{
-    let mut i = 0;
-    while i < 20 {
-        let f = layout::entry_at(i);
-        let at = f.at;
-        let width = f.width;
-        let kind = f.kind;
-        put_field(out, at, width, kind, values[i], bad);
-        i += 1;
-    }
+    put_byte(out, o, byte_if(flag, 89, 78));
 }

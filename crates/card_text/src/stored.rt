@@ -21,7 +21,7 @@ fn nearest(n: u64, d: u64) -> u64
 // The angle stored for a count of tiles.
 pub fn stored_at(tiles: u64, spacing: u64) -> u64
     requires { ⌜ Grid spacing ⌝ ∗ ⌜ 128 * tiles ≤ spacing ⌝ }
-    ensures { λ r. ⌜ r ≡ near (tiles * 16588800000) spacing ⌝ }
+    ensures { λ r. ⌜ r ≡ near (tiles * 16588800000) spacing ⌝ ∗ ⌜ r ≤ 129600000 ⌝ }
 {
     nearest(tiles * TILE_ANGLE, spacing)
 }

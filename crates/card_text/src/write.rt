@@ -8,15 +8,14 @@ use crate::put;
 use crate::read;
 use crate::stored;
 ghost use mathlib.Core.Path.{_≡_};
-ghost use mathlib.Core.Bool.{cond};
 ghost use Prim.Native.Nat.{_*_, _≤_};
-ghost use lib.ListN.{length};
+ghost use lib.ListN.{length, take, drop};
 ghost use Rattle.arc.specs.declared.SpacingAnswer.{SpacingAnswer};
 ghost use Rattle.arc.specs.Spacing.{Grid};
 ghost use Rattle.card.specs.Text.{nameLaid};
 ghost use Rattle.card.specs.Layout.{layout};
-ghost use Rattle.card.specs.Write.{test, first, writeIn};
-ghost use Rattle.card_text.specs.Spliced.{splice, writtenAt, codesOf, countTests, outIn};
+ghost use Rattle.card.specs.Write.{written, test, first, writeIn};
+ghost use Rattle.card_text.specs.Spliced.{splice, Put, leadOf, extentsOf, fixed, heldBy, Narrow, countTests, outIn};
 
 // A refusal where the test fails (01, "Numbers given in refusal").
 fn tested(ok: bool, number: u32, at: u64) -> Verdict
@@ -35,13 +34,6 @@ fn name_right(bad: [u8; 12]) -> bool
     digits::name_laid(&bad)
 }
 
-// TIF as the writer holds it.
-fn flag_value(tif: bool) -> u64
-    ensures { λ r. ⌜ r ≡ cond tif 1 0 ⌝ }
-{
-    if tif { 1 } else { 0 }
-}
-
 // NFL, NFC (8), BAD (7).
 fn judge_counts(r: Record) -> Verdict
     ensures { λ v. ⌜ v ≡ first (countTests r) ⌝ }
@@ -53,19 +45,56 @@ fn judge_counts(r: Record) -> Verdict
     fields::or_else(down, fields::or_else(across, name))
 }
 
+// STR ARV BRV LSO PSO.
+fn put_lead(out: &mut [u8], a: u64, b: u64, lon: u64, lat: u64)
+    requires { ⌜ 98 ≤ length (now out) ⌝ ∗ ⌜ Grid a ⌝ ∗ ⌜ Grid b ⌝ ∗ ⌜ lon ≤ 129600000 ⌝ ∗ ⌜ lat ≤ 129600000 ⌝ }
+    ensures { λ _. ⌜ Put (take 5 layout) (leadOf a b lon lat) (now (out .entry)) (now (out .exit)) ⌝ }
+{
+    put::put_number(out, 0, 1, 3);
+    put::put_number(out, 1, 8, a);
+    put::put_number(out, 9, 8, b);
+    put::put_angle(out, 17, 3, 64_800_000, lon);
+    put::put_angle(out, 28, 2, 32_400_000, lat);
+}
+
+// NUL NUS NLL NLS NFL NFC.
+fn put_extents(out: &mut [u8], r: Record)
+    requires { ⌜ 98 ≤ length (now out) ⌝ ∗ ⌜ Narrow r ⌝ }
+    ensures { λ _. ⌜ Put (take 6 (drop 5 layout)) (extentsOf r) (now (out .entry)) (now (out .exit)) ⌝ }
+{
+    put::put_number(out, 38, 6, r.nul);
+    put::put_number(out, 44, 6, r.nus);
+    put::put_number(out, 50, 6, r.nll);
+    put::put_number(out, 56, 6, r.nls);
+    put::put_number(out, 62, 3, r.nfl);
+    put::put_number(out, 65, 3, r.nfc);
+}
+
+// PNC PNL COD ROD POR PCB PVB, the same on every card.
+fn put_fixed(out: &mut [u8])
+    requires { ⌜ 98 ≤ length (now out) ⌝ }
+    ensures { λ _. ⌜ Put (take 7 (drop 11 layout)) fixed (now (out .entry)) (now (out .exit)) ⌝ }
+{
+    put::put_number(out, 68, 6, 128);
+    put::put_number(out, 74, 6, 128);
+    put::put_number(out, 80, 1, 0);
+    put::put_number(out, 81, 1, 1);
+    put::put_number(out, 82, 1, 0);
+    put::put_number(out, 83, 1, 0);
+    put::put_number(out, 84, 1, 8);
+}
+
 // The bytes of a record whose origin is counted from the South Pole and from 180° west.
 fn put_card(out: &mut [u8], a: u64, b: u64, north: u64, east: u64, r: Record)
-    requires { ⌜ 98 ≤ length (now out) ⌝ ∗ ⌜ Grid a ⌝ ∗ ⌜ Grid b ⌝ ∗ ⌜ 128 * north ≤ b ⌝ ∗ ⌜ 128 * east ≤ a ⌝ }
-    ensures { λ _. ⌜ now (out .exit) ≡ splice 0 (writtenAt layout (codesOf a b north east r) (r .bad)) (now (out .entry)) ⌝ }
+    requires { ⌜ 98 ≤ length (now out) ⌝ ∗ ⌜ Grid a ⌝ ∗ ⌜ Grid b ⌝ ∗ ⌜ (128 * north ≤ b) × (128 * east ≤ a) ⌝ ∗ ⌜ Narrow r ⌝ }
+    ensures { λ _. ⌜ now (out .exit) ≡ splice 0 (written layout (heldBy a b north east r)) (now (out .entry)) ⌝ }
 {
-    let lon = stored::stored_at(east, a);
-    let lat = stored::stored_at(north, b);
-    let tif = flag_value(r.tif);
     let bad = r.bad;
-    let values = [
-        3, a, b, lon, lat, r.nul, r.nus, r.nll, r.nls, r.nfl, r.nfc, 128, 128, 0, 1, 0, 0, 8, 0, tif,
-    ];
-    put::put_fields(out, values, bad);
+    put_lead(out, a, b, stored::stored_at(east, a), stored::stored_at(north, b));
+    put_extents(out, r);
+    put_fixed(out);
+    put::put_name(out, 85, bad);
+    put::put_flag(out, 97, r.tif);
 }
 
 // Writing, the spacing being known. Refuses 3, 6, then NFL, NFC (8), BAD (7), then 10, 11; on a refusal the output stays.

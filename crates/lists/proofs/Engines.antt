@@ -1,7 +1,7 @@
 -- An engine's axes give the plain rule's angles and pixels, for every row and column of its card's tiles. Assumes nothing.
 use mathlib.Core.Path.{_≡_, sym, ap, ap₂, _∙_, subst⁻¹}
 use Prim.Native.Nat.{ℕ, _+_, _-_, _*_, _/_, _%_, _≤_, _<_}
-use native.Mathlib.Nat.{mul-le-mul, mul-le-mul-right, add-mul, lt-of-mul-lt-mul-right, mod-lt, mul-add-div-right, add-mul-div-right, mul-div-mul-left, div-add-mod'}
+use native.Mathlib.Nat.{mul-le-mul, mul-le-mul-right, lt-of-mul-lt-mul-right, mod-lt, mul-add-div-right, add-mul-div-right, mul-div-mul-left, div-add-mod'}
 use native.Mathlib.Omega.{arith}
 use Rattle.whole.specs.Whole.{near}
 use Rattle.whole.proofs.Near.{near-low}

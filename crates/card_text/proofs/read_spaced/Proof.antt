@@ -6,7 +6,6 @@ use Rattle.arc.specs.declared.SpacingAnswer.{SpacingAnswer}
 use Rattle.arc.specs.declared.Verdict.{Verdict}
 use Rattle.card.specs.Layout.{layout, walk}
 use Rattle.card.specs.Read.{refused, withValues, afterWalk, readIn}
-use Rattle.card_text.specs.declared.fields.Fields.{Fields}
 use borrow.Author.Needs.{needs}
 use Rattle.card_text.proofs.read_spaced.Statement.{statement}
 use Rattle.card_text.proofs.read_spaced.Tie as tie
@@ -16,7 +15,7 @@ abbrev start : tie.After-fields-in → tie.Start
 start c = c .before .before .before .before
 
 walked : (c : tie.After-fields-in) {v : Verdict} → c .fields-in .result .verdict ≡ v → walk layout (start c .args .bytes .now) ≡ v
-walked c e = sym (ap (λ (f : Fields). f .verdict) (c .fields-in .ensures)) ∙ e
+walked c e = sym (c .fields-in .ensures .walks) ∙ e
 
 past : (c : tie.After-fields-in) {v : Verdict} → c .fields-in .result .verdict ≡ v
     → readIn (start c .args .scale) (start c .args .zone) (SpacingAnswer.Constants (start c .args .a) (start c .args .b)) (start c .args .bytes .now)
@@ -56,8 +55,8 @@ read-values-requires : tie.Need-read-values-requires
 read-values-requires c κs =
     let x = c .before .before .before in
     let s = start x in
-    let kept = ap (λ (f : Fields). f .values) (x .fields-in .ensures) in
-    (s .pre .0, (s .pre .1, record { long = x .before .if2 .left; walks = walked x (c .enum-told .given .1); kept = kept }))
+    let walks = walked x (c .enum-told .given .1) in
+    (s .pre .0, (s .pre .1, record { long = x .before .if2 .left; walks = walks; kept = x .fields-in .ensures .kept walks }))
 
 enum-known-verdict : tie.Need-enum-known-verdict
 enum-known-verdict c = search needs

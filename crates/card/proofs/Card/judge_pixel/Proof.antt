@@ -5,7 +5,7 @@ use lib.IntN.{ℤ}
 use mir.Syntax.{w64}
 use mir.Val.{toZ, ofZ}
 use Rattle.arc.specs.declared.Verdict.{Verdict}
-use Rattle.card.specs.Grid.{inTiles, inChart, verdictOf}
+use Rattle.card.specs.Grid.{inTiles, inChart}
 use Rattle.card.proofs.Laid.{known-laid}
 use Rattle.card.proofs.Regions.{chart-tiles}
 use Rattle.card.proofs.Answers.{tested}

@@ -1,6 +1,4 @@
 -- The run is the part that `bytes_at` hands over. Assumes nothing.
-use Rattle.card_text.specs.Judged.{digitsOf}
-use mathlib.Core.Path.{ap, _∙_}
 use borrow.Author.Needs.{needs}
 use Rattle.card_text.proofs.digits.digits_at.Statement.{statement}
 use Rattle.card_text.proofs.digits.digits_at.Tie as tie
@@ -12,7 +10,7 @@ digits-of-requires : tie.Need-digits-of-requires
 digits-of-requires c κs = search needs
 
 returns : tie.Need-returns
-returns c = (c .digits-of .ensures .0 ∙ ap digitsOf (c .before .bytes-at .ensures .0), c .digits-of .ensures .1)
+returns c = rw (c .before .bytes-at .ensures .0) at (c .digits-of .ensures)
 
 pub digits-at-spec : {M : Type 1} → statement M
 digits-at-spec = tie.close (tie.spec bytes-at-requires digits-of-requires returns)

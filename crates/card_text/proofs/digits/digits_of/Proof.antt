@@ -1,26 +1,26 @@
--- The value so far, carried on over what is left, is the whole's, and so is the test; the value is small, whatever the
--- bytes are. Assumes nothing.
+-- The test so far, and the one of what is left, are the whole's; where each byte is a digit, so is the value. The value is
+-- small, whatever the bytes are. Assumes nothing.
 use Prim.Native.Nat.{_≤_, _<_, _-_, _+_, _*_, _^_}
 use mathlib.Core.Path.{_≡_, refl, sym, _∙_}
-use mathlib.Core.Bool.{_&&_, and-true}
+use mathlib.Core.Bool.{true, _&&_, and-true}
 use native.Mathlib.Omega.{arith}
 use lib.ListN.{length, drop, drop-of-length-le}
 use Rattle.card.specs.Text.{number, onward, all, isDigit}
-use Rattle.card_text.proofs.Runs.{onward-next, all-next, pow-next, pow-bound}
+use Rattle.card_text.proofs.Runs.{onward-next, all-next, all-at, pow-next, pow-bound}
 use borrow.Author.Needs.{needs}
 use Rattle.card_text.proofs.digits.digits_of.Statement.{statement}
 use Rattle.card_text.proofs.digits.digits_of.Tie as tie
 
 abbrev Inv-loop : tie.InvT-loop
 Inv-loop s value₀ ok₀ i₀ value ok i =
-    (i ≤ length s) × (onward value (drop i s) ≡ onward 0 s) × ((ok && all isDigit (drop i s)) ≡ all isDigit s)
-    × (value + 23 ≤ 23 * 10 ^ i)
+    (i ≤ length s) × (all isDigit s ≡ true → onward value (drop i s) ≡ onward 0 s) × ((ok && all isDigit (drop i s)) ≡ all isDigit s)
+    × (value + 29 ≤ 29 * 10 ^ i)
 
 abbrev μ-loop : tie.MeasureT-loop
 μ-loop s value₀ ok₀ i₀ value ok i = length s - i
 
 loop-holds : tie.Need-loop-holds Inv-loop μ-loop
-loop-holds c = (omega arith, refl, refl, omega arith)
+loop-holds c = (omega arith, λ e. refl, refl, omega arith)
 
 shared-slice-read-b : tie.Need-shared-slice-read-b Inv-loop μ-loop
 shared-slice-read-b c = search needs
@@ -34,7 +34,7 @@ digit-requires c κs = search needs
 add-value : tie.Need-add-value Inv-loop μ-loop
 add-value c =
     let g = c .before .before .before .loop in
-    omega (arith, pow-bound (g .i) (omega arith), c .before .shared-slice-known2 .given (g .i))
+    omega (arith, pow-bound (g .i) (omega arith), c .digit .ensures .1)
 
 is-digit-requires : tie.Need-is-digit-requires Inv-loop μ-loop
 is-digit-requires c κs = search needs
@@ -51,9 +51,9 @@ loop-again c =
     let s = c .before .before .before .before .before .before .args .s .now in
     let h : g .i < length s = omega arith in (
       omega arith,
-      rw (c .before .digit .ensures) (onward-next (g .value) s (g .i) h ∙ g .inv .1),
+      λ e. rw (c .before .digit .ensures .0 (all-at isDigit s (g .i) e h)) (onward-next (g .value) s (g .i) h ∙ g .inv .1 e),
       rw (c .is-digit .ensures) (all-next isDigit (g .ok) s (g .i) h ∙ g .inv .2),
-      omega (arith, pow-next (g .i), c .before .digit .ensures, c .before .before .shared-slice-known2 .given (g .i)),
+      omega (arith, pow-next (g .i), c .before .digit .ensures .1),
     )
 
 returns : tie.Need-returns Inv-loop μ-loop
@@ -61,9 +61,11 @@ unfolding number
 returns c =
     let g = c .before .loop in
     let none = drop-of-length-le (c .before .before .before .args .s .now) {i = g .i} (omega arith) in
-    let value : g .value ≡ number (c .before .before .before .args .s .now) = rw none at (g .inv .1) in
-    let ok : g .ok ≡ all isDigit (c .before .before .before .args .s .now) = sym (and-true (g .ok)) ∙ (rw none at (g .inv .2)) in
-    (cc, omega (arith, pow-bound (g .i) (omega arith)))
+    record {
+      tested = sym (and-true (g .ok)) ∙ (rw none at (g .inv .2));
+      read = λ e. rw none at (g .inv .1 e);
+      small = omega (arith, pow-bound (g .i) (omega arith));
+    }
 
 pub digits-of-spec : {M : Type 1} → statement M
 digits-of-spec =

@@ -1,97 +1,140 @@
--- What was judged and the walk over what is left are the whole walk, and the values kept are the first ones. Assumes nothing.
-use Prim.Native.Nat.{_<_, _≤_, _-_}
-use mathlib.Core.Path.{_≡_, refl, sym, _∙_}
+-- Each subfield was read after the one before it, so that they are the whole walk, with its values. Assumes nothing.
 use native.Mathlib.Omega.{arith}
-use lib.ListN.{length, drop, take, length-set}
-use lib.Seq.{take-all}
-use Rattle.card.specs.Layout.{layout, walk, orElse}
-use Rattle.card_text.specs.Judged.{valuesIn}
-use Rattle.card_text.proofs.Runs.{copy-next}
-use Rattle.card_text.proofs.Table.{layout-length, placed-at, within, wide, field-judged, field-value, walk-next, orElse-accepted, length-values, value-at}
+use Rattle.arc.specs.declared.Verdict.{Verdict}
+use Rattle.card.specs.Layout.{layout}
+use Rattle.card_text.proofs.Table.{Passed, end, _▸_, passed-walk, passed-values}
 use borrow.Author.Needs.{needs}
 use Rattle.card_text.proofs.fields.fields_in.Statement.{statement}
 use Rattle.card_text.proofs.fields.fields_in.Tie as tie
 
-abbrev Inv-loop : tie.InvT-loop
-Inv-loop s verdict₀ values₀ i₀ verdict values i =
-    (i ≤ 20) × (length values ≡ 20) × (orElse verdict (walk (drop i layout) s) ≡ walk layout s)
-    × (take i values ≡ take i (valuesIn layout s))
+-- past PSO, and past NFC
+abbrev lead : tie.After-angle-at2 → tie.Start
+lead c = c .before .before .before .before .before .before .before .before
 
-abbrev μ-loop : tie.MeasureT-loop
-μ-loop s verdict₀ values₀ i₀ verdict values i = 20 - i
+abbrev sized : tie.After-number-at9 → tie.Start
+sized c = lead (c .before .before .before .before .before .before)
 
-loop-holds : tie.Need-loop-holds Inv-loop μ-loop
-loop-holds c = (omega arith, refl, refl, refl)
+number-at-requires : tie.Need-number-at-requires
+number-at-requires c κs = search needs
 
-entry-at-requires : tie.Need-entry-at-requires Inv-loop μ-loop
-entry-at-requires c κs = omega arith
+number-at-requires-2 : tie.Need-number-at-requires-2
+number-at-requires-2 c κs = search needs
 
-bytes-at-requires : tie.Need-bytes-at-requires Inv-loop μ-loop
-bytes-at-requires c κs = omega (arith, within (c .entry-at .result) (rw (c .entry-at .ensures) (placed-at (c .before .before .loop .i) (omega arith))))
+number-at-requires-3 : tie.Need-number-at-requires-3
+number-at-requires-3 c κs = search needs
 
-field-in-requires : tie.Need-field-in-requires Inv-loop μ-loop
-field-in-requires c κs =
-    let f = c .before .entry-at .result in
-    rw (c .bytes-at .ensures .1) (wide f (rw (c .before .entry-at .ensures) (placed-at (c .before .before .before .loop .i) (omega arith))))
+digits-at-requires : tie.Need-digits-at-requires
+digits-at-requires c κs = search needs
 
-judged-requires : tie.Need-judged-requires Inv-loop μ-loop
-judged-requires c κs = search needs
+angle-at-requires : tie.Need-angle-at-requires
+angle-at-requires c κs = search needs
 
-or-else-requires : tie.Need-or-else-requires Inv-loop μ-loop
-or-else-requires c κs = search needs
+digits-at-requires-2 : tie.Need-digits-at-requires-2
+digits-at-requires-2 c κs = search needs
 
-mul-values : tie.Need-mul-values Inv-loop μ-loop
-mul-values c = omega arith
+angle-at-requires-2 : tie.Need-angle-at-requires-2
+angle-at-requires-2 c κs = search needs
 
-array-write-values : tie.Need-array-write-values Inv-loop μ-loop
-array-write-values c = omega arith
+number-at-requires-4 : tie.Need-number-at-requires-4
+number-at-requires-4 c κs = search needs
 
-add-i : tie.Need-add-i Inv-loop μ-loop
-add-i c = omega arith
+number-at-requires-5 : tie.Need-number-at-requires-5
+number-at-requires-5 c κs = omega (arith, lead (c .before) .pre)
 
-loop-less : tie.Need-loop-less Inv-loop μ-loop
-loop-less c = omega arith
+number-at-requires-6 : tie.Need-number-at-requires-6
+number-at-requires-6 c κs = omega (arith, lead (c .before .before) .pre)
 
-loop-again : tie.Need-loop-again Inv-loop μ-loop
-loop-again c =
-    let g = c .before .before .before .before .before .before .loop in
-    let s = c .before .before .before .before .before .before .before .before .args .s .now in
-    let f = c .before .before .before .before .entry-at .result in
-    let h : g .i < length layout = rw layout-length (omega arith) in
-    let judged = field-judged f s _ _ (c .before .before .before .bytes-at .ensures .0) (c .before .before .field-in .ensures) in
-    let value = field-value f s _ _ (c .before .before .before .bytes-at .ensures .0) (c .before .before .field-in .ensures) in (
-      omega arith,
-      length-set (g .values) (g .i) _ ∙ g .inv .1,
-      rw (c .or-else .ensures, c .before .judged .ensures, judged, c .before .before .before .before .entry-at .ensures) (walk-next (g .verdict) layout s (g .i) h ∙ g .inv .2),
-      rw (value, c .before .before .before .before .entry-at .ensures, ← value-at layout s (g .i) h)
-          (copy-next (g .values) (valuesIn layout s) (g .i) (omega arith) (rw length-values h) (g .inv .3)),
-    )
+number-at-requires-7 : tie.Need-number-at-requires-7
+number-at-requires-7 c κs = omega (arith, lead (c .before .before .before) .pre)
 
-returns : tie.Need-returns Inv-loop μ-loop
+number-at-requires-8 : tie.Need-number-at-requires-8
+number-at-requires-8 c κs = omega (arith, lead (c .before .before .before .before) .pre)
+
+number-at-requires-9 : tie.Need-number-at-requires-9
+number-at-requires-9 c κs = omega (arith, lead (c .before .before .before .before .before) .pre)
+
+number-at-requires-10 : tie.Need-number-at-requires-10
+number-at-requires-10 c κs = omega (arith, lead (c .before .before .before .before .before .before) .pre)
+
+number-at-requires-11 : tie.Need-number-at-requires-11
+number-at-requires-11 c κs = omega (arith, sized (c .before) .pre)
+
+number-at-requires-12 : tie.Need-number-at-requires-12
+number-at-requires-12 c κs = omega (arith, sized (c .before .before) .pre)
+
+number-at-requires-13 : tie.Need-number-at-requires-13
+number-at-requires-13 c κs = omega (arith, sized (c .before .before .before) .pre)
+
+number-at-requires-14 : tie.Need-number-at-requires-14
+number-at-requires-14 c κs = omega (arith, sized (c .before .before .before .before) .pre)
+
+number-at-requires-15 : tie.Need-number-at-requires-15
+number-at-requires-15 c κs = omega (arith, sized (c .before .before .before .before .before) .pre)
+
+number-at-requires-16 : tie.Need-number-at-requires-16
+number-at-requires-16 c κs = omega (arith, sized (c .before .before .before .before .before .before) .pre)
+
+name-at-requires : tie.Need-name-at-requires
+name-at-requires c κs = omega (arith, sized (c .before .before .before .before .before .before .before) .pre)
+
+flag-at-requires : tie.Need-flag-at-requires
+flag-at-requires c κs = omega (arith, sized (c .before .before .before .before .before .before .before .before) .pre)
+
+returns : tie.Need-returns
 unfolding layout
 returns c =
-    let g = c .before .loop in
-    let s = c .before .before .before .args .s .now in
-    let e : g .i ≡ 20 = omega arith in
-    let verdict : g .verdict ≡ walk layout s = sym (orElse-accepted (g .verdict)) ∙ (rw e at (g .inv .2)) in
-    let values : g .values ≡ valuesIn layout s = sym (take-all 20 (g .values) (omega arith)) ∙ (rw e at (g .inv .3)) in
-    cc
+    let bad = c .before in
+    let pvb = bad .before in
+    let pcb = pvb .before in
+    let por = pcb .before in
+    let rod = por .before in
+    let cod = rod .before in
+    let pnl = cod .before in
+    let pnc = pnl .before in
+    let nfc = pnc .before in
+    let nfl = nfc .before in
+    let nls = nfl .before in
+    let nll = nls .before in
+    let nus = nll .before in
+    let nul = nus .before in
+    let pso = nul .before in
+    let lso = pso .before .before in
+    let brv = lso .before .before in
+    let arv = brv .before in
+    let str = arv .before in
+    let passed : Passed (str .before .before .args .s .now) layout Verdict.Accepted _ _ =
+    str .number-at .ensures ▸ arv .number-at2 .ensures ▸ brv .number-at3 .ensures ▸
+    lso .angle-at .ensures ▸ pso .angle-at2 .ensures ▸
+    nul .number-at4 .ensures ▸ nus .number-at5 .ensures ▸ nll .number-at6 .ensures ▸ nls .number-at7 .ensures ▸
+    nfl .number-at8 .ensures ▸ nfc .number-at9 .ensures ▸ pnc .number-at10 .ensures ▸ pnl .number-at11 .ensures ▸
+    cod .number-at12 .ensures ▸ rod .number-at13 .ensures ▸ por .number-at14 .ensures ▸ pcb .number-at15 .ensures ▸ pvb .number-at16 .ensures ▸
+    bad .name-at .ensures ▸ c .flag-at .ensures ▸ end in
+    record { walks = passed-walk passed; kept = passed-values passed }
 
 pub fields-in-spec : {M : Type 1} → statement M
 fields-in-spec =
     tie.close
     (tie.spec
-    Inv-loop
-    μ-loop
-    loop-holds
-    entry-at-requires
-    bytes-at-requires
-    field-in-requires
-    judged-requires
-    or-else-requires
-    mul-values
-    array-write-values
-    add-i
-    loop-less
-    loop-again
+    number-at-requires
+    number-at-requires-2
+    number-at-requires-3
+    digits-at-requires
+    angle-at-requires
+    digits-at-requires-2
+    angle-at-requires-2
+    number-at-requires-4
+    number-at-requires-5
+    number-at-requires-6
+    number-at-requires-7
+    number-at-requires-8
+    number-at-requires-9
+    number-at-requires-10
+    number-at-requires-11
+    number-at-requires-12
+    number-at-requires-13
+    number-at-requires-14
+    number-at-requires-15
+    number-at-requires-16
+    name-at-requires
+    flag-at-requires
     returns)

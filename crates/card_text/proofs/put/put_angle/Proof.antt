@@ -93,7 +93,7 @@ returns c =
     let e4 = run-next (a .o) _ x3 _ s _ _ e3 (omega arith) (omega arith) (p4 .put-number3 .ensures) in
     let e5 = run-next (a .o) _ x4 _ s _ _ e4 (omega arith) (omega arith) (p5 .put-byte2 .ensures) in
     let e6 = run-next (a .o) _ x5 _ s _ _ e5 (omega arith) (omega arith) (p6 .put-number4 .ensures) in
-    e6 ∙ rw (p1 .before .before .before .size-of .ensures, p1 .before .byte-if .ensures, sign-is (a .x) (a .limit))
+    e6 ∙ rw (p1 .before .before .before .size-of .ensures .0, p1 .before .byte-if .ensures, sign-is (a .x) (a .limit))
 
 pub put-angle-spec : {M : Type 1} → statement M
 put-angle-spec =

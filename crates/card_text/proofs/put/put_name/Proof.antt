@@ -54,7 +54,7 @@ returns c =
     let a = c .before .before .before .args in
     let e : g .j ≡ 12 = omega arith in
     let lx : length (a .t3) ≡ 12 = search needs in
-    g .inv .2 ∙ rw (e, take-all 12 (a .t3) (omega arith))
+    (g .inv .2 ∙ rw (e, take-all 12 (a .t3) (omega arith)), lx)
 
 pub put-name-spec : {M : Type 1} → statement M
 put-name-spec =

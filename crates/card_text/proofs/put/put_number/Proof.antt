@@ -11,10 +11,13 @@ use Rattle.card_text.proofs.put.put_number.Statement.{statement}
 use Rattle.card_text.proofs.put.put_number.Tie as tie
 
 abbrev Inv-loop : tie.InvT-loop
-Inv-loop out₀ o w v j₀ out j = (j ≤ w) × (length out ≡ length out₀) × (out ≡ splice o (take j (digits w v)) out₀)
+Inv-loop out₀ o w v n₀ j₀ out j = (j ≤ w) × (length out ≡ length out₀) × (out ≡ splice o (take j (digits w v)) out₀)
 
 abbrev μ-loop : tie.MeasureT-loop
-μ-loop out₀ o w v j₀ out j = w - j
+μ-loop out₀ o w v n₀ j₀ out j = w - j
+
+cast-n : tie.Need-cast-n Inv-loop μ-loop
+cast-n c = omega arith
 
 loop-holds : tie.Need-loop-holds Inv-loop μ-loop
 loop-holds c = (omega arith, refl, sym (splice-nil _ _))
@@ -78,6 +81,7 @@ put-number-spec =
     (tie.spec
     Inv-loop
     μ-loop
+    cast-n
     loop-holds
     sub-power
     sub-power-2

@@ -17,8 +17,8 @@ use Rattle.arc.specs.Refusals.{refusal}
 use Rattle.card.specs.Write.{first, recordTests, writeIn}
 use Rattle.card_text.specs.Spliced.{splice, countTests, outIn}
 use Rattle.card_text.proofs.Splices.{splice-over}
-use Rattle.card_text.proofs.Tests.{inside-is, counts-refused, rows-refused, columns-refused, extents-judged}
-use Rattle.card_text.proofs.Written.{codes-are}
+use Rattle.card_text.proofs.Tests.{inside-is, narrow, counts-refused, rows-refused, columns-refused, extents-judged}
+use Rattle.card_text.proofs.Written.{held-are}
 use borrow.Author.Needs.{needs}
 use Rattle.card_text.proofs.write.write_spaced.Statement.{statement}
 use Rattle.card_text.proofs.write.write_spaced.Tie as tie
@@ -162,9 +162,11 @@ returns-6 c =
 put-card-requires : tie.Need-put-card-requires
 put-card-requires c κs =
     let x = c .before .before in
-    let s = start (counted x) in (
+    let s = start (counted x) in
+    let north = rows (x .before .before .before .before .before .before) in
+    let held = sym (x .extents-hold .ensures) ∙ not-false (x .extents-hold .result) (c .before .if3 .left) in (
       counted x .before .before .before .if2 .left,
-      (s .pre .0, (s .pre .1, (omega (arith, rows (x .before .before .before .before .before .before) .high), omega (arith, columns (x .before) .high)))),
+      (s .pre .0, (s .pre .1, ((omega (arith, north .high), omega (arith, columns (x .before) .high)), narrow (s .args .r) (s .args .a) _ (right (counted x)) held))),
     )
 
 same-length : tie.Need-same-length
@@ -175,7 +177,7 @@ returns-7 c =
     let x = c .before .before .before .before .before in
     let s = start (counted x) in
     let codes =
-    codes-are (s .args .a) (s .args .b) _ _ (s .args .r) (s .pre .0) (s .pre .1) (inside-is _ _ _ (rows (x .before .before .before .before .before .before))) (inside-is _ _ _ (columns (x .before))) in
+    held-are (s .args .a) (s .args .b) _ _ (s .args .r) (s .pre .0) (s .pre .1) (inside-is _ _ _ (rows (x .before .before .before .before .before .before))) (inside-is _ _ _ (columns (x .before))) in
     rw (answered (counted x) (judged x), not-false (x .extents-hold .result) (c .before .before .before .before .if3 .left))
     (refl, c .before .before .put-card .ensures ∙ ap (λ (t : List ℕ). splice 0 t (s .args .out .now)) codes ∙ splice-over _ _)
 

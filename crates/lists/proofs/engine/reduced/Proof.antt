@@ -1,6 +1,6 @@
 -- At most twice a is below a once a or twice a is taken off. Assumes nothing.
 use mathlib.Core.Path.{sym, ap, _∙_}
-use Prim.Native.Nat.{ℕ, _-_, _*_, _%_}
+use Prim.Native.Nat.{ℕ, _-_, _%_}
 use native.Mathlib.Nat.{mod-eq-of-lt, add-mod-right, mul-mod-left}
 use native.Mathlib.Omega.{arith}
 use Rattle.lists.proofs.engine.reduced.Statement.{statement}

@@ -1,0 +1,39 @@
+-- The byte is the subfield's first; it is Y, or it is tested for N. Assumes nothing.
+use mathlib.Core.Path.{_≡_, refl, _∙_}
+use mathlib.Core.Bool.{Bool, true, false, cond}
+use native.Mathlib.Nat.{add-zero}
+use native.Mathlib.Omega.{arith}
+use lib.Dec.{eqb}
+use lib.ListN.{getD}
+use mir.Val.{boolByte}
+use Rattle.card.specs.declared.Kind.{Kind}
+use Rattle.card.specs.Text.{part}
+use Rattle.card.specs.Layout.{sub}
+use Rattle.card_text.proofs.Runs.{part-at}
+use Rattle.card_text.proofs.Table.{field-at}
+use borrow.Author.Needs.{needs}
+use Rattle.card_text.proofs.fields.flag_at.Statement.{statement}
+use Rattle.card_text.proofs.fields.flag_at.Tie as tie
+
+-- a test as a number
+one-or-none : (t : Bool) → boolByte t ≡ cond t 1 0
+one-or-none true = refl
+one-or-none false = refl
+
+shared-slice-read-b : tie.Need-shared-slice-read-b
+shared-slice-read-b c = search needs
+
+cast-joined : tie.Need-cast-joined
+cast-joined c = search needs
+
+joined-requires : tie.Need-joined-requires
+joined-requires c κs = search needs
+
+returns : tie.Need-returns
+returns c =
+    let a = c .before .before .before .args in
+    let b : getD (part (a .o) 1 (a .s .now)) 0 0 ≡ getD (a .s .now) (a .o) 0 = part-at (a .o) 0 1 (a .s .now) (omega arith) ∙ rw add-zero in
+    field-at (sub (a .o) 1 Kind.Flag) (a .s .now) (a .before .verdict) _ _ _ _ (c .joined .ensures) refl (λ e. (rw b, rw b (one-or-none (eqb (getD (a .s .now) (a .o) 0) 89))))
+
+pub flag-at-spec : {M : Type 1} → statement M
+flag-at-spec = tie.close (tie.spec shared-slice-read-b cast-joined joined-requires returns)

@@ -1,0 +1,27 @@
+-- The bytes are tested as the definition does. Assumes nothing.
+use mathlib.Core.Path.{refl, ap, _∙_}
+use Rattle.card.specs.declared.Kind.{Kind}
+use Rattle.card.specs.Text.{nameLaid}
+use Rattle.card.specs.Layout.{sub}
+use Rattle.card_text.proofs.Table.{field-at}
+use borrow.Author.Needs.{needs}
+use Rattle.card_text.proofs.fields.name_at.Statement.{statement}
+use Rattle.card_text.proofs.fields.name_at.Tie as tie
+
+bytes-at-requires : tie.Need-bytes-at-requires
+bytes-at-requires c κs = search needs
+
+name-laid-requires : tie.Need-name-laid-requires
+name-laid-requires c κs = search needs
+
+joined-requires : tie.Need-joined-requires
+joined-requires c κs = search needs
+
+returns : tie.Need-returns
+returns c =
+    let a = c .before .before .before .before .args in
+    field-at (sub (a .o) 12 Kind.Name) (a .s .now) (a .before .verdict) _ _ _ _ (c .joined .ensures)
+    (c .before .name-laid .ensures ∙ ap nameLaid (c .before .before .bytes-at .ensures .0)) (λ e. (refl, refl))
+
+pub name-at-spec : {M : Type 1} → statement M
+name-at-spec = tie.close (tie.spec bytes-at-requires name-laid-requires joined-requires returns)

@@ -1,0 +1,27 @@
+-- Where each byte is a digit, the value and its test are those of the number. Assumes nothing.
+use mathlib.Core.Path.{ap}
+use mathlib.Core.Bool.{_&&_}
+use Prim.Native.Nat.{ℕ}
+use lib.Dec.{leb}
+use Rattle.card.specs.declared.Kind.{Kind}
+use Rattle.card.specs.Layout.{sub}
+use Rattle.card_text.proofs.Table.{field-at}
+use borrow.Author.Needs.{needs}
+use Rattle.card_text.proofs.fields.number_at.Statement.{statement}
+use Rattle.card_text.proofs.fields.number_at.Tie as tie
+
+digits-at-requires : tie.Need-digits-at-requires
+digits-at-requires c κs = search needs
+
+joined-requires : tie.Need-joined-requires
+joined-requires c κs = search needs
+
+returns : tie.Need-returns
+returns c =
+    let a = c .before .before .before .before .before .args in
+    let n = c .before .before .before .digits-at .ensures in
+    field-at (sub (a .o) (a .w) (Kind.Number (a .low) (a .high))) (a .s .now) (a .before .verdict) _ _ _ _ (c .joined .ensures) (n .tested)
+    (λ e. (ap (λ (v : ℕ). leb (a .low) v && leb v (a .high)) (n .read e), n .read e))
+
+pub number-at-spec : {M : Type 1} → statement M
+number-at-spec = tie.close (tie.spec digits-at-requires joined-requires returns)
