@@ -95,7 +95,7 @@ unfoldable pub writeOf : ℕ → ℕ → Record → List ℕ → Verdict
 writeOf scale zone r out = writeIn zone (spacingOf scale zone) r (length out)
 
 -- the card, and the output past 98 bytes as it was
-abbrev pub over : List ℕ → List ℕ → List ℕ
+abbrev pub over : {A : Type 0} → List A → List A → List A
 over card out = card ++ drop (length card) out
 
 abbrev pub textFor : SpacingAnswer → Record → List ℕ

@@ -17,9 +17,10 @@ use mir.ValLaws.{toZ-ofZ}
 use Rattle.arc.specs.Refusals.{Report}
 use Rattle.card.specs.declared.PositionAnswer.{PositionAnswer}
 use Rattle.card.specs.declared.PixelAnswer.{PixelAnswer}
+use Rattle.card.specs.Write.{over}
 use Rattle.card.specs.Grid.{positionReport, pixelReport}
 use Rattle.card.proofs.Laid.{both}
-use Rattle.lists.specs.Lists.{each, valuesIn, numbersIn, over, pairs, listsFit}
+use Rattle.lists.specs.Lists.{each, valuesIn, numbersIn, pairs, listsFit}
 
 module _ {A : Type 0} where
   pub length-over : (xs out : List A) → length xs ≤ length out → length (over xs out) ≡ length out

@@ -7,18 +7,18 @@
 --     positionAt k ps i      the report of pixel i of the list, a pair of row and column
 --     pixelOfEach k qs i     the report of position i of the list, a pair of latitude and longitude
 --     valuesIn, numbersIn    the value parts, and the numbers, of the first n reports
---     over xs out            xs, and then what out has past it
 --     valuesLeft, numbersLeft    what the list to fill and the numbers hold at the end
 use Prim.Native.Nat.{ℕ, zero, suc, _+_, _*_, _/_, _%_}
 use mathlib.Core.List.{List, [], _∷_, _++_}
 use mathlib.Core.Bool.{Bool, cond, _&&_}
 use lib.Dec.{leb, eqb}
-use lib.ListN.{length, getD, drop}
+use lib.ListN.{length, getD}
 use lib.IntN.{ℤ, pos}
 use Rattle.arc.specs.declared.Verdict.{Verdict}
 use Rattle.arc.specs.Refusals.{refusal, Report}
 use Rattle.card.specs.declared.Card.{Card}
 use Rattle.lists.specs.declared.Pair.{Pair}
+use Rattle.card.specs.Write.{over}
 use Rattle.card.specs.Grid.{positionOf, pixelOf, positionReport, pixelReport}
 
 abbrev pub each : {A : Type 0} → ℕ → (ℕ → List A) → List A
@@ -48,9 +48,6 @@ valuesIn n f = each n (λ i. f i .values)
 
 abbrev pub numbersIn : ℕ → (ℕ → Report) → List ℕ
 numbersIn n f = each n (λ i. f i .number ∷ [])
-
-abbrev pub over : {A : Type 0} → List A → List A → List A
-over xs out = xs ++ drop (length xs) out
 
 -- what is left in the list to fill, and in the numbers, f being the reports of the pairs handed in: as they were on a refusal
 abbrev pub valuesLeft : (List ℤ → ℕ → Report) → List ℤ → List ℤ → List ℕ → List ℤ

@@ -7,8 +7,9 @@ ghost use mathlib.Core.Bool.{true};
 ghost use Prim.Native.Nat.{_+_, _*_, _<_};
 ghost use lib.ListN.{length, set};
 ghost use Rattle.card.specs.Read.{Known};
+ghost use Rattle.card.specs.Write.{over};
 ghost use Rattle.lists.specs.Engine.{Made};
-ghost use Rattle.lists.specs.Lists.{listsFit, listsVerdict, pairs, pairAt, positionAt, pixelOfEach, valuesIn, numbersIn, over, valuesLeft, numbersLeft};
+ghost use Rattle.lists.specs.Lists.{listsFit, listsVerdict, pairs, pairAt, positionAt, pixelOfEach, valuesIn, numbersIn, valuesLeft, numbersLeft};
 
 mod engine;
 

@@ -1,0 +1,176 @@
+//! Questions d and e: card read, card write.
+
+use std::hint::black_box;
+
+use crate::inputs::{sheet, Sheet, Written, SCALES};
+use crate::plain::{self, Card, Record, Refusal, CARD};
+use crate::random::Random;
+use crate::raw;
+use crate::timing::{differ, measure, Form};
+
+const SET: usize = 1024;
+
+/// Card read: valid cards of every scale and zone, one in eight damaged in one byte.
+pub fn read(random: &mut Random) {
+    let valid: Vec<Written> = sheets(random).iter().map(Sheet::write).collect();
+    let mut mixed = valid.clone();
+    for card in mixed.iter_mut().step_by(8) {
+        damage(random, card);
+    }
+    read_set("d card read, valid", &valid);
+    read_set("d card read, 1 in 8 damaged", &mixed);
+}
+
+fn sheets(random: &mut Random) -> Vec<Sheet> {
+    let scale = |i: usize| SCALES[i % SCALES.len()];
+    (0..SET).map(|i| sheet(random, scale(i / 8))).collect()
+}
+
+fn damage(random: &mut Random, card: &mut Written) {
+    let at = random.below(CARD as u64) as usize;
+    card.bytes[at] = random.within(32, 126) as u8;
+}
+
+fn read_set(question: &str, cards: &[Written]) {
+    let plain: Vec<_> = cards.iter().map(read_plain).collect();
+    let ours: Vec<_> = cards.iter().map(|card| answer(&read_ours(card))).collect();
+    let forms = vec![
+        Form::new("plain", String::new(), || {
+            let sum = |sum: u64, card| match black_box(read_plain(card)) {
+                Ok(card) => sum.wrapping_add((card.n + card.m + card.nus) as u64),
+                Err(refusal) => sum.wrapping_add(u64::from(refusal.number) + refusal.at),
+            };
+            cards.iter().fold(0, sum)
+        }),
+        Form::new("ours", differ(&plain, &ours), || {
+            let sum = |sum: u64, card| {
+                let card = black_box(read_ours(card));
+                if card.number == 0 {
+                    sum.wrapping_add((card.n + card.m) as u64 + card.nus)
+                } else {
+                    sum.wrapping_add(u64::from(card.number) + card.at)
+                }
+            };
+            cards.iter().fold(0, sum)
+        }),
+    ];
+    measure(question, cards.len(), forms);
+}
+
+fn read_plain(card: &Written) -> Result<Card, Refusal> {
+    plain::read::read_card(card.scale, card.zone, &card.bytes)
+}
+
+fn read_ours(card: &Written) -> raw::Card {
+    unsafe { raw::fordcask_read_card(card.scale, card.zone, card.bytes.as_ptr(), CARD) }
+}
+
+fn answer(card: &raw::Card) -> Result<Card, Refusal> {
+    if card.number != 0 {
+        return Err(Refusal {
+            number: card.number,
+            at: card.at,
+        });
+    }
+    Ok(Card {
+        a: card.a as i64,
+        b: card.b as i64,
+        n: card.n,
+        m: card.m,
+        nul: card.nul as i64,
+        nus: card.nus as i64,
+        nll: card.nll as i64,
+        nls: card.nls as i64,
+        nfl: card.nfl as i64,
+        nfc: card.nfc as i64,
+        bad: card.bad,
+        tif: card.tif != 0,
+    })
+}
+
+/// Card write: valid records, then with one in eight refused.
+pub fn write(random: &mut Random) {
+    let valid = sheets(random);
+    let mut mixed = valid.clone();
+    for sheet in mixed.iter_mut().step_by(8) {
+        spoil(random, &mut sheet.record);
+    }
+    write_set("e card write, valid", &valid);
+    write_set("e card write, 1 in 8 refused", &mixed);
+}
+
+fn spoil(random: &mut Random, record: &mut Record) {
+    match random.below(5) {
+        0 => record.nfl = 1_000,
+        1 => record.bad[random.below(12) as usize] = b'a',
+        2 => record.n += 10_000_000,
+        3 => record.nus = 128 * record.nfc,
+        _ => record.nfc = 0,
+    }
+}
+
+fn write_set(question: &str, sheets: &[Sheet]) {
+    let records = sheets.iter().map(|sheet| foreign(&sheet.record));
+    let ours: Vec<(&Sheet, raw::Record)> = sheets.iter().zip(records).collect();
+    let mut out = [0; CARD];
+    let plain_bytes: Vec<_> = sheets
+        .iter()
+        .map(|sheet| (write_plain(sheet, &mut out), out))
+        .collect();
+    out = [0; CARD];
+    let our_bytes: Vec<_> = ours
+        .iter()
+        .map(|(sheet, record)| (write_ours(sheet, record, &mut out), out))
+        .collect();
+    let forms = vec![
+        Form::new("plain", String::new(), || {
+            let mut out = [0; CARD];
+            let sum = |sum: u64, sheet| {
+                let done = write_plain(sheet, &mut out);
+                sum.wrapping_add(u64::from(done.number) + u64::from(black_box(&out)[20]))
+            };
+            sheets.iter().fold(0, sum)
+        }),
+        Form::new("ours", differ(&plain_bytes, &our_bytes), || {
+            let mut out = [0; CARD];
+            let sum = |sum: u64, (sheet, record): &(&Sheet, raw::Record)| {
+                let done = write_ours(sheet, record, &mut out);
+                sum.wrapping_add(u64::from(done.number) + u64::from(black_box(&out)[20]))
+            };
+            ours.iter().fold(0, sum)
+        }),
+    ];
+    measure(question, sheets.len(), forms);
+}
+
+fn write_plain(sheet: &Sheet, out: &mut [u8; CARD]) -> Refusal {
+    match plain::write::write_card(sheet.scale, sheet.zone, &sheet.record, out) {
+        Ok(()) => Refusal { number: 0, at: 0 },
+        Err(refusal) => refusal,
+    }
+}
+
+fn write_ours(sheet: &Sheet, record: &raw::Record, out: &mut [u8; CARD]) -> Refusal {
+    let (scale, zone) = (sheet.scale, sheet.zone);
+    let done =
+        unsafe { raw::fordcask_write_card(scale, zone, *record, out.as_mut_ptr(), out.len()) };
+    Refusal {
+        number: done.number,
+        at: done.at,
+    }
+}
+
+fn foreign(record: &Record) -> raw::Record {
+    raw::Record {
+        n: record.n,
+        m: record.m,
+        nul: record.nul,
+        nus: record.nus,
+        nll: record.nll,
+        nls: record.nls,
+        nfl: record.nfl,
+        nfc: record.nfc,
+        bad: record.bad,
+        tif: u8::from(record.tif),
+    }
+}

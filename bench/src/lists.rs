@@ -1,0 +1,152 @@
+//! Questions a and b: many pixels, or many positions, of one card in one call.
+
+use std::hint::black_box;
+
+use crate::inputs::{largest, pixel, position, Written};
+use crate::plain::{self, Refusal};
+use crate::random::Random;
+use crate::timing::{differ, measure, Form};
+use crate::{doubles, exact, raw};
+
+const LIST: usize = 4096;
+const SCALES: [(u64, &str); 3] = [
+    (5_000, "1:5,000"),
+    (1_000_000, "1:1,000,000"),
+    (20_000_000, "1:20,000,000"),
+];
+
+/// Scale, zone, card, pairs asked, pairs answered, numbers.
+type List = fn(u64, u64, &[u8], &[i64], &mut [i64], &mut [u32]) -> Result<(), Refusal>;
+
+pub fn positions(random: &mut Random) {
+    let forms: [(&'static str, List); 4] = [
+        ("plain", plain::grid::positions),
+        ("ours", our_positions),
+        ("doubles", doubles::positions),
+        ("exact", exact::positions),
+    ];
+    for (scale, name) in SCALES {
+        let sheet = largest(random, scale);
+        let asked = pairs(|| pixel(random, &sheet.record));
+        list(
+            &format!("a pixels to positions, {name}"),
+            &sheet.write(),
+            &asked,
+            &forms,
+        );
+    }
+}
+
+pub fn pixels(random: &mut Random) {
+    let forms: [(&'static str, List); 4] = [
+        ("plain", plain::grid::pixels),
+        ("ours", our_pixels),
+        ("doubles", doubles::pixels),
+        ("exact", exact::pixels),
+    ];
+    for (scale, name) in SCALES {
+        let card = largest(random, scale).write();
+        let read = plain::read::read_card(scale, card.zone, &card.bytes).expect("a valid card");
+        let asked = pairs(|| position(random, &read));
+        list(
+            &format!("b positions to pixels, {name}"),
+            &card,
+            &asked,
+            &forms,
+        );
+    }
+}
+
+fn pairs(mut next: impl FnMut() -> (i64, i64)) -> Vec<i64> {
+    (0..LIST).flat_map(|_| <[i64; 2]>::from(next())).collect()
+}
+
+fn list(question: &str, card: &Written, asked: &[i64], forms: &[(&'static str, List)]) {
+    let ask = |form: List, answers: &mut [i64], numbers: &mut [u32]| {
+        let card = black_box(card);
+        let done = form(card.scale, card.zone, &card.bytes, asked, answers, numbers);
+        assert!(done.is_ok(), "{done:?}");
+    };
+    let answers_of = |form: List| -> Vec<(u32, i64, i64)> {
+        let (mut answers, mut numbers) = (vec![7; 2 * LIST], vec![7; LIST]);
+        ask(form, &mut answers, &mut numbers);
+        let pairs = answers.chunks_exact(2).zip(&numbers);
+        pairs
+            .map(|(pair, &number)| (number, pair[0], pair[1]))
+            .collect()
+    };
+    let plain = answers_of(forms[0].1);
+    let timed = forms.iter().enumerate().map(|(i, &(name, form))| {
+        let agrees = match i {
+            0 => refused(&plain),
+            _ => differ(&plain, &answers_of(form)),
+        };
+        let (mut answers, mut numbers) = (vec![0; 2 * LIST], vec![0; LIST]);
+        Form::new(name, agrees, move || {
+            ask(form, &mut answers, &mut numbers);
+            let last = black_box(&answers)[2 * LIST - 1] as u64;
+            last.wrapping_add(u64::from(black_box(&numbers)[LIST - 1]))
+        })
+    });
+    measure(question, LIST, timed.collect());
+}
+
+fn refused(answers: &[(u32, i64, i64)]) -> String {
+    let count = answers.iter().filter(|answer| answer.0 != 0).count();
+    format!("{count} of {LIST} refused")
+}
+
+fn done(refusal: raw::Refusal) -> Result<(), Refusal> {
+    match refusal.number {
+        0 => Ok(()),
+        number => plain::refuse(number, refusal.at),
+    }
+}
+
+fn our_positions(
+    scale: u64,
+    zone: u64,
+    card: &[u8],
+    pixels: &[i64],
+    positions: &mut [i64],
+    numbers: &mut [u32],
+) -> Result<(), Refusal> {
+    done(unsafe {
+        raw::fordcask_positions(
+            scale,
+            zone,
+            card.as_ptr(),
+            card.len(),
+            pixels.as_ptr(),
+            pixels.len(),
+            positions.as_mut_ptr(),
+            positions.len(),
+            numbers.as_mut_ptr(),
+            numbers.len(),
+        )
+    })
+}
+
+fn our_pixels(
+    scale: u64,
+    zone: u64,
+    card: &[u8],
+    positions: &[i64],
+    pixels: &mut [i64],
+    numbers: &mut [u32],
+) -> Result<(), Refusal> {
+    done(unsafe {
+        raw::fordcask_pixels(
+            scale,
+            zone,
+            card.as_ptr(),
+            card.len(),
+            positions.as_ptr(),
+            positions.len(),
+            pixels.as_mut_ptr(),
+            pixels.len(),
+            numbers.as_mut_ptr(),
+            numbers.len(),
+        )
+    })
+}

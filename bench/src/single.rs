@@ -1,0 +1,83 @@
+//! Question c: one pixel or one position of a card in one call, the card's bytes read each time.
+
+use crate::inputs::{pixel, position, sheet, Sheet, Written, SCALES};
+use crate::plain::{self, grid::Pair, Refusal, CARD};
+use crate::random::Random;
+use crate::raw;
+use crate::timing::both;
+
+const SET: usize = 1024;
+
+struct Asked {
+    card: Written,
+    first: i64,
+    second: i64,
+}
+
+type Answer = (u32, u64, i64, i64);
+
+pub fn position_calls(random: &mut Random) {
+    let asked = questions(random, |random, sheet, _| pixel(random, &sheet.record));
+    let plain = |ask: &Asked| {
+        let card = &ask.card;
+        let found =
+            plain::grid::position(card.scale, card.zone, &card.bytes, ask.first, ask.second);
+        answer(found)
+    };
+    let ours = |ask: &Asked| {
+        let card = &ask.card;
+        let bytes = card.bytes.as_ptr();
+        let found = unsafe {
+            raw::fordcask_position(card.scale, card.zone, bytes, CARD, ask.first, ask.second)
+        };
+        (found.number, found.at, found.lat, found.lon)
+    };
+    both("c pixel to position, single call", &asked, plain, ours, sum);
+}
+
+pub fn pixel_calls(random: &mut Random) {
+    let asked = questions(random, |random, _, card| position(random, card));
+    let plain = |ask: &Asked| {
+        let card = &ask.card;
+        let found = plain::grid::pixel(card.scale, card.zone, &card.bytes, ask.first, ask.second);
+        answer(found)
+    };
+    let ours = |ask: &Asked| {
+        let card = &ask.card;
+        let bytes = card.bytes.as_ptr();
+        let found = unsafe {
+            raw::fordcask_pixel(card.scale, card.zone, bytes, CARD, ask.first, ask.second)
+        };
+        (found.number, found.at, found.row, found.column)
+    };
+    both("c position to pixel, single call", &asked, plain, ours, sum);
+}
+
+fn answer(found: Result<Pair, Refusal>) -> Answer {
+    match found {
+        Ok((first, second)) => (0, 0, first, second),
+        Err(refusal) => (refusal.number, refusal.at, 0, 0),
+    }
+}
+
+fn questions(
+    random: &mut Random,
+    next: impl Fn(&mut Random, &Sheet, &plain::Card) -> Pair,
+) -> Vec<Asked> {
+    let one = |i: usize| {
+        let sheet = sheet(random, SCALES[i / 8 % SCALES.len()]);
+        let card = sheet.write();
+        let read = plain::read::read_card(card.scale, card.zone, &card.bytes);
+        let (first, second) = next(random, &sheet, &read.expect("a valid card"));
+        Asked {
+            card,
+            first,
+            second,
+        }
+    };
+    (0..SET).map(one).collect()
+}
+
+fn sum(answer: &Answer) -> u64 {
+    u64::from(answer.0) + answer.1 + (answer.2 ^ answer.3) as u64
+}

@@ -1,0 +1,39 @@
+//! Scanned charts in the ARC raster system: zones and their spacing, image cards, positions of
+//! pixels, and stored tiles.
+//!
+//! Angles are whole hundredths of an arc-second: latitude -32,400,000 to 32,400,000, longitude
+//! -64,800,000 to 64,800,000. Each function answers or refuses for every number, byte and length
+//! handed in; a [`Refusal`] carries the number of document 01 and a place.
+//!
+//! ```
+//! use fordcask::{Pixel, Position, Refusal, Sheet};
+//!
+//! let card = b"30036966400400384-0022935.07+113032.23000000000127000255000000\
+//!              00200100012800012801008BASE0101.IMGN";
+//! let sheet = Sheet { scale: 1_000_000, zone: 1, card };
+//! let position = sheet.position(Pixel { row: 1, column: 1 })?;
+//! assert_eq!(position, Position { lat: 4_142_899, lon: -897_156 });
+//! assert_eq!(sheet.pixel(position)?, Pixel { row: 1, column: 1 });
+//! let outside = sheet.position(Pixel { row: 256, column: 0 });
+//! assert_eq!(outside, Err(Refusal { number: 12, at: 0 }));
+//! # Ok::<(), Refusal>(())
+//! ```
+
+#![warn(missing_docs)]
+
+mod card;
+mod position;
+pub mod raw;
+mod refusal;
+mod sheet;
+mod tiles;
+mod zone;
+
+pub use card::{read_card, write_card, Card, Record, CARD_LENGTH};
+pub use position::{offset, Offset, Pixel, Place, Position};
+pub use refusal::Refusal;
+pub use sheet::Sheet;
+pub use tiles::{Bands, Tiles, Window, TILE_LENGTH};
+pub use zone::{
+    align, basic_zone, cover, rectangle, spacing, Cover, Origin, Rectangle, Spacing, Zones,
+};

@@ -1,0 +1,292 @@
+//! The C entry points as they are. A slice is a pointer and a length in elements.
+//!
+//! `number` 0 means answered, else it is the refusal's number and `at` its place.
+//! In a refusal every other field is 0. Pointers are not null (any aligned address where the
+//! length is 0), and lent buffers do not overlap.
+#![allow(missing_docs)]
+
+/// A refusal alone.
+#[repr(C)]
+#[derive(Clone, Copy, Debug, PartialEq)]
+pub struct Refusal {
+    pub number: u32,
+    pub at: u64,
+}
+
+/// A and B, pixels in the circle.
+#[repr(C)]
+#[derive(Clone, Copy, Debug, PartialEq)]
+pub struct Spacing {
+    pub number: u32,
+    pub at: u64,
+    pub a: u64,
+    pub b: u64,
+}
+
+/// A zone number.
+#[repr(C)]
+#[derive(Clone, Copy, Debug, PartialEq)]
+pub struct Zone {
+    pub number: u32,
+    pub at: u64,
+    pub zone: u64,
+}
+
+/// The zones covering a latitude; unused slots are 0.
+#[repr(C)]
+#[derive(Clone, Copy, Debug, PartialEq)]
+pub struct Cover {
+    pub number: u32,
+    pub at: u64,
+    pub length: u64,
+    pub zones: [u64; 6],
+}
+
+/// The zones of a rectangle; unused slots are 0.
+#[repr(C)]
+#[derive(Clone, Copy, Debug, PartialEq)]
+pub struct Rectangle {
+    pub number: u32,
+    pub at: u64,
+    pub length: u64,
+    pub zones: [u64; 18],
+}
+
+/// An origin and the two angles a card stores for it.
+#[repr(C)]
+#[derive(Clone, Copy, Debug, PartialEq)]
+pub struct Origin {
+    pub number: u32,
+    pub at: u64,
+    pub n: i64,
+    pub m: i64,
+    pub pso: i64,
+    pub lso: i64,
+}
+
+/// A card that was read; `tif` is 1 for Y and 0 for N.
+#[repr(C)]
+#[derive(Clone, Copy, Debug, PartialEq)]
+pub struct Card {
+    pub number: u32,
+    pub at: u64,
+    pub a: u64,
+    pub b: u64,
+    pub n: i64,
+    pub m: i64,
+    pub nul: u64,
+    pub nus: u64,
+    pub nll: u64,
+    pub nls: u64,
+    pub nfl: u64,
+    pub nfc: u64,
+    pub bad: [u8; 12],
+    pub tif: u8,
+}
+
+/// A record to be written; `tif` 0 is N, any other number is Y.
+#[repr(C)]
+#[derive(Clone, Copy, Debug, PartialEq)]
+pub struct Record {
+    pub n: i64,
+    pub m: i64,
+    pub nul: u64,
+    pub nus: u64,
+    pub nll: u64,
+    pub nls: u64,
+    pub nfl: u64,
+    pub nfc: u64,
+    pub bad: [u8; 12],
+    pub tif: u8,
+}
+
+/// A place of the zone grid.
+#[repr(C)]
+#[derive(Clone, Copy, Debug, PartialEq)]
+pub struct Place {
+    pub number: u32,
+    pub at: u64,
+    pub row: i64,
+    pub column: i64,
+}
+
+/// A position.
+#[repr(C)]
+#[derive(Clone, Copy, Debug, PartialEq)]
+pub struct Position {
+    pub number: u32,
+    pub at: u64,
+    pub lat: i64,
+    pub lon: i64,
+}
+
+/// A pixel.
+#[repr(C)]
+#[derive(Clone, Copy, Debug, PartialEq)]
+pub struct Pixel {
+    pub number: u32,
+    pub at: u64,
+    pub row: i64,
+    pub column: i64,
+}
+
+/// An offset from a centre.
+#[repr(C)]
+#[derive(Clone, Copy, Debug, PartialEq)]
+pub struct Offset {
+    pub number: u32,
+    pub at: u64,
+    pub lat: f64,
+    pub lon: f64,
+}
+
+/// A stored tile, numbered from 1, as a part of the store.
+#[repr(C)]
+#[derive(Clone, Copy, Debug, PartialEq)]
+pub struct Tile {
+    pub number: u32,
+    pub at: u64,
+    pub stored: u64,
+    pub offset: u64,
+    pub length: u64,
+}
+
+/// The three band values of a pixel.
+#[repr(C)]
+#[derive(Clone, Copy, Debug, PartialEq)]
+pub struct Bands {
+    pub number: u32,
+    pub at: u64,
+    pub red: u8,
+    pub green: u8,
+    pub blue: u8,
+}
+
+/// The first missing tile of a window, where `missing` is 1.
+#[repr(C)]
+#[derive(Clone, Copy, Debug, PartialEq)]
+pub struct Window {
+    pub number: u32,
+    pub at: u64,
+    pub missing: u64,
+    pub tile: u64,
+}
+
+unsafe extern "C" {
+    pub safe fn fordcask_spacing(scale: u64, zone: u64) -> Spacing;
+    pub safe fn fordcask_basic_zone(lat: i64) -> Zone;
+    pub safe fn fordcask_cover(scale: u64, lat: i64) -> Cover;
+    pub safe fn fordcask_rectangle(scale: u64, south: i64, north: i64) -> Rectangle;
+    pub safe fn fordcask_align(scale: u64, zone: u64, lat: i64, lon: i64) -> Origin;
+    pub safe fn fordcask_offset(lat: i64, lon: i64, centre_lat: i64, centre_lon: i64) -> Offset;
+
+    pub fn fordcask_read_card(scale: u64, zone: u64, card: *const u8, card_len: usize) -> Card;
+    pub fn fordcask_write_card(
+        scale: u64,
+        zone: u64,
+        record: Record,
+        out: *mut u8,
+        out_len: usize,
+    ) -> Refusal;
+
+    pub fn fordcask_place(
+        scale: u64,
+        zone: u64,
+        card: *const u8,
+        card_len: usize,
+        row: i64,
+        column: i64,
+    ) -> Place;
+    pub fn fordcask_position(
+        scale: u64,
+        zone: u64,
+        card: *const u8,
+        card_len: usize,
+        row: i64,
+        column: i64,
+    ) -> Position;
+    pub fn fordcask_pixel(
+        scale: u64,
+        zone: u64,
+        card: *const u8,
+        card_len: usize,
+        lat: i64,
+        lon: i64,
+    ) -> Pixel;
+
+    pub fn fordcask_index_check(
+        scale: u64,
+        zone: u64,
+        card: *const u8,
+        card_len: usize,
+        index: *const u32,
+        index_len: usize,
+        count: u64,
+        marks: *mut u8,
+        marks_len: usize,
+    ) -> Refusal;
+    pub fn fordcask_tile(
+        scale: u64,
+        zone: u64,
+        card: *const u8,
+        card_len: usize,
+        index: *const u32,
+        index_len: usize,
+        count: u64,
+        store: *const u8,
+        store_len: usize,
+        row: i64,
+        column: i64,
+    ) -> Tile;
+    pub fn fordcask_bands(
+        scale: u64,
+        zone: u64,
+        card: *const u8,
+        card_len: usize,
+        index: *const u32,
+        index_len: usize,
+        count: u64,
+        store: *const u8,
+        store_len: usize,
+        row: i64,
+        column: i64,
+    ) -> Bands;
+    pub fn fordcask_window(
+        scale: u64,
+        zone: u64,
+        card: *const u8,
+        card_len: usize,
+        index: *const u32,
+        index_len: usize,
+        count: u64,
+        top: u64,
+        left: u64,
+        height: u64,
+        width: u64,
+    ) -> Window;
+
+    pub fn fordcask_positions(
+        scale: u64,
+        zone: u64,
+        card: *const u8,
+        card_len: usize,
+        pixels: *const i64,
+        pixels_len: usize,
+        positions: *mut i64,
+        positions_len: usize,
+        numbers: *mut u32,
+        numbers_len: usize,
+    ) -> Refusal;
+    pub fn fordcask_pixels(
+        scale: u64,
+        zone: u64,
+        card: *const u8,
+        card_len: usize,
+        positions: *const i64,
+        positions_len: usize,
+        pixels: *mut i64,
+        pixels_len: usize,
+        numbers: *mut u32,
+        numbers_len: usize,
+    ) -> Refusal;
+}

@@ -1,0 +1,131 @@
+//! Random cards at every scale and zone: written and read by both, then damaged.
+
+mod rule;
+mod support;
+
+use support::damage::{change_some, damage};
+use support::make::{card, record, scale, SCALES, SCALE_BANDS, ZONES};
+use support::{seeded, Ask, Random};
+
+/// Writes and reads a record back, then damages the card.
+fn there_and_back(ask: &mut Ask, random: &mut Random, scale: u64, zone: u64) {
+    let record = record(random, scale, zone, 999);
+    let out_len = 98 + random.below(8);
+    let written = ask.write(scale, zone, &record, out_len);
+    let mut card = written.expect("a good record is written");
+    let read = ask.read(scale, zone, &card).expect("a written card is read");
+    assert_eq!(read.record, record, "reading what was written");
+    for _ in 0..3 {
+        damage(random, &mut card);
+        let _ = ask.read(scale, zone, &card);
+    }
+}
+
+#[test]
+fn every_scale_band_and_zone() {
+    let mut random = seeded("every_scale_band_and_zone");
+    let mut ask = Ask::default();
+    for zone in ZONES {
+        for scale in SCALES {
+            for _ in 0..40 {
+                there_and_back(&mut ask, &mut random, scale, zone);
+            }
+        }
+        for (low, high) in SCALE_BANDS {
+            for _ in 0..800 {
+                let scale = random.between(low, high) as u64;
+                there_and_back(&mut ask, &mut random, scale, zone);
+            }
+        }
+    }
+    ask.met("write", &[0]);
+    ask.met("read", &[0, 7, 8, 9, 10, 11]);
+}
+
+/// Several subfields wrong at once: the order of the refusals.
+#[test]
+fn subfields() {
+    let mut random = seeded("subfields");
+    let mut ask = Ask::default();
+    for _ in 0..300_000 {
+        let (scale, zone) = (scale(&mut random), random.pick(&ZONES));
+        let record = record(&mut random, scale, zone, 20);
+        let mut card = card(scale, zone, &record);
+        change_some(&mut random, &mut card);
+        let _ = ask.read(scale, zone, &card);
+    }
+    ask.met("read", &[0, 7, 8, 9, 10, 11]);
+    ask.met_at("read", 9, &[0]);
+    ask.met_at("read", 10, &[0]);
+    ask.met_at("read", 11, &[0]);
+}
+
+/// Longitudes in card form; latitudes are these without the first digit.
+const ANGLES: [&[u8]; 13] = [
+    b"+0000000.00",
+    b"-0000000.00",
+    b"+1800000.00",
+    b"-1800000.00",
+    b"+1800000.01",
+    b"-1800000.01",
+    b"+0006000.00",
+    b"+0000060.00",
+    b"+0005959.99",
+    b"+9995959.99",
+    b"+1795959.99",
+    b"+0900000.00",
+    b"-0900000.00",
+];
+
+/// The angles of every kind: ends, minutes and seconds of 60, minus zero, off the grid by one.
+#[test]
+fn angles() {
+    let mut random = seeded("angles");
+    let mut ask = Ask::default();
+    for zone in ZONES {
+        for scale in SCALES {
+            let record = record(&mut random, scale, zone, 3);
+            let good = card(scale, zone, &record);
+            for text in ANGLES {
+                let mut card = good.clone();
+                card[17..28].copy_from_slice(text);
+                let _ = ask.read(scale, zone, &card);
+                let mut card = good.clone();
+                card[28] = text[0];
+                card[29..38].copy_from_slice(&text[2..]);
+                let _ = ask.read(scale, zone, &card);
+            }
+            for (at, end) in [(28, 38), (17, 28)] {
+                let mut card = good.clone();
+                card[end - 1] = random.pick(b"0123456789");
+                let _ = ask.read(scale, zone, &card);
+                card[at] = random.pick(b"+-");
+                let _ = ask.read(scale, zone, &card);
+            }
+        }
+    }
+    ask.met("read", &[0, 8, 10, 11]);
+    ask.met_at("read", 8, &[17, 28]);
+}
+
+/// The origin by a search over every n, for the rule's own sake.
+#[test]
+fn stored_angles() {
+    let mut random = seeded("stored_angles");
+    for scale in [900_000, 1_000_000, 3_060_000, 20_000_000] {
+        for (zone, _) in ZONES.iter().zip(0..8) {
+            let (a, b) = rule::non_polar(scale, *zone).expect("a spacing");
+            for (spacing, reach) in [(b, b / 512), (a, a / 256)] {
+                for _ in 0..40 {
+                    let near = rule::stored_angle(random.between(-9, 9).into(), spacing);
+                    let angle = near + i128::from(random.between(-2, 2));
+                    let all = (-reach..=reach).filter(|k| rule::stored_angle(*k, spacing) == angle);
+                    let all: Vec<i128> = all.collect();
+                    let found: Vec<i128> =
+                        rule::origin_storing(angle, spacing).into_iter().collect();
+                    assert_eq!(found, all, "angle {angle} at spacing {spacing}");
+                }
+            }
+        }
+    }
+}

@@ -1,0 +1,59 @@
+//! The figures of document 01, "Figures on both sides of each edge", as they are printed there.
+
+use fordcask::{align, basic_zone, cover, offset, rectangle, spacing};
+use fordcask::{Position, Refusal, Spacing};
+
+const REFUSED_1: Refusal = Refusal { number: 1, at: 0 };
+
+#[test]
+fn spacing_figures() {
+    assert_eq!(spacing(50_000, 1).map(|s| s.a), Ok(7_393_280));
+    assert_eq!(spacing(250_000, 5).map(|s| s.a), Ok(653_312));
+    assert_eq!(spacing(75_000, 1).map(|s| s.b), Ok(5_338_624));
+    assert_eq!(spacing(1_250_000, 1).map(|s| s.b), Ok(320_512));
+    assert_eq!(spacing(4_999, 1), Err(REFUSED_1));
+    assert_eq!(spacing(20_000_001, 1), Err(REFUSED_1));
+    let polar = Spacing { a: 400_384, b: 400_384 };
+    assert_eq!(spacing(1_000_000, 9), Ok(polar));
+}
+
+#[test]
+fn zone_figures() {
+    let zones =
+        [(11_519_999, 1), (11_520_000, 2), (0, 1), (-1, 10), (28_799_999, 8), (28_800_000, 9)];
+    for (lat, zone) in zones {
+        assert_eq!(basic_zone(lat), Ok(zone), "latitude {lat}");
+    }
+    let covers: [(u64, i64, &[u64]); 6] = [
+        (1_000_000, 11_851_457, &[2, 1]),
+        (1_000_000, 11_851_458, &[2]),
+        (5_000_000, 27_360_000, &[8, 7, 6]),
+        (1_000_000, -28_800_000, &[18, 17]),
+        (20_000_000, 29_519_999, &[9, 8, 7, 6, 5, 4]),
+        (20_000_000, 29_520_000, &[9, 8, 7, 6, 5]),
+    ];
+    for (scale, lat, zones) in covers {
+        let found = cover(scale, lat).expect("a cover");
+        assert_eq!(found.as_slice(), zones, "1:{scale} latitude {lat}");
+    }
+    let both = rectangle(1_000_000, -1, 0).expect("a rectangle");
+    assert_eq!(both.as_slice(), [1, 10]);
+}
+
+#[test]
+fn origin_figures() {
+    let origin = align(1_000_000, 1, 4_143_222, -897_506).expect("an origin");
+    assert_eq!((origin.n, origin.m), (100, -20));
+    assert_eq!((origin.pso, origin.lso), (4_143_223, -897_507));
+    let east = align(1_000_000, 1, 0, 64_800_000).expect("an origin");
+    assert_eq!((east.m, east.lso), (1444, 64_800_000));
+}
+
+#[test]
+fn offset_figures() {
+    let at = |lon| Position { lat: 0, lon };
+    let short = |lon, centre| offset(at(lon), at(centre)).map(|o| o.lon);
+    assert_eq!(short(64_800_000, 0), Ok(-64_800_000.0));
+    assert_eq!(short(64_800_000, -64_800_000), Ok(0.0));
+    assert_eq!(short(-64_800_000, 1), Ok(64_799_999.0));
+}

@@ -1,0 +1,130 @@
+//! Index check and windows over indexes of every kind, compared with the rule.
+
+mod rule;
+mod support;
+
+use fordcask::{Record, Sheet, Tiles, Window};
+use support::index::{good_index, index_of, small};
+use support::make::{all_chart, card};
+use support::{seeded, Ask, Random};
+
+/// A window inside the tiles mostly, else with its ends outside or at the end of u64.
+fn any_window(random: &mut Random, record: &Record) -> Window {
+    let ends = [0, 1, u64::MAX, u64::MAX - 1, 1 << 63];
+    let mut side = |tiles: u64| {
+        let first = match random.below(12) {
+            0 => tiles + random.below(2) as u64,
+            _ => random.below(tiles as usize) as u64,
+        };
+        match random.below(24) {
+            0 => (random.pick(&ends), random.pick(&ends)),
+            1 => (first, random.pick(&ends)),
+            2 => (first, tiles),
+            _ => (first, random.between(0, tiles.saturating_sub(first) as i64) as u64),
+        }
+    };
+    let ((top, height), (left, width)) = (side(record.nfl), side(record.nfc));
+    Window { top, left, height, width }
+}
+
+#[test]
+fn index_check() {
+    let mut random = seeded("index_check");
+    let mut ask = Ask::default();
+    for _ in 0..300_000 {
+        let tif = !random.once_in(6);
+        let (scale, zone, record) = small(&mut random, 6, tif);
+        let card = card(scale, zone, &record);
+        let sheet = Sheet { scale, zone, card: &card };
+        let (index, count) = index_of(&mut random, &record);
+        let marks_len = match random.below(8) {
+            0 => random.below(8),
+            1 => (count.min(50) as usize).saturating_sub(1),
+            2 => count.min(50) as usize,
+            _ => count.min(50) as usize + random.below(4),
+        };
+        let _ = ask.index_check(&sheet, Tiles { index: &index, count }, marks_len);
+    }
+    ask.met("index_check", &[0, 6, 15]);
+}
+
+/// Every index of three tiles with entries 0..4, every count and some marks.
+#[test]
+fn every_small_index() {
+    let mut ask = Ask::default();
+    for tif in [true, false] {
+        let record = all_chart(9, 9, 1, 3, tif);
+        let card = card(1_000_000, 1, &record);
+        let sheet = Sheet { scale: 1_000_000, zone: 1, card: &card };
+        for code in 0..4 * 125 {
+            let entries = [code % 5, code / 5 % 5, code / 25 % 5, 0];
+            let index = &entries[..[3, 0, 2, 4][code as usize / 125]];
+            for count in [0, 1, 2, 3, 4, 5, u64::MAX] {
+                let tiles = Tiles { index, count };
+                for marks_len in 0..6 {
+                    let _ = ask.index_check(&sheet, tiles, marks_len);
+                }
+                for left in 0..=4 {
+                    for width in 0..=4 {
+                        let window = Window { top: 0, left, height: 1, width };
+                        let _ = ask.window(&sheet, tiles, window);
+                    }
+                }
+            }
+        }
+    }
+    ask.met("index_check", &[0, 6, 15]);
+    ask.met("window", &[0, 6, 12, 15]);
+}
+
+#[test]
+fn window() {
+    let mut random = seeded("window");
+    let mut ask = Ask::default();
+    let (mut missing, mut none) = (0, 0);
+    for _ in 0..300_000 {
+        let tif = !random.once_in(6);
+        let (scale, zone, record) = small(&mut random, 7, tif);
+        let card = card(scale, zone, &record);
+        let sheet = Sheet { scale, zone, card: &card };
+        let (index, count) = index_of(&mut random, &record);
+        let window = any_window(&mut random, &record);
+        match ask.window(&sheet, Tiles { index: &index, count }, window) {
+            Ok(Some(_)) => missing += 1,
+            Ok(None) => none += 1,
+            Err(_) => (),
+        }
+    }
+    assert!(missing > 5_000 && none > 5_000, "{missing} missing, {none} none");
+    ask.met("window", &[0, 6, 12, 15]);
+}
+
+/// The largest image, 999 × 999 tiles, with an index and without.
+#[test]
+fn largest_image() {
+    let mut random = seeded("largest_image");
+    let mut ask = Ask::default();
+    let total = 999 * 999;
+    for tif in [true, false] {
+        let record = all_chart(900, -300, 999, 999, tif);
+        let card = card(100_000, 3, &record);
+        let sheet = Sheet { scale: 100_000, zone: 3, card: &card };
+        let mut index = good_index(&mut random, total, total);
+        let spoiled = random.below(total);
+        for entry in [index[spoiled], 0, 1, total as u32 + 1, u32::MAX] {
+            index[spoiled] = entry;
+            let held: &[u32] = if tif { &index } else { &[] };
+            let tiles = Tiles { index: held, count: total as u64 };
+            let _ = ask.index_check(&sheet, tiles, total + 2);
+            let all = Window { top: 0, left: 0, height: 999, width: 999 };
+            let _ = ask.window(&sheet, tiles, all);
+            let _ = ask.window(&sheet, tiles, Window { top: 1, ..all });
+            for _ in 0..20 {
+                let window = any_window(&mut random, &record);
+                let _ = ask.window(&sheet, tiles, window);
+            }
+        }
+    }
+    ask.met("index_check", &[0, 15]);
+    ask.met("window", &[0, 12, 15]);
+}

@@ -1,0 +1,178 @@
+//! The list calls: equal to the single calls pair by pair, with lengths of every kind.
+
+mod rule;
+mod support;
+
+use fordcask::{Pixel, Position, Refusal, Sheet};
+use support::ask_sheet::shown;
+use support::make::{card, pixel, record, scale, ZONES};
+use support::{seeded, Ask, Random, SIGNED_ENDS, WORKED};
+
+const SIX: Refusal = Refusal { number: 6, at: 0 };
+const OLD_POSITION: Position = Position { lat: 7, lon: 7 };
+const OLD_PIXEL: Pixel = Pixel { row: 7, column: 7 };
+
+/// A list's answer for one pair: the number and the pair, both 0 in a refusal.
+fn pair<T: Default>(answer: Result<T, Refusal>) -> (u32, T) {
+    match answer {
+        Ok(value) => (0, value),
+        Err(refusal) => (refusal.number, T::default()),
+    }
+}
+
+/// What the list call should answer and leave, from the rule for each pair.
+fn expected<F, T: Copy + Default>(
+    sheet: &Sheet,
+    from: &[F],
+    to: &mut [T],
+    numbers: &mut [u32],
+    single: impl Fn(&fordcask::Card, &F) -> Result<T, Refusal>,
+) -> Result<(), Refusal> {
+    let card = rule::read(sheet.scale, sheet.zone, sheet.card)?;
+    if to.len() < from.len() || numbers.len() < from.len() {
+        return Err(SIX);
+    }
+    for (i, asked) in from.iter().enumerate() {
+        (numbers[i], to[i]) = pair(single(&card, asked));
+    }
+    Ok(())
+}
+
+/// Asks for positions with these lengths of output, and compares every buffer whole.
+fn positions(ask: &mut Ask, sheet: &Sheet, pixels: &[Pixel], out: usize, numbers_len: usize) {
+    let call = || format!("{} positions({pixels:?}, {out}, {numbers_len})", shown(sheet));
+    let (mut found, mut numbers) = (vec![OLD_POSITION; out], vec![77; numbers_len]);
+    let (mut right, mut right_numbers) = (found.clone(), numbers.clone());
+    let library = sheet.positions(pixels, &mut found, &mut numbers);
+    let rule = expected(sheet, pixels, &mut right, &mut right_numbers, |card, pixel| {
+        rule::position(card, *pixel)
+    });
+    assert_eq!(found, right, "positions of {}", call());
+    assert_eq!(numbers, right_numbers, "numbers of {}", call());
+    if ask.same("positions", call, library, rule).is_ok() {
+        for (i, pixel) in pixels.iter().enumerate() {
+            let single = pair(sheet.position(*pixel));
+            assert_eq!((numbers[i], found[i]), single, "single call, {}", call());
+        }
+    }
+}
+
+/// Asks for pixels with these lengths of output, and compares every buffer whole.
+fn pixels(ask: &mut Ask, sheet: &Sheet, positions: &[Position], out: usize, numbers_len: usize) {
+    let call = || format!("{} pixels({positions:?}, {out}, {numbers_len})", shown(sheet));
+    let (mut found, mut numbers) = (vec![OLD_PIXEL; out], vec![77; numbers_len]);
+    let (mut right, mut right_numbers) = (found.clone(), numbers.clone());
+    let library = sheet.pixels(positions, &mut found, &mut numbers);
+    let rule = expected(sheet, positions, &mut right, &mut right_numbers, |card, position| {
+        rule::pixel(card, *position)
+    });
+    assert_eq!(found, right, "pixels of {}", call());
+    assert_eq!(numbers, right_numbers, "numbers of {}", call());
+    if ask.same("pixels", call, library, rule).is_ok() {
+        for (i, position) in positions.iter().enumerate() {
+            let single = pair(sheet.pixel(*position));
+            assert_eq!((numbers[i], found[i]), single, "single call, {}", call());
+        }
+    }
+}
+
+fn any_signed(random: &mut Random, near: i64) -> i64 {
+    match random.below(8) {
+        0 => random.pick(&SIGNED_ENDS),
+        1 => random.next() as i64,
+        2 => random.between(-64_800_002, 64_800_002),
+        _ => near + random.between(-2_000, 2_000),
+    }
+}
+
+/// The length of an output for `asked` pairs: right, longer, or shorter once in a while.
+fn output_length(random: &mut Random, asked: usize) -> usize {
+    match random.below(6) {
+        0 => random.below(asked + 1),
+        1 => asked + random.below(5),
+        _ => asked,
+    }
+}
+
+#[test]
+fn random_lists() {
+    let mut random = seeded("random_lists");
+    let mut ask = Ask::default();
+    for round in 0..30_000 {
+        let (scale, zone) = (scale(&mut random), random.pick(&ZONES));
+        let record = record(&mut random, scale, zone, 999);
+        let mut card = card(scale, zone, &record);
+        if round % 8 == 0 {
+            card[random.below(98)] = random.byte();
+        }
+        let sheet = Sheet { scale, zone, card: &card };
+        let asked = random.below(40);
+        let list: Vec<Pixel> = (0..asked).map(|_| pixel(&mut random, &record)).collect();
+        let out = output_length(&mut random, asked);
+        let numbers = output_length(&mut random, asked);
+        positions(&mut ask, &sheet, &list, out, numbers);
+        let near = list.first().and_then(|pixel| sheet.position(*pixel).ok());
+        let near = near.unwrap_or_default();
+        let list: Vec<Position> = (0..asked)
+            .map(|_| Position {
+                lat: any_signed(&mut random, near.lat),
+                lon: any_signed(&mut random, near.lon),
+            })
+            .collect();
+        pixels(&mut ask, &sheet, &list, out, numbers);
+    }
+    ask.met("positions", &[0, 6, 7, 8, 9, 10, 11]);
+    ask.met("pixels", &[0, 6, 7, 8, 9, 10, 11]);
+}
+
+/// Every combination of lengths 0..6, with good and refused cards, scales and zones.
+#[test]
+fn every_length() {
+    let mut ask = Ask::default();
+    let mut damaged = *WORKED;
+    damaged[97] = b'X';
+    let cards: [(u64, u64, &[u8]); 7] = [
+        (1_000_000, 1, WORKED),
+        (1_000_000, 1, &damaged),
+        (1_000_000, 1, &WORKED[..97]),
+        (1_000_000, 1, &[]),
+        (4_999, 1, WORKED),
+        (1_000_000, 19, WORKED),
+        (1_000_000, 9, WORKED),
+    ];
+    let asked = [(0, 0), (1, 1), (256, 0), (-1, 5), (255, 127), (3, 128)];
+    let list = asked.map(|(row, column)| Pixel { row, column });
+    let asked = [(4_143_223, -897_507), (0, 0), (32_400_001, 0), (0, 64_800_001)];
+    let places = asked.map(|(lat, lon)| Position { lat, lon });
+    for (scale, zone, card) in cards {
+        let sheet = Sheet { scale, zone, card };
+        for length in 0..=6 {
+            for out in 0..=8 {
+                for numbers in 0..=8 {
+                    positions(&mut ask, &sheet, &list[..length], out, numbers);
+                    pixels(&mut ask, &sheet, &places[..length.min(4)], out, numbers);
+                }
+            }
+        }
+    }
+    ask.met("positions", &[0, 1, 2, 3, 6, 8]);
+    ask.met("pixels", &[0, 1, 2, 3, 6, 8]);
+}
+
+/// A long list: a whole row of pixels of a wide card.
+#[test]
+fn long_list() {
+    let mut ask = Ask::default();
+    let record = support::make::all_chart(40, -300, 4, 600, false);
+    let card = card(250_000, 1, &record);
+    let sheet = Sheet { scale: 250_000, zone: 1, card: &card };
+    let list: Vec<Pixel> = (-3..76_803).map(|column| Pixel { row: 300, column }).collect();
+    let mut found = vec![OLD_POSITION; list.len()];
+    let mut numbers = vec![77; list.len()];
+    assert_eq!(sheet.positions(&list, &mut found, &mut numbers), Ok(()));
+    assert_eq!(numbers.iter().filter(|n| **n == 12).count(), 6);
+    positions(&mut ask, &sheet, &list, list.len(), list.len());
+    pixels(&mut ask, &sheet, &found, list.len() + 1, list.len() + 2);
+    ask.met("positions", &[0]);
+    ask.met("pixels", &[0]);
+}

@@ -1,0 +1,141 @@
+//! The C answers of the questions on a card, field by field, and lists of odd length.
+
+mod rule;
+mod support;
+
+use fordcask::raw;
+use support::make::{all_chart, card, changes};
+use support::{seeded, WORKED};
+
+/// Positions through the C entry point with lengths in numbers, not pairs.
+fn positions(card: &[u8], pixels: &[i64], out: &mut [i64], numbers: &mut [u32]) -> (u32, u64) {
+    // SAFETY: each pointer and length are those of one slice.
+    let given = unsafe {
+        raw::fordcask_positions(
+            1_000_000,
+            1,
+            card.as_ptr(),
+            card.len(),
+            pixels.as_ptr(),
+            pixels.len(),
+            out.as_mut_ptr(),
+            out.len(),
+            numbers.as_mut_ptr(),
+            numbers.len(),
+        )
+    };
+    (given.number, given.at)
+}
+
+/// Pixels through the C entry point with lengths in numbers, not pairs.
+fn pixels(card: &[u8], positions: &[i64], out: &mut [i64], numbers: &mut [u32]) -> (u32, u64) {
+    // SAFETY: each pointer and length are those of one slice.
+    let given = unsafe {
+        raw::fordcask_pixels(
+            1_000_000,
+            1,
+            card.as_ptr(),
+            card.len(),
+            positions.as_ptr(),
+            positions.len(),
+            out.as_mut_ptr(),
+            out.len(),
+            numbers.as_mut_ptr(),
+            numbers.len(),
+        )
+    };
+    (given.number, given.at)
+}
+
+/// Every length of list and outputs to 9, odd ones among them.
+#[test]
+fn odd_lengths() {
+    let asked = [0, 0, 1, 1, 256, 0, 255, 127, 5];
+    let places = [4_143_223, -897_507, 4_142_899, -897_156, 0, 0, 0, 64_800_001, 0];
+    for length in 0..=9usize {
+        for out_len in 0..=9 {
+            for numbers_len in 0..=9 {
+                let (mut out, mut numbers) = (vec![7; out_len], vec![7; numbers_len]);
+                let given = positions(WORKED, &asked[..length], &mut out, &mut numbers);
+                let good = length % 2 == 0 && out_len >= length && numbers_len >= length / 2;
+                assert_eq!(given.0, if good { 0 } else { 6 }, "{length} {out_len} {numbers_len}");
+                let right = [4_143_223, -897_507, 4_142_899, -897_156, 0, 0, 4_060_682, -852_982];
+                let written = if good { length } else { 0 };
+                assert_eq!(out[..written], right[..written]);
+                assert_eq!(numbers[..written / 2], [0, 0, 12, 0][..written / 2]);
+                assert!(out[written..].iter().all(|x| *x == 7), "the rest stays");
+                assert!(numbers[written / 2..].iter().all(|x| *x == 7), "the rest stays");
+
+                let (mut out, mut numbers) = (vec![7; out_len], vec![7; numbers_len]);
+                let given = pixels(WORKED, &places[..length], &mut out, &mut numbers);
+                assert_eq!(given.0, if good { 0 } else { 6 }, "{length} {out_len} {numbers_len}");
+                assert_eq!(out[..written], [0, 0, 1, 1, 0, 0, 0, 0][..written]);
+                assert_eq!(numbers[..written / 2], [0, 0, 12, 5][..written / 2]);
+                assert!(out[written..].iter().all(|x| *x == 7), "the rest stays");
+                assert!(numbers[written / 2..].iter().all(|x| *x == 7), "the rest stays");
+            }
+        }
+    }
+}
+
+/// A refused card leaves every list unchanged, whatever their lengths.
+#[test]
+fn refused_cards() {
+    let mut random = seeded("refused_cards");
+    let mut refused = 0;
+    for card in changes().step_by(7) {
+        let Err(refusal) = rule::read(1_000_000, 1, &card) else {
+            continue;
+        };
+        refused += 1;
+        let asked = [1; 9];
+        let length = random.below(10);
+        let (mut out, mut numbers) = (vec![7; random.below(10)], vec![7; random.below(10)]);
+        let first = positions(&card, &asked[..length], &mut out, &mut numbers);
+        let second = pixels(&card, &asked[..length], &mut out, &mut numbers);
+        assert_eq!(first, (refusal.number, refusal.at));
+        assert_eq!(second, (refusal.number, refusal.at));
+        assert!(out.iter().all(|x| *x == 7) && numbers.iter().all(|x| *x == 7));
+    }
+    assert!(refused > 2_000, "{refused} refused");
+}
+
+/// Value parts are 0 in each refusal of a question on a card.
+#[test]
+fn refused_values() {
+    let record = all_chart(9, 9, 1, 2, true);
+    let card = card(1_000_000, 1, &record);
+    let (pointer, length) = (card.as_ptr(), card.len());
+    let (index, store) = ([0u32, 9], [5u8; 49_152]);
+    let far = i64::MIN;
+    for (column, number, at) in [(0, 14, 0), (128, 15, 1), (256, 12, 0), (far, 12, 0)] {
+        // SAFETY: each pointer and length are those of one array.
+        unsafe {
+            let i = index.as_ptr();
+            let s = store.as_ptr();
+            let tile =
+                raw::fordcask_tile(1_000_000, 1, pointer, length, i, 2, 1, s, 49_152, 0, column);
+            let none = raw::Tile { number, at, stored: 0, offset: 0, length: 0 };
+            assert_eq!(tile, none);
+            let bands =
+                raw::fordcask_bands(1_000_000, 1, pointer, length, i, 2, 1, s, 49_152, 0, column);
+            assert_eq!(bands, raw::Bands { number, at, red: 0, green: 0, blue: 0 });
+        }
+    }
+    // SAFETY: each pointer and length are those of one slice.
+    unsafe {
+        let place = raw::fordcask_place(1_000_000, 1, pointer, length, far, 0);
+        assert_eq!(place, raw::Place { number: 12, at: 0, row: 0, column: 0 });
+        let position = raw::fordcask_position(1_000_000, 1, pointer, length, 0, 256);
+        assert_eq!(position, raw::Position { number: 12, at: 0, lat: 0, lon: 0 });
+        let pixel = raw::fordcask_pixel(1_000_000, 1, pointer, length, 0, i64::MAX);
+        assert_eq!(pixel, raw::Pixel { number: 5, at: 0, row: 0, column: 0 });
+        let i = index.as_ptr();
+        let window = raw::fordcask_window(1_000_000, 1, pointer, length, i, 2, 1, 0, 1, 1, 1);
+        assert_eq!(window, raw::Window { number: 15, at: 1, missing: 0, tile: 0 });
+        let window = raw::fordcask_window(1_000_000, 1, pointer, length, i, 2, 1, 0, 0, 1, 2);
+        assert_eq!(window, raw::Window { number: 0, at: 0, missing: 1, tile: 0 });
+        let window = raw::fordcask_window(1_000_000, 1, pointer, length, i, 2, 1, 0, 2, 1, 0);
+        assert_eq!(window, raw::Window { number: 0, at: 0, missing: 0, tile: 0 });
+    }
+}

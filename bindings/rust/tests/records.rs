@@ -1,0 +1,75 @@
+//! Records to be written, good and broken in each way.
+
+mod rule;
+mod support;
+
+use fordcask::Record;
+use support::make::{name, record, scale, ZONES};
+use support::{seeded, Ask, Random};
+
+/// A record broken in one way; what is broken depends on `way`.
+fn broken(random: &mut Random, a: i64, b: i64, mut record: Record, way: usize) -> Record {
+    let many = [0, 1000, 1001, 1 << 32, u64::MAX - 1, u64::MAX];
+    let edge = random.pick(&[1_000_000, 1_000_000_000, 1 << 63, u64::MAX]);
+    let far = [i64::MIN, i64::MIN + 1, i64::MAX - 1, i64::MAX];
+    match way {
+        0 => record.nfl = random.pick(&many),
+        1 => record.nfc = random.pick(&many),
+        2 => record.bad[random.below(12)] = random.byte(),
+        3 => record.n = random.pick(&[b / 512 + 1, -b / 512 - 1, -b / 512, b / 512]),
+        4 => record.m = random.pick(&[a / 256 + 1, -a / 256 - 1, -a / 256, a / 256]),
+        5 => record.n = random.pick(&far),
+        6 => record.m = random.pick(&far),
+        7 => record.nfc = random.pick(&[a as u64 / 128, a as u64 / 128 + 1, 999]),
+        8 => record.nfl = random.pick(&[record.n.wrapping_add(b / 512 + 1) as u64, 999]),
+        9 => record.nul = random.pick(&[record.nll, record.nll.wrapping_add(1), edge]),
+        10 => record.nll = random.pick(&[record.nfl.wrapping_mul(128), edge]),
+        11 => record.nls = random.pick(&[record.nus, record.nus.wrapping_add(1), edge]),
+        12 => record.nus = random.pick(&[record.nfc.wrapping_mul(128), edge]),
+        _ => record.bad = name(random),
+    }
+    record
+}
+
+#[test]
+fn broken_records() {
+    let mut random = seeded("broken_records");
+    let mut ask = Ask::default();
+    for round in 0..400_000 {
+        let (mut scale, mut zone) = (scale(&mut random), random.pick(&ZONES));
+        let (a, b) = rule::non_polar(scale, zone).expect("a spacing");
+        let mut record = record(&mut random, scale, zone, 999);
+        for _ in 0..=random.below(2) {
+            let way = random.below(14);
+            record = broken(&mut random, a as i64, b as i64, record, way);
+        }
+        if round % 16 == 0 {
+            scale = random.pick(&[scale, 0, 4_999, 20_000_001, u64::MAX]);
+            zone = random.pick(&[zone, 0, 9, 18, 19, u64::MAX]);
+        }
+        let out_len = match random.below(8) {
+            0 => random.below(98),
+            _ => 98 + random.below(3),
+        };
+        if let Ok(card) = ask.write(scale, zone, &record, out_len) {
+            let read = ask.read(scale, zone, &card).expect("a written card is read");
+            assert_eq!(read.record, record, "reading what was written");
+        }
+    }
+    ask.met("write", &[0, 1, 2, 3, 6, 7, 8, 10, 11]);
+    ask.met_at("write", 7, &[85]);
+    ask.met_at("write", 8, &[62, 65]);
+}
+
+/// Outputs of every length to 130.
+#[test]
+fn output_lengths() {
+    let mut random = seeded("output_lengths");
+    let mut ask = Ask::default();
+    for out_len in 0..=130 {
+        let record = record(&mut random, 1_000_000, 1, 9);
+        let written = ask.write(1_000_000, 1, &record, out_len);
+        assert_eq!(written.is_ok(), out_len >= 98);
+    }
+    ask.met("write", &[0, 6]);
+}

@@ -1,0 +1,63 @@
+//! Document 01 written out a second time, in i128 arithmetic and plain loops.
+//! It knows nothing of the library but the types that carry the answers.
+// each test file uses a part of it
+#![allow(dead_code, unused_imports)]
+
+mod grid;
+mod read;
+mod tiles;
+mod write;
+mod zone;
+
+use fordcask::Refusal;
+
+pub use grid::{align, has_place, offset, origin_storing, pixel, place, position, stored_angle};
+pub use read::{extents_hold, read};
+pub use tiles::{bands, index_check, lookup, window};
+pub use write::write;
+pub use zone::{basic_zone, constant_at, cover, covers, non_polar, rectangle, spacing, LIMITS};
+
+pub type Answer<T> = Result<T, Refusal>;
+
+// (01, "Units and the zone table")
+pub const H: i128 = 129_600_000;
+pub const LAT_END: i128 = 32_400_000;
+pub const LON_END: i128 = 64_800_000;
+pub const CARD: usize = 98;
+pub const TILE: i128 = 128;
+pub const TILE_BYTES: i128 = 49_152;
+
+pub fn refuse<T>(number: u32, at: u64) -> Answer<T> {
+    Err(Refusal { number, at })
+}
+
+/// The greatest whole number not above value / by, where by is above 0.
+pub fn floor_div(value: i128, by: i128) -> i128 {
+    let quotient = value / by;
+    if value % by < 0 {
+        quotient - 1
+    } else {
+        quotient
+    }
+}
+
+/// value modulo by, from 0 to by - 1.
+pub fn modulo(value: i128, by: i128) -> i128 {
+    value - by * floor_div(value, by)
+}
+
+/// "Nearest" means the floor of the value plus one half; the value is value / by.
+pub fn nearest(value: i128, by: i128) -> i128 {
+    floor_div(2 * value + by, 2 * by)
+}
+
+/// Refusals 4 and 5, latitude then longitude (01, "Numbers given in refusal").
+pub fn in_range(lat: i64, lon: i64) -> Answer<()> {
+    if (lat as i128) < -LAT_END || lat as i128 > LAT_END {
+        return refuse(4, 0);
+    }
+    if (lon as i128) < -LON_END || lon as i128 > LON_END {
+        return refuse(5, 0);
+    }
+    Ok(())
+}

@@ -1,0 +1,140 @@
+//! (01, "Units and the zone table")
+
+use super::{refuse, Answer, H, LAT_END};
+use fordcask::Spacing;
+
+const DEGREE: i128 = 360_000;
+const B_UNIT: i128 = 782;
+
+/// From degree, to degree, A / 512 at 1:1,000,000, for zones 1..9 and again for 10..18.
+pub const LIMITS: [(i128, i128, i128); 9] = [
+    (0, 32, 722),
+    (32, 48, 591),
+    (48, 56, 480),
+    (56, 64, 389),
+    (64, 68, 319),
+    (68, 72, 268),
+    (72, 76, 215),
+    (76, 80, 161),
+    (80, 90, 782),
+];
+
+fn limits(zone: u64) -> (i128, i128, i128) {
+    let (from, to, unit) = LIMITS[(zone as usize - 1) % 9];
+    (from * DEGREE, to * DEGREE, unit)
+}
+
+fn is_polar(zone: u64) -> bool {
+    zone == 9 || zone == 18
+}
+
+fn scale_good(scale: u64) -> bool {
+    (5_000..=20_000_000).contains(&scale)
+}
+
+/// 512 times the smallest whole number not below unit × 1,000,000 / S (001, 3.4.6).
+pub fn constant_at(unit: i128, scale: u64) -> i128 {
+    let scale = scale as i128;
+    let mut whole = unit * 1_000_000 / scale;
+    while whole * scale < unit * 1_000_000 {
+        whole += 1;
+    }
+    512 * whole
+}
+
+/// Spacing: 1, 2.
+pub fn spacing(scale: u64, zone: u64) -> Answer<Spacing> {
+    if !scale_good(scale) {
+        return refuse(1, 0);
+    }
+    if !(1..=18).contains(&zone) {
+        return refuse(2, 0);
+    }
+    let (_, _, unit) = limits(zone);
+    Ok(Spacing { a: constant_at(unit, scale) as u64, b: constant_at(B_UNIT, scale) as u64 })
+}
+
+/// A and B where a non-polar zone is needed: 1, 2, 3.
+pub fn non_polar(scale: u64, zone: u64) -> Answer<(i128, i128)> {
+    let found = spacing(scale, zone)?;
+    if is_polar(zone) {
+        return refuse(3, 0);
+    }
+    Ok((found.a as i128, found.b as i128))
+}
+
+fn lat_good(lat: i64) -> bool {
+    -LAT_END <= lat as i128 && lat as i128 <= LAT_END
+}
+
+/// Latitude 0 is northern, below 0 is southern.
+fn same_hemisphere(zone: u64, lat: i128) -> bool {
+    (zone <= 9) == (lat >= 0)
+}
+
+/// A limit belongs to the poleward zone; the pole belongs to the polar zone.
+fn is_basic(zone: u64, lat: i128) -> bool {
+    let (from, to, _) = limits(zone);
+    same_hemisphere(zone, lat) && from <= lat.abs() && (lat.abs() < to || is_polar(zone))
+}
+
+/// Whether a zone covers a latitude: its basic zone, or within 1024 rows poleward (001, 3.3.3).
+pub fn covers(scale: u64, zone: u64, lat: i128) -> bool {
+    if is_basic(zone, lat) {
+        return true;
+    }
+    let (_, poleward, _) = limits(zone);
+    let b = constant_at(B_UNIT, scale);
+    !is_polar(zone)
+        && same_hemisphere(zone, lat)
+        && lat.abs() >= poleward
+        && (lat.abs() - poleward) * b < 1024 * H
+}
+
+/// Basic zone: 4.
+pub fn basic_zone(lat: i64) -> Answer<u64> {
+    if !lat_good(lat) {
+        return refuse(4, 0);
+    }
+    let zones: Vec<u64> = (1..=18).filter(|z| is_basic(*z, lat as i128)).collect();
+    assert_eq!(zones.len(), 1, "one basic zone for {lat}");
+    Ok(zones[0])
+}
+
+/// Cover: 1, 4. Equatorward is downward in number, on both sides of the Equator.
+pub fn cover(scale: u64, lat: i64) -> Answer<Vec<u64>> {
+    if !scale_good(scale) {
+        return refuse(1, 0);
+    }
+    let basic = basic_zone(lat)?;
+    let zones: Vec<u64> = (1..=18).rev().filter(|z| covers(scale, *z, lat as i128)).collect();
+    assert_eq!(zones[0], basic, "the basic zone comes first for {lat}");
+    Ok(zones)
+}
+
+/// The latitude of the zone next to the Equator; what it covers runs unbroken from there.
+fn first_latitude(zone: u64) -> i128 {
+    let (from, _, _) = limits(zone);
+    match zone {
+        1..=9 => from,
+        10 => -1,
+        _ => -from,
+    }
+}
+
+/// Rectangles: 1, south 4, north 4, 16.
+/// A zone covers some latitude of it when it covers the one nearest to the zone's first.
+pub fn rectangle(scale: u64, south: i64, north: i64) -> Answer<Vec<u64>> {
+    if !scale_good(scale) {
+        return refuse(1, 0);
+    }
+    if !lat_good(south) || !lat_good(north) {
+        return refuse(4, 0);
+    }
+    if south > north {
+        return refuse(16, 0);
+    }
+    let (south, north) = (south as i128, north as i128);
+    let covered = |zone: &u64| covers(scale, *zone, first_latitude(*zone).clamp(south, north));
+    Ok((1..=18).filter(covered).collect())
+}

@@ -1,0 +1,136 @@
+//! Each question put to the library and to the rule; the answers must be equal.
+
+use std::collections::{BTreeMap, BTreeSet};
+use std::fmt::Debug;
+
+use crate::rule;
+use fordcask::{Card, Offset, Origin, Position, Record, Refusal, Spacing};
+
+pub type Answer<T> = Result<T, Refusal>;
+
+/// The cases of one question: how often each number was met (0 is an answer), and where.
+#[derive(Default)]
+struct Tally {
+    numbers: BTreeMap<u32, u64>,
+    places: BTreeSet<(u32, u64)>,
+}
+
+/// Asks both sides and keeps count.
+#[derive(Default)]
+pub struct Ask {
+    tallies: BTreeMap<&'static str, Tally>,
+}
+
+impl Ask {
+    /// Compares two answers, counts the case and hands the answer on.
+    pub fn same<T: PartialEq + Debug>(
+        &mut self,
+        question: &'static str,
+        call: impl FnOnce() -> String,
+        library: Answer<T>,
+        rule: Answer<T>,
+    ) -> Answer<T> {
+        if library != rule {
+            panic!("{question}\n  call    {}\n  library {library:?}\n  rule    {rule:?}", call());
+        }
+        let tally = self.tallies.entry(question).or_default();
+        let (number, at) = match &library {
+            Ok(_) => (0, 0),
+            Err(refusal) => (refusal.number, refusal.at),
+        };
+        *tally.numbers.entry(number).or_default() += 1;
+        if number != 15 {
+            tally.places.insert((number, at));
+        }
+        library
+    }
+
+    /// The numbers met must be exactly these; 0 stands for an answer.
+    pub fn met(&self, question: &'static str, numbers: &[u32]) {
+        let tally = &self.tallies[question];
+        let met: Vec<u32> = tally.numbers.keys().copied().collect();
+        assert_eq!(met, numbers, "numbers met by {question}");
+        let cases: u64 = tally.numbers.values().sum();
+        println!("cases {question} {cases} {:?}", tally.numbers);
+    }
+
+    /// The places met with a number must be exactly these.
+    pub fn met_at(&self, question: &'static str, number: u32, places: &[u64]) {
+        let all = &self.tallies[question].places;
+        let met: Vec<u64> = all.iter().filter(|p| p.0 == number).map(|p| p.1).collect();
+        assert_eq!(met, places, "places met by {question} with {number}");
+    }
+
+    pub fn spacing(&mut self, scale: u64, zone: u64) -> Answer<Spacing> {
+        let call = || format!("spacing({scale}, {zone})");
+        let (library, rule) = (fordcask::spacing(scale, zone), rule::spacing(scale, zone));
+        self.same("spacing", call, library, rule)
+    }
+
+    pub fn basic_zone(&mut self, lat: i64) -> Answer<u64> {
+        let call = || format!("basic_zone({lat})");
+        let (library, rule) = (fordcask::basic_zone(lat), rule::basic_zone(lat));
+        self.same("basic_zone", call, library, rule)
+    }
+
+    pub fn cover(&mut self, scale: u64, lat: i64) -> Answer<Vec<u64>> {
+        let call = || format!("cover({scale}, {lat})");
+        let library = fordcask::cover(scale, lat).map(|zones| zones.as_slice().to_vec());
+        self.same("cover", call, library, rule::cover(scale, lat))
+    }
+
+    pub fn rectangle(&mut self, scale: u64, south: i64, north: i64) -> Answer<Vec<u64>> {
+        let call = || format!("rectangle({scale}, {south}, {north})");
+        let library = fordcask::rectangle(scale, south, north);
+        let library = library.map(|zones| zones.as_slice().to_vec());
+        let rule = rule::rectangle(scale, south, north);
+        self.same("rectangle", call, library, rule)
+    }
+
+    pub fn align(&mut self, scale: u64, zone: u64, lat: i64, lon: i64) -> Answer<Origin> {
+        let call = || format!("align({scale}, {zone}, {lat}, {lon})");
+        let library = fordcask::align(scale, zone, lat, lon);
+        self.same("align", call, library, rule::align(scale, zone, lat, lon))
+    }
+
+    /// Equal to the last bit: zero is never minus zero.
+    pub fn offset(&mut self, position: Position, centre: Position) -> Answer<(u64, u64)> {
+        let call = || format!("offset({position:?}, {centre:?})");
+        let bits = |offset: Offset| (offset.lat.to_bits(), offset.lon.to_bits());
+        let library = fordcask::offset(position, centre).map(bits);
+        let rule = rule::offset(position, centre).map(bits);
+        self.same("offset", call, library, rule)
+    }
+
+    pub fn read(&mut self, scale: u64, zone: u64, card: &[u8]) -> Answer<Card> {
+        let call = || format!("read_card({scale}, {zone}, b\"{}\")", card.escape_ascii());
+        let library = fordcask::read_card(scale, zone, card);
+        self.same("read", call, library, rule::read(scale, zone, card))
+    }
+
+    /// The whole output, filled with 7 before: 98 bytes written, or nothing.
+    pub fn write(
+        &mut self,
+        scale: u64,
+        zone: u64,
+        record: &Record,
+        out_len: usize,
+    ) -> Answer<Vec<u8>> {
+        let call = || format!("write_card({scale}, {zone}, {record:?}, {out_len} bytes)");
+        let mut out = vec![7; out_len];
+        let library = fordcask::write_card(scale, zone, record, &mut out);
+        let mut expected = vec![7; out_len];
+        let rule = rule::write(scale, zone, record, out_len);
+        if let Ok(bytes) = &rule {
+            expected[..rule::CARD].copy_from_slice(bytes);
+        }
+        assert_eq!(
+            out.escape_ascii().to_string(),
+            expected.escape_ascii().to_string(),
+            "output of {}",
+            call()
+        );
+        self.same("write", call, library, rule.map(|_| ()))?;
+        Ok(out[..rule::CARD].to_vec())
+    }
+}

@@ -1,0 +1,106 @@
+//! The questions on a card, put to both sides.
+
+use super::ask::{Answer, Ask};
+use crate::rule;
+use fordcask::{Bands, Card, Pixel, Place, Position, Sheet, Tiles, Window};
+
+/// A sheet as it is shown in a message.
+pub fn shown(sheet: &Sheet) -> String {
+    let card = sheet.card.escape_ascii();
+    format!("{} zone {} b\"{card}\"", sheet.scale, sheet.zone)
+}
+
+fn read(sheet: &Sheet) -> Answer<Card> {
+    rule::read(sheet.scale, sheet.zone, sheet.card)
+}
+
+impl Ask {
+    pub fn place(&mut self, sheet: &Sheet, pixel: Pixel) -> Answer<Place> {
+        let call = || format!("{} place({pixel:?})", shown(sheet));
+        let rule = read(sheet).and_then(|card| rule::place(&card, pixel));
+        self.same("place", call, sheet.place(pixel), rule)
+    }
+
+    pub fn position(&mut self, sheet: &Sheet, pixel: Pixel) -> Answer<Position> {
+        let call = || format!("{} position({pixel:?})", shown(sheet));
+        let rule = read(sheet).and_then(|card| rule::position(&card, pixel));
+        self.same("position", call, sheet.position(pixel), rule)
+    }
+
+    pub fn pixel(&mut self, sheet: &Sheet, position: Position) -> Answer<Pixel> {
+        let call = || format!("{} pixel({position:?})", shown(sheet));
+        let rule = read(sheet).and_then(|card| rule::pixel(&card, position));
+        self.same("pixel", call, sheet.pixel(position), rule)
+    }
+
+    /// Place and position of a pixel, and the pixel again from the position.
+    pub fn there_and_back(&mut self, sheet: &Sheet, pixel: Pixel) {
+        let _ = self.place(sheet, pixel);
+        if let Ok(position) = self.position(sheet, pixel) {
+            assert!(position.lon < 64_800_000, "+180 is answered as -180");
+            assert_eq!(self.pixel(sheet, position), Ok(pixel), "there and back");
+        }
+    }
+
+    /// The marks, filled with 7 before, are compared whole.
+    pub fn index_check(&mut self, sheet: &Sheet, tiles: Tiles, marks_len: usize) -> Answer<()> {
+        let call = || format!("{} index_check({tiles:?}, {marks_len})", shown(sheet));
+        let mut marks = vec![7; marks_len];
+        let library = sheet.index_check(tiles, &mut marks);
+        let mut expected = vec![7; marks_len];
+        let rule = read(sheet)
+            .and_then(|card| rule::index_check(&card, tiles.index, tiles.count, &mut expected));
+        assert!(
+            marks == expected,
+            "marks of {}\n  library {marks:?}\n  rule    {expected:?}",
+            call()
+        );
+        self.same("index_check", call, library, rule)
+    }
+
+    /// The stored number and the part of the store, as offset and length.
+    pub fn tile(
+        &mut self,
+        sheet: &Sheet,
+        tiles: Tiles,
+        store: &[u8],
+        pixel: Pixel,
+    ) -> Answer<(u64, usize, usize)> {
+        let call = || {
+            let bytes = store.len();
+            format!("{} tile({tiles:?}, {bytes}, {pixel:?})", shown(sheet))
+        };
+        let stored = sheet.stored(tiles, store, pixel);
+        let library = sheet.tile(tiles, store, pixel).and_then(|part| {
+            let offset = part.as_ptr() as usize - store.as_ptr() as usize;
+            Ok((stored?, offset, part.len()))
+        });
+        let rule = read(sheet)
+            .and_then(|card| rule::lookup(&card, tiles.index, tiles.count, store, pixel))
+            .map(|stored| (stored, (stored as usize - 1) * 49_152, 49_152));
+        self.same("tile", call, library, rule)
+    }
+
+    pub fn bands(
+        &mut self,
+        sheet: &Sheet,
+        tiles: Tiles,
+        store: &[u8],
+        pixel: Pixel,
+    ) -> Answer<Bands> {
+        let call = || {
+            let bytes = store.len();
+            format!("{} bands({tiles:?}, {bytes}, {pixel:?})", shown(sheet))
+        };
+        let rule =
+            read(sheet).and_then(|card| rule::bands(&card, tiles.index, tiles.count, store, pixel));
+        self.same("bands", call, sheet.bands(tiles, store, pixel), rule)
+    }
+
+    pub fn window(&mut self, sheet: &Sheet, tiles: Tiles, window: Window) -> Answer<Option<u64>> {
+        let call = || format!("{} window({tiles:?}, {window:?})", shown(sheet));
+        let rule =
+            read(sheet).and_then(|card| rule::window(&card, tiles.index, tiles.count, window));
+        self.same("window", call, sheet.window(tiles, window), rule)
+    }
+}

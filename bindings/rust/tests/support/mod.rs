@@ -1,0 +1,22 @@
+//! What the tests share: random numbers, cards to ask about, and questions put to both sides.
+// each test file uses a part of it
+#![allow(dead_code, unused_imports)]
+
+pub mod angles;
+pub mod ask;
+pub mod ask_sheet;
+pub mod damage;
+pub mod index;
+pub mod make;
+pub mod random;
+
+pub use ask::Ask;
+pub use random::{seeded, Random};
+
+/// The worked card of document 01, for 1:1,000,000 zone 1.
+pub const WORKED: &[u8; 98] = b"30036966400400384-0022935.07+113032.23000000000127000255000000\
+00200100012800012801008BASE0101.IMGN";
+
+/// Both ends of i64 and their neighbours, zero and its neighbours.
+pub const SIGNED_ENDS: [i64; 9] =
+    [i64::MIN, i64::MIN + 1, i64::MIN / 2, -1, 0, 1, i64::MAX / 2, i64::MAX - 1, i64::MAX];

@@ -1,0 +1,63 @@
+//! Look-up and bands over indexes and stores of every kind, compared with the rule.
+
+mod rule;
+mod support;
+
+use fordcask::{Pixel, Sheet, Tiles};
+use support::index::{index_of, small};
+use support::make::{all_chart, card, pixel};
+use support::{seeded, Ask};
+
+#[test]
+fn tile_and_bands() {
+    let mut random = seeded("tile_and_bands");
+    let mut ask = Ask::default();
+    let bytes: Vec<u8> = (0..12 * 49_152).map(|_| random.byte()).collect();
+    for _ in 0..150_000 {
+        let tif = !random.once_in(4);
+        let (scale, zone, record) = small(&mut random, 3, tif);
+        let card = card(scale, zone, &record);
+        let sheet = Sheet { scale, zone, card: &card };
+        let (index, count) = index_of(&mut random, &record);
+        let tiles = Tiles { index: &index, count };
+        let right = count.min(11) as usize * 49_152;
+        let length = match random.below(16) {
+            0 => right + 1,
+            1 => right.saturating_sub(1),
+            2 => random.below(12) * 49_152,
+            _ => right,
+        };
+        // a store that starts in the middle of the bytes, at any alignment
+        let start = random.below(bytes.len() - length + 1);
+        let store = &bytes[start..start + length];
+        for _ in 0..4 {
+            let pixel = pixel(&mut random, &record);
+            let _ = ask.tile(&sheet, tiles, store, pixel);
+            let _ = ask.bands(&sheet, tiles, store, pixel);
+        }
+    }
+    ask.met("tile", &[0, 6, 12, 13, 14, 15]);
+    ask.met("bands", &[0, 6, 12, 13, 14, 15]);
+}
+
+/// Counts whose store would be empty, or one tile, if its length were kept in 32 bits.
+#[test]
+fn large_counts() {
+    let mut ask = Ask::default();
+    let record = all_chart(900, -300, 999, 999, true);
+    let card = card(100_000, 3, &record);
+    let sheet = Sheet { scale: 100_000, zone: 3, card: &card };
+    let (index, store) = (vec![1; 999 * 999], [5; 49_152]);
+    for count in [0, 1, 2, 1 << 18, (1 << 18) + 1, 3 << 18, 999 * 999] {
+        let tiles = Tiles { index: &index, count };
+        for length in [0, 1, 49_151, 49_152] {
+            for row in [0, 127_871, 127_872] {
+                let pixel = Pixel { row, column: 127_871 };
+                let _ = ask.tile(&sheet, tiles, &store[..length], pixel);
+                let _ = ask.bands(&sheet, tiles, &store[..length], pixel);
+            }
+        }
+    }
+    ask.met("tile", &[0, 6, 12, 15]);
+    ask.met("bands", &[0, 6, 12, 15]);
+}

@@ -1,0 +1,64 @@
+//! The worked card of document 01: every one-byte change and every length.
+
+mod rule;
+mod support;
+
+use support::make::changes;
+use support::{seeded, Ask, WORKED};
+
+/// The subfields that can be refused with 7, and with 8.
+const SEVENS: [u64; 19] = [0, 1, 9, 17, 28, 38, 44, 50, 56, 62, 65, 68, 74, 80, 81, 82, 83, 84, 85];
+const EIGHTS: [u64; 13] = [0, 17, 28, 62, 65, 68, 74, 80, 81, 82, 83, 84, 97];
+
+#[test]
+fn one_byte_changes_read() {
+    let mut ask = Ask::default();
+    let mut cards = 0;
+    for card in changes() {
+        cards += 1;
+        if let Ok(read) = ask.read(1_000_000, 1, &card) {
+            let written = ask.write(1_000_000, 1, &read.record, 98);
+            assert_eq!(written.as_deref(), Ok(&card[..]), "writing what was read");
+        }
+    }
+    assert_eq!(cards, 24_990);
+    ask.met("read", &[0, 7, 8, 9, 10, 11]);
+    ask.met_at("read", 7, &SEVENS);
+    ask.met_at("read", 8, &EIGHTS);
+}
+
+/// Scale and zone come first, then the length, then the bytes.
+#[test]
+fn one_byte_changes_elsewhere() {
+    let mut random = seeded("one_byte_changes_elsewhere");
+    let mut ask = Ask::default();
+    let scales = [0, 4_999, 5_000, 1_000_000, 999_999, 20_000_001, u64::MAX];
+    let zones = [0, 1, 2, 9, 10, 18, 19, u64::MAX];
+    for mut card in changes() {
+        if random.once_in(8) {
+            card.truncate(random.below(98));
+        }
+        let (scale, zone) = (random.pick(&scales), random.pick(&zones));
+        let _ = ask.read(scale, zone, &card);
+        let _ = ask.read(1_000_000, random.pick(&[1, 9, 10, 19]), &card);
+    }
+    ask.met("read", &[0, 1, 2, 3, 6, 7, 8, 9, 10, 11]);
+}
+
+#[test]
+fn every_length() {
+    let mut random = seeded("every_length");
+    let mut ask = Ask::default();
+    for length in 0..=200 {
+        let repeated: Vec<u8> = WORKED.iter().copied().cycle().take(length).collect();
+        let shifted: Vec<u8> = repeated.iter().rev().copied().collect();
+        // never a digit, so 7 at 0
+        let noise: Vec<u8> = (0..length).map(|_| random.byte() | 0x80).collect();
+        for card in [repeated, shifted, noise] {
+            let _ = ask.read(1_000_000, 1, &card);
+            let _ = ask.read(1_000_000, 9, &card);
+        }
+    }
+    ask.met("read", &[0, 3, 6, 7]);
+    ask.met_at("read", 7, &[0]);
+}

@@ -1,0 +1,113 @@
+//! Questions on damaged cards: reading's refusals come first. And every pixel of the worked card.
+
+mod rule;
+mod support;
+
+use fordcask::{Pixel, Position, Sheet, Tiles, Window};
+use support::damage::change_some;
+use support::make::{card, changes, record, scale, ZONES};
+use support::{seeded, Ask, Random, WORKED};
+
+fn some_pixel(random: &mut Random) -> Pixel {
+    Pixel { row: random.between(-2, 258), column: random.between(-2, 130) }
+}
+
+/// Puts every question to a sheet, at a pixel and at a position.
+fn ask_all(ask: &mut Ask, sheet: &Sheet, pixel: Pixel, position: Position, height: u64) {
+    let _ = ask.place(sheet, pixel);
+    if let Ok(position) = ask.position(sheet, pixel) {
+        let _ = ask.pixel(sheet, position);
+    }
+    let _ = ask.pixel(sheet, position);
+    let (tiles, store) = (Tiles { index: &[], count: 2 }, [9; 2 * 49_152]);
+    let _ = ask.index_check(sheet, tiles, 3);
+    let _ = ask.tile(sheet, tiles, &store, pixel);
+    let _ = ask.bands(sheet, tiles, &store, pixel);
+    let window = Window { top: 0, left: 0, height, width: 1 };
+    let _ = ask.window(sheet, tiles, window);
+}
+
+fn some_position(random: &mut Random) -> Position {
+    let near = Position {
+        lat: random.between(4_060_000, 4_144_000),
+        lon: random.between(-898_000, -852_000),
+    };
+    let far = Position {
+        lat: random.between(4_050_000, 32_400_000),
+        lon: random.between(-64_800_000, 64_800_000),
+    };
+    random.pick(&[near, far])
+}
+
+/// Every question gives reading's refusals first, and the right answer where the card is accepted.
+#[test]
+fn one_byte_changes_asked() {
+    let mut random = seeded("one_byte_changes_asked");
+    let mut ask = Ask::default();
+    let worked = Sheet { scale: 1_000_000, zone: 1, card: WORKED };
+    for card in changes() {
+        let sheet = Sheet { scale: 1_000_000, zone: 1, card: &card };
+        let (pixel, position) = (some_pixel(&mut random), some_position(&mut random));
+        ask_all(&mut ask, &sheet, pixel, position, random.below(4) as u64);
+        if sheet.read().is_ok() {
+            for (row, column) in [(0, 0), (0, 127), (255, 0), (255, 127), (256, 0), (0, -1)] {
+                let corner = Pixel { row, column };
+                let position = worked.position(corner).unwrap_or(position);
+                ask_all(&mut ask, &sheet, corner, position, 3);
+            }
+        }
+    }
+    ask.met("place", &[0, 7, 8, 9, 10, 11, 12]);
+    ask.met("position", &[0, 7, 8, 9, 10, 11, 12, 13]);
+    ask.met("pixel", &[0, 7, 8, 9, 10, 11, 12, 13]);
+    ask.met("index_check", &[0, 6, 7, 8, 9, 10, 11]);
+    ask.met("tile", &[0, 6, 7, 8, 9, 10, 11, 12, 13]);
+    ask.met("bands", &[0, 6, 7, 8, 9, 10, 11, 12, 13]);
+    ask.met("window", &[0, 6, 7, 8, 9, 10, 11, 12]);
+}
+
+/// Several subfields wrong at once, at any scale and zone, the bad ones too.
+#[test]
+fn damaged_cards_asked() {
+    let mut random = seeded("damaged_cards_asked");
+    let mut ask = Ask::default();
+    for round in 0..20_000 {
+        let (mut scale, mut zone) = (scale(&mut random), random.pick(&ZONES));
+        let record = record(&mut random, scale, zone, 3);
+        let mut card = card(scale, zone, &record);
+        change_some(&mut random, &mut card);
+        if round % 8 == 0 {
+            scale = random.pick(&[scale, 0, 4_999, 20_000_001, u64::MAX]);
+            zone = random.pick(&[zone, 0, 9, 18, 19, u64::MAX]);
+            card.truncate(random.pick(&[98, 97, 0]));
+        }
+        let sheet = Sheet { scale, zone, card: &card };
+        let (pixel, position) = (some_pixel(&mut random), some_position(&mut random));
+        ask_all(&mut ask, &sheet, pixel, position, 1);
+    }
+    ask.met("place", &[0, 1, 2, 3, 6, 7, 8, 9, 10, 11, 12]);
+    ask.met("position", &[0, 1, 2, 3, 6, 7, 8, 9, 10, 11, 12, 13]);
+    ask.met("index_check", &[0, 1, 2, 3, 6, 7, 8, 9, 10, 11]);
+    ask.met("window", &[0, 1, 2, 3, 6, 7, 8, 9, 10, 11]);
+}
+
+/// Every pixel of the worked card, and a border of two outside it.
+#[test]
+fn every_pixel() {
+    let mut ask = Ask::default();
+    let sheet = Sheet { scale: 1_000_000, zone: 1, card: WORKED };
+    for row in -2..258 {
+        for column in -2..130 {
+            let pixel = Pixel { row, column };
+            let place = ask.place(&sheet, pixel);
+            let position = ask.position(&sheet, pixel);
+            assert_eq!(place.is_ok(), position.is_ok(), "no padding in the worked card");
+            if let Ok(position) = position {
+                assert_eq!(ask.pixel(&sheet, position), Ok(pixel));
+            }
+        }
+    }
+    ask.met("place", &[0, 12]);
+    ask.met("position", &[0, 12]);
+    ask.met("pixel", &[0]);
+}
