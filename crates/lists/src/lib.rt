@@ -7,9 +7,9 @@ ghost use mathlib.Core.Bool.{true};
 ghost use Prim.Native.Nat.{_+_, _*_, _<_};
 ghost use lib.ListN.{length, set};
 ghost use Rattle.card.specs.Read.{Known};
-ghost use Rattle.card.specs.Write.{over};
 ghost use Rattle.lists.specs.Engine.{Made};
-ghost use Rattle.lists.specs.Lists.{listsFit, listsVerdict, pairs, pairAt, positionAt, pixelOfEach, valuesIn, numbersIn, valuesLeft, numbersLeft};
+ghost use Rattle.lists.specs.Lists.{listsFit, listsVerdict, pairAt, positionAt, pixelOfEach};
+ghost use Rattle.lists.specs.Lists.{valuesLeft, numbersLeft};
 
 mod engine;
 
@@ -50,8 +50,10 @@ fn put_pair(list: &mut [i64], numbers: &mut [u32], i: usize, first: i64, second:
 // The position of each pixel.
 fn fill_positions(e: Engine, pixels: &[i64], positions: &mut [i64], numbers: &mut [u32])
     requires { ⌜ Made e ⌝ ∗ ⌜ listsFit (length (now pixels)) (length (now positions)) (length (now numbers)) ≡ true ⌝ }
-    ensures positions { λ _. ⌜ now (positions .exit) ≡ over (valuesIn (pairs (length (now (pixels .entry)))) (positionAt (e .card) (now (pixels .entry)))) (now (positions .entry)) ⌝ }
-    ensures numbers { λ _. ⌜ now (numbers .exit) ≡ over (numbersIn (pairs (length (now (pixels .entry)))) (positionAt (e .card) (now (pixels .entry)))) (now (numbers .entry)) ⌝ }
+    ensures positions { λ _. ⌜ now (positions .exit)
+        ≡ valuesLeft (positionAt (e .card)) (now (pixels .entry)) (now (positions .entry)) (now (numbers .entry)) ⌝ }
+    ensures numbers { λ _. ⌜ now (numbers .exit)
+        ≡ numbersLeft (positionAt (e .card)) (now (pixels .entry)) (now (positions .entry)) (now (numbers .entry)) ⌝ }
 {
     let n = pixels.len() / 2;
     let mut i = 0;
@@ -66,8 +68,10 @@ fn fill_positions(e: Engine, pixels: &[i64], positions: &mut [i64], numbers: &mu
 // The pixel at each position.
 fn fill_pixels(e: Engine, positions: &[i64], pixels: &mut [i64], numbers: &mut [u32])
     requires { ⌜ Made e ⌝ ∗ ⌜ listsFit (length (now positions)) (length (now pixels)) (length (now numbers)) ≡ true ⌝ }
-    ensures pixels { λ _. ⌜ now (pixels .exit) ≡ over (valuesIn (pairs (length (now (positions .entry)))) (pixelOfEach (e .card) (now (positions .entry)))) (now (pixels .entry)) ⌝ }
-    ensures numbers { λ _. ⌜ now (numbers .exit) ≡ over (numbersIn (pairs (length (now (positions .entry)))) (pixelOfEach (e .card) (now (positions .entry)))) (now (numbers .entry)) ⌝ }
+    ensures pixels { λ _. ⌜ now (pixels .exit)
+        ≡ valuesLeft (pixelOfEach (e .card)) (now (positions .entry)) (now (pixels .entry)) (now (numbers .entry)) ⌝ }
+    ensures numbers { λ _. ⌜ now (numbers .exit)
+        ≡ numbersLeft (pixelOfEach (e .card)) (now (positions .entry)) (now (pixels .entry)) (now (numbers .entry)) ⌝ }
 {
     let n = positions.len() / 2;
     let mut i = 0;
@@ -79,13 +83,15 @@ fn fill_pixels(e: Engine, positions: &[i64], pixels: &mut [i64], numbers: &mut [
     }
 }
 
-// The positions of a list of pixels: rows at the even places, columns at the odd ones, and likewise latitudes and longitudes. A number is
-// 0 where the pixel is answered. Refuses 6, and then leaves both lists as they were.
+// The positions of a list of pixels, pairs of row and column; a number is 0 where its pixel is answered. Refuses 6, and then both lists stay.
 pub fn positions(k: Card, pixels: &[i64], positions: &mut [i64], numbers: &mut [u32]) -> Verdict
     requires { ⌜ Known k ⌝ }
-    ensures answer { λ r. ⌜ r ≡ listsVerdict (length (now (pixels .entry))) (length (now (positions .entry))) (length (now (numbers .entry))) ⌝ }
-    ensures positions { λ _. ⌜ now (positions .exit) ≡ valuesLeft (positionAt k) (now (pixels .entry)) (now (positions .entry)) (now (numbers .entry)) ⌝ }
-    ensures numbers { λ _. ⌜ now (numbers .exit) ≡ numbersLeft (positionAt k) (now (pixels .entry)) (now (positions .entry)) (now (numbers .entry)) ⌝ }
+    ensures answer { λ r. ⌜ r
+        ≡ listsVerdict (length (now (pixels .entry))) (length (now (positions .entry))) (length (now (numbers .entry))) ⌝ }
+    ensures positions { λ _. ⌜ now (positions .exit)
+        ≡ valuesLeft (positionAt k) (now (pixels .entry)) (now (positions .entry)) (now (numbers .entry)) ⌝ }
+    ensures numbers { λ _. ⌜ now (numbers .exit)
+        ≡ numbersLeft (positionAt k) (now (pixels .entry)) (now (positions .entry)) (now (numbers .entry)) ⌝ }
 {
     if !lists_fit(pixels.len(), positions.len(), numbers.len()) {
         return Verdict::Refused(arc::refused(6));
@@ -97,9 +103,12 @@ pub fn positions(k: Card, pixels: &[i64], positions: &mut [i64], numbers: &mut [
 // The pixels of a list of positions, likewise.
 pub fn pixels(k: Card, positions: &[i64], pixels: &mut [i64], numbers: &mut [u32]) -> Verdict
     requires { ⌜ Known k ⌝ }
-    ensures answer { λ r. ⌜ r ≡ listsVerdict (length (now (positions .entry))) (length (now (pixels .entry))) (length (now (numbers .entry))) ⌝ }
-    ensures pixels { λ _. ⌜ now (pixels .exit) ≡ valuesLeft (pixelOfEach k) (now (positions .entry)) (now (pixels .entry)) (now (numbers .entry)) ⌝ }
-    ensures numbers { λ _. ⌜ now (numbers .exit) ≡ numbersLeft (pixelOfEach k) (now (positions .entry)) (now (pixels .entry)) (now (numbers .entry)) ⌝ }
+    ensures answer { λ r. ⌜ r
+        ≡ listsVerdict (length (now (positions .entry))) (length (now (pixels .entry))) (length (now (numbers .entry))) ⌝ }
+    ensures pixels { λ _. ⌜ now (pixels .exit)
+        ≡ valuesLeft (pixelOfEach k) (now (positions .entry)) (now (pixels .entry)) (now (numbers .entry)) ⌝ }
+    ensures numbers { λ _. ⌜ now (numbers .exit)
+        ≡ numbersLeft (pixelOfEach k) (now (positions .entry)) (now (pixels .entry)) (now (numbers .entry)) ⌝ }
 {
     if !lists_fit(positions.len(), pixels.len(), numbers.len()) {
         return Verdict::Refused(arc::refused(6));

@@ -83,7 +83,8 @@ returns : tie.Need-returns Inv-loop μ-loop
 returns c =
     let t = c .before .loop .inv in
     let e : c .before .loop .i ≡ length (c .before .before .before .args .pixels .now) / 2 = omega (arith, c .loop-test .left, t .upto) in
-    (rw e at (t .values), rw e at (t .numbers))
+    let fit = c .before .before .before .pre .1 in
+    (rw fit (rw e at (t .values)), rw fit (rw e at (t .numbers)))
 
 pub fill-positions-spec : {M : Type 1} → statement M
 fill-positions-spec =

@@ -36,7 +36,7 @@ returns-2 : tie.Need-returns-2
 returns-2 c =
     let f = sym (c .before .before .before .before .before .before .before .before .lists-fit .ensures) ∙ not-false _ (c .before .before .before .before .before .before .before .if1 .left) in
     let card = engine-card (c .before .before .before .before .before .before .engine-of .ensures) in
-    (rw f refl, (rw f (rw card at (c .before .before .before .fill-positions .ensures .0)), rw f (rw card at (c .before .before .before .fill-positions .ensures .1))))
+    (rw f refl, (rw card at (c .before .before .before .fill-positions .ensures .0), rw card at (c .before .before .before .fill-positions .ensures .1)))
 
 pub positions-spec : {M : Type 1} → statement M
 positions-spec =

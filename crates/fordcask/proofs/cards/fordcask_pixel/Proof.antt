@@ -36,13 +36,15 @@ returns c =
     c .into-parts .ensures
     ∙ ap pixelReport
     (rw (toZ-ofZ w64 (s .args .lat) (s .fits .lat), toZ-ofZ w64 (s .args .lon) (s .fits .lon)) at (c .before .pixel .ensures)
-    ∙ card-answers (s .args .scale) (s .args .zone) (s .args .card .now) (c .before .before .before .before .before .read-card .ensures) PixelAnswer.Refused (λ (k : Card). pixelOf k (s .args .lat) (s .args .lon)) (c .before .before .enum-told .given .1))
+    ∙ card-answers (s .args .scale) (s .args .zone) (s .args .card .now) (c .before .before .before .before .before .read-card .ensures)
+    PixelAnswer.Refused (λ (k : Card). pixelOf k (s .args .lat) (s .args .lon)) (c .before .before .enum-told .given .1))
 
 returns-2 : tie.Need-returns-2
 returns-2 c =
     let s = c .before .before .before .before .before .before .before in
     c .into-parts2 .ensures
-    ∙ ap pixelReport (card-refuses (s .args .scale) (s .args .zone) (s .args .card .now) (c .before .before .before .before .before .read-card .ensures) PixelAnswer.Refused (λ (k : Card). pixelOf k (s .args .lat) (s .args .lon)) (c .before .before .verdict .given .1))
+    ∙ ap pixelReport (card-refuses (s .args .scale) (s .args .zone) (s .args .card .now) (c .before .before .before .before .before .read-card .ensures)
+    PixelAnswer.Refused (λ (k : Card). pixelOf k (s .args .lat) (s .args .lon)) (c .before .before .verdict .given .1))
 
 pub fordcask-pixel-spec : {M : Type 1} → statement M
 fordcask-pixel-spec =

@@ -36,13 +36,15 @@ returns c =
     c .into-parts .ensures
     ∙ ap placeReport
     (rw (toZ-ofZ w64 (s .args .row) (s .fits .row), toZ-ofZ w64 (s .args .column) (s .fits .column)) at (c .before .place .ensures)
-    ∙ card-answers (s .args .scale) (s .args .zone) (s .args .card .now) (c .before .before .before .before .before .read-card .ensures) PlaceAnswer.Refused (λ (k : Card). placeOf k (s .args .row) (s .args .column)) (c .before .before .enum-told .given .1))
+    ∙ card-answers (s .args .scale) (s .args .zone) (s .args .card .now) (c .before .before .before .before .before .read-card .ensures)
+    PlaceAnswer.Refused (λ (k : Card). placeOf k (s .args .row) (s .args .column)) (c .before .before .enum-told .given .1))
 
 returns-2 : tie.Need-returns-2
 returns-2 c =
     let s = c .before .before .before .before .before .before .before in
     c .into-parts2 .ensures
-    ∙ ap placeReport (card-refuses (s .args .scale) (s .args .zone) (s .args .card .now) (c .before .before .before .before .before .read-card .ensures) PlaceAnswer.Refused (λ (k : Card). placeOf k (s .args .row) (s .args .column)) (c .before .before .verdict .given .1))
+    ∙ ap placeReport (card-refuses (s .args .scale) (s .args .zone) (s .args .card .now) (c .before .before .before .before .before .read-card .ensures)
+    PlaceAnswer.Refused (λ (k : Card). placeOf k (s .args .row) (s .args .column)) (c .before .before .verdict .given .1))
 
 pub fordcask-place-spec : {M : Type 1} → statement M
 fordcask-place-spec =

@@ -18,7 +18,9 @@ told c =
     let s = c .before .before .before .before .before .before .before .before in
     c .stored-number .ensures
     ∙ number-plain _ (s .args .index .now) (s .args .count) (s .args .store .now) (s .args .row) (s .args .column) (s .fits .row) (s .fits .column)
-    ∙ card-answers (s .args .scale) (s .args .zone) (s .args .card .now) (c .before .before .before .before .read-card .ensures) NumberAnswer.Refused (λ (k : Card). numberOf k (s .args .index .now) (s .args .count) (s .args .store .now) (s .args .row) (s .args .column)) (c .before .enum-told .given .1)
+    ∙ card-answers (s .args .scale) (s .args .zone) (s .args .card .now) (c .before .before .before .before .read-card .ensures)
+    NumberAnswer.Refused
+    (λ (k : Card). numberOf k (s .args .index .now) (s .args .count) (s .args .store .now) (s .args .row) (s .args .column)) (c .before .enum-told .given .1)
 
 held : (c : tie.After-known-told) → let s = c .before .before .before .before .before .before .before .before .before .before .before in InStore (c .before .n .given .0 .0) (s .args .count) (s .args .store .now)
 held c = let s = c .before .before .before .before .before .before .before .before .before .before .before in number-held _ _ _ _ _ _ _ (sym (c .before .before .before .stored-number .ensures ∙ number-plain _ (s .args .index .now) (s .args .count) (s .args .store .now) (s .args .row) (s .args .column) (s .fits .row) (s .fits .column)) ∙ c .before .n .given .1)
@@ -67,7 +69,9 @@ returns-2 c =
 returns-3 : tie.Need-returns-3
 returns-3 c =
     let s = c .before .before .before .before .before .before .before .before .before in
-    c .no-tile2 .ensures ∙ ap tileParts (card-refuses (s .args .scale) (s .args .zone) (s .args .card .now) (c .before .before .before .before .before .read-card .ensures) NumberAnswer.Refused (λ (k : Card). numberOf k (s .args .index .now) (s .args .count) (s .args .store .now) (s .args .row) (s .args .column)) (c .before .before .verdict .given .1))
+    c .no-tile2 .ensures ∙ ap tileParts (card-refuses (s .args .scale) (s .args .zone) (s .args .card .now) (c .before .before .before .before .before .read-card .ensures)
+    NumberAnswer.Refused
+    (λ (k : Card). numberOf k (s .args .index .now) (s .args .count) (s .args .store .now) (s .args .row) (s .args .column)) (c .before .before .verdict .given .1))
 
 pub fordcask-tile-spec : {M : Type 1} → statement M
 fordcask-tile-spec =
