@@ -8,4 +8,4 @@ pub mod NoDrift
 pub mod Ranges
 pub mod Offset
 pub mod RoundTrips
-pub mod Held
+pub mod Ranged

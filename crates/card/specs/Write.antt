@@ -94,9 +94,9 @@ writeIn zone (SpacingAnswer.Refused e) r n = Verdict.Refused e
 unfoldable pub writeOf : ℕ → ℕ → Record → List ℕ → Verdict
 writeOf scale zone r out = writeIn zone (spacingOf scale zone) r (length out)
 
--- the card, and the output past 98 bytes as it was
+-- what is written over the start of a list, and the rest as it was
 abbrev pub over : {A : Type 0} → List A → List A → List A
-over card out = card ++ drop (length card) out
+over xs out = xs ++ drop (length xs) out
 
 abbrev pub textFor : SpacingAnswer → Record → List ℕ
 textFor (SpacingAnswer.Constants a b) r = cardText a b r

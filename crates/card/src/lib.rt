@@ -13,6 +13,7 @@ pub use parts::PixelParts;
 pub use parts::PlaceParts;
 pub use parts::PositionParts;
 pub use range::Ranged;
+pub use range::RangedParts;
 pub use range::count_position;
 
 // What may stand in a subfield (01, "The image card, 98 bytes").

@@ -2,7 +2,7 @@
 use arc::Refusal;
 use whole::Counted;
 ghost use mathlib.Core.Path.{_≡_};
-ghost use Rattle.card.specs.Held.{rangedOf};
+ghost use Rattle.card.specs.Ranged.{rangedOf, rangedReport, rangedTold};
 
 // A position counted from the South Pole and from 180° west.
 pub enum Ranged {
@@ -10,7 +10,37 @@ pub enum Ranged {
     Refused(Refusal),
 }
 
-// Refuses 4, 5.
+// Number, place, and the two counts.
+pub struct RangedParts {
+    pub number: u32,
+    pub at: u64,
+    pub north: u64,
+    pub east: u64,
+}
+
+impl Ranged {
+    // The paper's number, place and values (01, "Numbers given in refusal").
+    pub fn into_parts(self) -> RangedParts
+        ensures { λ r. ⌜ rangedTold r ≡ rangedReport self ⌝ }
+    {
+        match self {
+            Ranged::At { north, east } => RangedParts {
+                number: 0,
+                at: 0,
+                north,
+                east,
+            },
+            Ranged::Refused(r) => RangedParts {
+                number: r.number,
+                at: r.at,
+                north: 0,
+                east: 0,
+            },
+        }
+    }
+}
+
+// A position, counted. Refuses 4, 5.
 pub fn count_position(lat: i64, lon: i64) -> Ranged
     ensures { λ r. ⌜ r ≡ rangedOf lat lon ⌝ }
 {

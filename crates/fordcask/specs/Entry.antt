@@ -2,7 +2,7 @@
 --     onCard x f g           a question on a card as it was read: reading's refusal first, then the question's own answer
 --     coverParts, rectangleParts    number, place, and the zones: the first `length` slots, the others 0
 --     cardParts              number, place, and what the card holds; all 0 in a refusal
---     recordIn               the record to be written; TIF is Y where its number is not 0
+--     recordFrom               the record to be written; TIF is Y where its number is not 0
 --     tileParts              number, place, the stored number, and where its bytes stand in the store
 use mathlib.Core.Path.{_≡_}
 use Prim.Native.Nat.{ℕ, _-_, _*_}
@@ -49,8 +49,8 @@ cardParts x =
       nul = x .card .nul; nus = x .card .nus; nll = x .card .nll; nls = x .card .nls; nfl = x .card .nfl; nfc = x .card .nfc;
       bad = x .card .bad; tif = cond (x .card .tif) 1 0 }
 
-abbrev pub recordIn : RecordParts → Record
-recordIn r =
+abbrev pub recordFrom : RecordParts → Record
+recordFrom r =
     record {
       n = r .n; m = r .m; nul = r .nul; nus = r .nus; nll = r .nll; nls = r .nls; nfl = r .nfl; nfc = r .nfc;
       bad = r .bad; tif = not (eqb (r .tif) 0) }

@@ -11,9 +11,10 @@ ghost use Rattle.card.specs.declared.PositionAnswer.{PositionAnswer};
 ghost use Rattle.card.specs.declared.PixelAnswer.{PixelAnswer};
 ghost use Rattle.card.specs.Read.{readOf};
 ghost use Rattle.card.specs.Write.{writeOf, outOf};
-ghost use Rattle.card.specs.Grid.{placeOf, placeReport, placeTold, positionOf, positionReport, positionTold, pixelOf, pixelReport, pixelTold};
-ghost use Rattle.lists.specs.Lists.{listsVerdict, positionAt, pixelOfEach, valuesLeft, numbersLeft};
-ghost use Rattle.fordcask.specs.Entry.{onCard, cardParts, recordIn};
+ghost use Rattle.card.specs.Grid.{placeOf, placeReport, placeTold, positionOf, positionReport, positionTold};
+ghost use Rattle.card.specs.Grid.{pixelOf, pixelReport, pixelTold};
+ghost use Rattle.lists.specs.Lists.{listsVerdict, positionReportAt, pixelReportAt, valuesLeft, numbersLeft};
+ghost use Rattle.fordcask.specs.Entry.{onCard, cardParts, recordFrom};
 
 // Reads a card. Refuses 1, 2, 3, 6, the subfields' 7 and 8, 9, 10, 11.
 #[no_mangle]
@@ -46,8 +47,8 @@ pub extern "C" fn fordcask_read_card(scale: u64, zone: u64, card: &[u8]) -> Card
 // Writes a card. Refuses 1, 2, 3, 6, NFL, NFC (8), BAD (7), 10, 11; on a refusal the output stays.
 #[no_mangle]
 pub extern "C" fn fordcask_write_card(scale: u64, zone: u64, r: RecordParts, out: &mut [u8]) -> Refusal
-    ensures answer { λ e. ⌜ e ≡ refusalOf (writeOf scale zone (recordIn r) (now (out .entry))) ⌝ }
-    ensures left { λ _. ⌜ now (out .exit) ≡ outOf scale zone (recordIn r) (now (out .entry)) ⌝ }
+    ensures answer { λ e. ⌜ e ≡ refusalOf (writeOf scale zone (recordFrom r) (now (out .entry))) ⌝ }
+    ensures left { λ _. ⌜ now (out .exit) ≡ outOf scale zone (recordFrom r) (now (out .entry)) ⌝ }
 {
     let bad = r.bad;
     let record = Record {
@@ -68,7 +69,8 @@ pub extern "C" fn fordcask_write_card(scale: u64, zone: u64, r: RecordParts, out
 // The place of a pixel. Refuses reading's numbers, then 12.
 #[no_mangle]
 pub extern "C" fn fordcask_place(scale: u64, zone: u64, card: &[u8], row: i64, column: i64) -> PlaceParts
-    ensures { λ r. ⌜ placeTold r ≡ placeReport (onCard (readOf scale zone (now (card .entry))) PlaceAnswer.Refused (λ k. placeOf k row column)) ⌝ }
+    ensures { λ r. ⌜ placeTold r
+        ≡ placeReport (onCard (readOf scale zone (now (card .entry))) PlaceAnswer.Refused (λ k. placeOf k row column)) ⌝ }
 {
     let reading = card_text::read_card(scale, zone, card);
     let verdict = reading.verdict;
@@ -82,7 +84,8 @@ pub extern "C" fn fordcask_place(scale: u64, zone: u64, card: &[u8], row: i64, c
 // The position of a pixel. Refuses reading's numbers, then 12, 13.
 #[no_mangle]
 pub extern "C" fn fordcask_position(scale: u64, zone: u64, card: &[u8], row: i64, column: i64) -> PositionParts
-    ensures { λ r. ⌜ positionTold r ≡ positionReport (onCard (readOf scale zone (now (card .entry))) PositionAnswer.Refused (λ k. positionOf k row column)) ⌝ }
+    ensures { λ r. ⌜ positionTold r
+        ≡ positionReport (onCard (readOf scale zone (now (card .entry))) PositionAnswer.Refused (λ k. positionOf k row column)) ⌝ }
 {
     let reading = card_text::read_card(scale, zone, card);
     let verdict = reading.verdict;
@@ -96,7 +99,8 @@ pub extern "C" fn fordcask_position(scale: u64, zone: u64, card: &[u8], row: i64
 // The pixel at a position. Refuses reading's numbers, then 4, 5, 12, 13.
 #[no_mangle]
 pub extern "C" fn fordcask_pixel(scale: u64, zone: u64, card: &[u8], lat: i64, lon: i64) -> PixelParts
-    ensures { λ r. ⌜ pixelTold r ≡ pixelReport (onCard (readOf scale zone (now (card .entry))) PixelAnswer.Refused (λ k. pixelOf k lat lon)) ⌝ }
+    ensures { λ r. ⌜ pixelTold r
+        ≡ pixelReport (onCard (readOf scale zone (now (card .entry))) PixelAnswer.Refused (λ k. pixelOf k lat lon)) ⌝ }
 {
     let reading = card_text::read_card(scale, zone, card);
     let verdict = reading.verdict;
@@ -109,13 +113,20 @@ pub extern "C" fn fordcask_pixel(scale: u64, zone: u64, card: &[u8], lat: i64, l
 
 // The positions of a list of pixels, the card read once. Refuses reading's numbers, then 6; on a refusal both lists stay.
 #[no_mangle]
-pub extern "C" fn fordcask_positions(scale: u64, zone: u64, card: &[u8], pixels: &[i64], positions: &mut [i64], numbers: &mut [u32]) -> Refusal
+pub extern "C" fn fordcask_positions(
+    scale: u64,
+    zone: u64,
+    card: &[u8],
+    pixels: &[i64],
+    positions: &mut [i64],
+    numbers: &mut [u32],
+) -> Refusal
     ensures answer { λ r. ⌜ r ≡ refusalOf (onCard (readOf scale zone (now (card .entry))) Verdict.Refused
         (λ k. listsVerdict (length (now (pixels .entry))) (length (now (positions .entry))) (length (now (numbers .entry))))) ⌝ }
     ensures positions { λ _. ⌜ now (positions .exit) ≡ onCard (readOf scale zone (now (card .entry))) (λ e. now (positions .entry))
-        (λ k. valuesLeft (positionAt k) (now (pixels .entry)) (now (positions .entry)) (now (numbers .entry))) ⌝ }
+        (λ k. valuesLeft (positionReportAt k) (now (pixels .entry)) (now (positions .entry)) (now (numbers .entry))) ⌝ }
     ensures numbers { λ _. ⌜ now (numbers .exit) ≡ onCard (readOf scale zone (now (card .entry))) (λ e. now (numbers .entry))
-        (λ k. numbersLeft (positionAt k) (now (pixels .entry)) (now (positions .entry)) (now (numbers .entry))) ⌝ }
+        (λ k. numbersLeft (positionReportAt k) (now (pixels .entry)) (now (positions .entry)) (now (numbers .entry))) ⌝ }
 {
     let reading = card_text::read_card(scale, zone, card);
     let verdict = reading.verdict;
@@ -128,13 +139,20 @@ pub extern "C" fn fordcask_positions(scale: u64, zone: u64, card: &[u8], pixels:
 
 // The pixels of a list of positions, likewise.
 #[no_mangle]
-pub extern "C" fn fordcask_pixels(scale: u64, zone: u64, card: &[u8], positions: &[i64], pixels: &mut [i64], numbers: &mut [u32]) -> Refusal
+pub extern "C" fn fordcask_pixels(
+    scale: u64,
+    zone: u64,
+    card: &[u8],
+    positions: &[i64],
+    pixels: &mut [i64],
+    numbers: &mut [u32],
+) -> Refusal
     ensures answer { λ r. ⌜ r ≡ refusalOf (onCard (readOf scale zone (now (card .entry))) Verdict.Refused
         (λ k. listsVerdict (length (now (positions .entry))) (length (now (pixels .entry))) (length (now (numbers .entry))))) ⌝ }
     ensures pixels { λ _. ⌜ now (pixels .exit) ≡ onCard (readOf scale zone (now (card .entry))) (λ e. now (pixels .entry))
-        (λ k. valuesLeft (pixelOfEach k) (now (positions .entry)) (now (pixels .entry)) (now (numbers .entry))) ⌝ }
+        (λ k. valuesLeft (pixelReportAt k) (now (positions .entry)) (now (pixels .entry)) (now (numbers .entry))) ⌝ }
     ensures numbers { λ _. ⌜ now (numbers .exit) ≡ onCard (readOf scale zone (now (card .entry))) (λ e. now (numbers .entry))
-        (λ k. numbersLeft (pixelOfEach k) (now (positions .entry)) (now (pixels .entry)) (now (numbers .entry))) ⌝ }
+        (λ k. numbersLeft (pixelReportAt k) (now (positions .entry)) (now (pixels .entry)) (now (numbers .entry))) ⌝ }
 {
     let reading = card_text::read_card(scale, zone, card);
     let verdict = reading.verdict;

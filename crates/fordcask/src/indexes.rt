@@ -15,7 +15,7 @@ ghost use Rattle.tiles.specs.Window.{windowOf, windowReport};
 ghost use Rattle.tiles.specs.Parts.{bandsTold, windowTold};
 ghost use Rattle.fordcask.specs.Entry.{onCard, tileParts};
 
-// Whether each number 1 to count occurs exactly once. Refuses reading's numbers, then 6, 15; the marks stay where the card or a length is refused.
+// Whether each number 1 to count occurs exactly once. Refuses reading's numbers, then 6, 15; on those and 6 the marks stay.
 #[no_mangle]
 pub extern "C" fn fordcask_index_check(scale: u64, zone: u64, card: &[u8], index: &[u32], count: u64, marks: &mut [u8]) -> Refusal
     ensures answer { λ r. ⌜ r ≡ refusalOf (onCard (readOf scale zone (now (card .entry))) Verdict.Refused

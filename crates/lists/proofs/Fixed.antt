@@ -1,5 +1,5 @@
--- A quotient (R + p c) / d by multiplication: with the rate p / d and the start R / d in 2^36ths, rounded up, the error over c steps is
--- below one 2^36th of a dth, so the floor is the same. Assumes nothing.
+-- A quotient (R + p c) / d by multiplication: with the rate p / d and the start R / d in 2^36ths, rounded up, the error over c steps
+-- stays below one dth, so the floor is the same. Assumes nothing.
 use mathlib.Core.Path.{_≡_, sym, ap, _∙_}
 use Prim.Native.Nat.{ℕ, _+_, _-_, _*_, _/_, _≤_, _<_}
 use native.Mathlib.Nat.{mul-le-mul-left, mul-assoc, mul-add, add-mul, mul-one, mul-right-comm, div-eq-of-lt-le, div-mul-le-self, lt-div-mul-add, le-of-mul-le-mul-right, lt-of-mul-lt-mul-right}

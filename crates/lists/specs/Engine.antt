@@ -15,7 +15,7 @@ use Rattle.lists.specs.declared.engine.Engine.{Engine}
 abbrev pub scaleUp : ℕ → ℕ → ℕ
 scaleUp x d = (x * 68719476736 + (d - 1)) / d
 
--- twice the nearest's numerator at row 0: 506,250 × 128n + u, counted from the South Pole
+-- top and left: the nearest's numerator at row 0 and at column 0, less its 512: 506,250 × 128n + u, counted from the South Pole, and the like of m
 abbrev pub rowsAt : ℕ → ℕ → Axis
 rowsAt top d = record { base = top / d; rate = scaleUp 506250 d; start = scaleUp (d - 1 - top % d) d }
 

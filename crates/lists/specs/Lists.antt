@@ -4,9 +4,9 @@
 --     listsFit p o n         the length p handed in is even, the list to fill, of length o, is no shorter, and there is a number for each pair
 --     listsVerdict p o n     6 where they do not fit
 --     pairAt ps i            pair i of a list: its first number stands at 2i, its second at 2i + 1
---     positionAt k ps i      the report of pixel i of the list, a pair of row and column
---     pixelOfEach k qs i     the report of position i of the list, a pair of latitude and longitude
---     valuesIn, numbersIn    the value parts, and the numbers, of the first n reports
+--     positionReportAt k ps i      the report of pixel i of the list, a pair of row and column
+--     pixelReportAt k qs i     the report of position i of the list, a pair of latitude and longitude
+--     valuesOf, numbersOf    the value parts, and the numbers, of the first n reports
 --     valuesLeft, numbersLeft    what the list to fill and the numbers hold at the end
 use Prim.Native.Nat.{ℕ, zero, suc, _+_, _*_, _/_, _%_}
 use mathlib.Core.List.{List, [], _∷_, _++_}
@@ -37,21 +37,21 @@ listsVerdict p o n = cond (listsFit p o n) Verdict.Accepted (Verdict.Refused (re
 abbrev pub pairAt : List ℤ → ℕ → Pair
 pairAt ps i = record { first = getD ps (2 * i) (pos 0); second = getD ps (2 * i + 1) (pos 0) }
 
-abbrev pub positionAt : Card → List ℤ → ℕ → Report
-positionAt k ps i = positionReport (positionOf k (pairAt ps i .first) (pairAt ps i .second))
+abbrev pub positionReportAt : Card → List ℤ → ℕ → Report
+positionReportAt k ps i = positionReport (positionOf k (pairAt ps i .first) (pairAt ps i .second))
 
-abbrev pub pixelOfEach : Card → List ℤ → ℕ → Report
-pixelOfEach k qs i = pixelReport (pixelOf k (pairAt qs i .first) (pairAt qs i .second))
+abbrev pub pixelReportAt : Card → List ℤ → ℕ → Report
+pixelReportAt k qs i = pixelReport (pixelOf k (pairAt qs i .first) (pairAt qs i .second))
 
-abbrev pub valuesIn : ℕ → (ℕ → Report) → List ℤ
-valuesIn n f = each n (λ i. f i .values)
+abbrev pub valuesOf : ℕ → (ℕ → Report) → List ℤ
+valuesOf n f = each n (λ i. f i .values)
 
-abbrev pub numbersIn : ℕ → (ℕ → Report) → List ℕ
-numbersIn n f = each n (λ i. f i .number ∷ [])
+abbrev pub numbersOf : ℕ → (ℕ → Report) → List ℕ
+numbersOf n f = each n (λ i. f i .number ∷ [])
 
 -- what is left in the list to fill, and in the numbers, f being the reports of the pairs handed in: as they were on a refusal
 abbrev pub valuesLeft : (List ℤ → ℕ → Report) → List ℤ → List ℤ → List ℕ → List ℤ
-valuesLeft f ps out nums = cond (listsFit (length ps) (length out) (length nums)) (over (valuesIn (pairs (length ps)) (f ps)) out) out
+valuesLeft f ps out nums = cond (listsFit (length ps) (length out) (length nums)) (over (valuesOf (pairs (length ps)) (f ps)) out) out
 
 abbrev pub numbersLeft : (List ℤ → ℕ → Report) → List ℤ → List ℤ → List ℕ → List ℕ
-numbersLeft f ps out nums = cond (listsFit (length ps) (length out) (length nums)) (over (numbersIn (pairs (length ps)) (f ps)) nums) nums
+numbersLeft f ps out nums = cond (listsFit (length ps) (length out) (length nums)) (over (numbersOf (pairs (length ps)) (f ps)) nums) nums

@@ -46,7 +46,7 @@ fn scale_up(x: u64, d: u64) -> u64
     (x * ONE + (d - 1)) / d
 }
 
-// v modulo a, at most twice a.
+// v modulo a, v being at most twice a.
 fn reduced(v: u64, a: u64) -> u64
     requires { ⌜ v ≤ 2 * a ⌝ ∗ ⌜ 1 ≤ a ⌝ ∗ ⌜ a ≤ 129600000 ⌝ }
     ensures { λ r. ⌜ r ≡ v % a ⌝ }

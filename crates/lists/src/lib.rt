@@ -8,7 +8,7 @@ ghost use Prim.Native.Nat.{_+_, _*_, _<_};
 ghost use lib.ListN.{length, set};
 ghost use Rattle.card.specs.Read.{Known};
 ghost use Rattle.lists.specs.Engine.{Made};
-ghost use Rattle.lists.specs.Lists.{listsFit, listsVerdict, pairAt, positionAt, pixelOfEach};
+ghost use Rattle.lists.specs.Lists.{listsFit, listsVerdict, pairAt, positionReportAt, pixelReportAt};
 ghost use Rattle.lists.specs.Lists.{valuesLeft, numbersLeft};
 
 mod engine;
@@ -51,9 +51,9 @@ fn put_pair(list: &mut [i64], numbers: &mut [u32], i: usize, first: i64, second:
 fn fill_positions(e: Engine, pixels: &[i64], positions: &mut [i64], numbers: &mut [u32])
     requires { ⌜ Made e ⌝ ∗ ⌜ listsFit (length (now pixels)) (length (now positions)) (length (now numbers)) ≡ true ⌝ }
     ensures positions { λ _. ⌜ now (positions .exit)
-        ≡ valuesLeft (positionAt (e .card)) (now (pixels .entry)) (now (positions .entry)) (now (numbers .entry)) ⌝ }
+        ≡ valuesLeft (positionReportAt (e .card)) (now (pixels .entry)) (now (positions .entry)) (now (numbers .entry)) ⌝ }
     ensures numbers { λ _. ⌜ now (numbers .exit)
-        ≡ numbersLeft (positionAt (e .card)) (now (pixels .entry)) (now (positions .entry)) (now (numbers .entry)) ⌝ }
+        ≡ numbersLeft (positionReportAt (e .card)) (now (pixels .entry)) (now (positions .entry)) (now (numbers .entry)) ⌝ }
 {
     let n = pixels.len() / 2;
     let mut i = 0;
@@ -69,9 +69,9 @@ fn fill_positions(e: Engine, pixels: &[i64], positions: &mut [i64], numbers: &mu
 fn fill_pixels(e: Engine, positions: &[i64], pixels: &mut [i64], numbers: &mut [u32])
     requires { ⌜ Made e ⌝ ∗ ⌜ listsFit (length (now positions)) (length (now pixels)) (length (now numbers)) ≡ true ⌝ }
     ensures pixels { λ _. ⌜ now (pixels .exit)
-        ≡ valuesLeft (pixelOfEach (e .card)) (now (positions .entry)) (now (pixels .entry)) (now (numbers .entry)) ⌝ }
+        ≡ valuesLeft (pixelReportAt (e .card)) (now (positions .entry)) (now (pixels .entry)) (now (numbers .entry)) ⌝ }
     ensures numbers { λ _. ⌜ now (numbers .exit)
-        ≡ numbersLeft (pixelOfEach (e .card)) (now (positions .entry)) (now (pixels .entry)) (now (numbers .entry)) ⌝ }
+        ≡ numbersLeft (pixelReportAt (e .card)) (now (positions .entry)) (now (pixels .entry)) (now (numbers .entry)) ⌝ }
 {
     let n = positions.len() / 2;
     let mut i = 0;
@@ -89,9 +89,9 @@ pub fn positions(k: Card, pixels: &[i64], positions: &mut [i64], numbers: &mut [
     ensures answer { λ r. ⌜ r
         ≡ listsVerdict (length (now (pixels .entry))) (length (now (positions .entry))) (length (now (numbers .entry))) ⌝ }
     ensures positions { λ _. ⌜ now (positions .exit)
-        ≡ valuesLeft (positionAt k) (now (pixels .entry)) (now (positions .entry)) (now (numbers .entry)) ⌝ }
+        ≡ valuesLeft (positionReportAt k) (now (pixels .entry)) (now (positions .entry)) (now (numbers .entry)) ⌝ }
     ensures numbers { λ _. ⌜ now (numbers .exit)
-        ≡ numbersLeft (positionAt k) (now (pixels .entry)) (now (positions .entry)) (now (numbers .entry)) ⌝ }
+        ≡ numbersLeft (positionReportAt k) (now (pixels .entry)) (now (positions .entry)) (now (numbers .entry)) ⌝ }
 {
     if !lists_fit(pixels.len(), positions.len(), numbers.len()) {
         return Verdict::Refused(arc::refused(6));
@@ -106,9 +106,9 @@ pub fn pixels(k: Card, positions: &[i64], pixels: &mut [i64], numbers: &mut [u32
     ensures answer { λ r. ⌜ r
         ≡ listsVerdict (length (now (positions .entry))) (length (now (pixels .entry))) (length (now (numbers .entry))) ⌝ }
     ensures pixels { λ _. ⌜ now (pixels .exit)
-        ≡ valuesLeft (pixelOfEach k) (now (positions .entry)) (now (pixels .entry)) (now (numbers .entry)) ⌝ }
+        ≡ valuesLeft (pixelReportAt k) (now (positions .entry)) (now (pixels .entry)) (now (numbers .entry)) ⌝ }
     ensures numbers { λ _. ⌜ now (numbers .exit)
-        ≡ numbersLeft (pixelOfEach k) (now (positions .entry)) (now (pixels .entry)) (now (numbers .entry)) ⌝ }
+        ≡ numbersLeft (pixelReportAt k) (now (positions .entry)) (now (pixels .entry)) (now (numbers .entry)) ⌝ }
 {
     if !lists_fit(positions.len(), pixels.len(), numbers.len()) {
         return Verdict::Refused(arc::refused(6));

@@ -8,20 +8,20 @@ use mir.ValLaws.{toZ-ofZ}
 use Rattle.arc.specs.Refusals.{Report}
 use Rattle.card.specs.Grid.{pixelOf, pixelReport, pixelTold}
 use Rattle.lists.specs.declared.Pair.{Pair}
-use Rattle.lists.specs.Lists.{pairAt, pixelOfEach}
+use Rattle.lists.specs.Lists.{pairAt, pixelReportAt}
 use Rattle.lists.proofs.Filling.{Filled, filled-length, filled-numbers, filled-room, filled-next, pixel-values}
 use Rattle.lists.proofs.fill_pixels.Statement.{statement}
 use Rattle.lists.proofs.fill_pixels.Tie as tie
 
 abbrev Inv-loop : tie.InvT-loop
-Inv-loop e positions pixels₀ numbers₀ n i₀ pixels numbers i = Filled (pixelOfEach (e .card) positions) n pixels₀ numbers₀ i pixels numbers
+Inv-loop e positions pixels₀ numbers₀ n i₀ pixels numbers i = Filled (pixelReportAt (e .card) positions) n pixels₀ numbers₀ i pixels numbers
 
 abbrev μ-loop : tie.MeasureT-loop
 μ-loop e positions pixels₀ numbers₀ n i₀ pixels numbers i = n - i
 
 -- the reports of the positions handed in, and their value parts
 abbrev reports : tie.Start Inv-loop μ-loop → ℕ → Report
-reports s = pixelOfEach (s .args .e .card) (s .args .positions .now)
+reports s = pixelReportAt (s .args .e .card) (s .args .positions .now)
 
 two : (s : tie.Start Inv-loop μ-loop) (i : ℕ) → length (reports s i .values) ≡ 2
 two s i = pixel-values (pixelOf (s .args .e .card) (pairAt (s .args .positions .now) i .first) (pairAt (s .args .positions .now) i .second))

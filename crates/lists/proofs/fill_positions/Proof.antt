@@ -8,20 +8,20 @@ use mir.ValLaws.{toZ-ofZ}
 use Rattle.arc.specs.Refusals.{Report}
 use Rattle.card.specs.Grid.{positionOf, positionReport, positionTold}
 use Rattle.lists.specs.declared.Pair.{Pair}
-use Rattle.lists.specs.Lists.{pairAt, positionAt}
+use Rattle.lists.specs.Lists.{pairAt, positionReportAt}
 use Rattle.lists.proofs.Filling.{Filled, filled-length, filled-numbers, filled-room, filled-next, position-values}
 use Rattle.lists.proofs.fill_positions.Statement.{statement}
 use Rattle.lists.proofs.fill_positions.Tie as tie
 
 abbrev Inv-loop : tie.InvT-loop
-Inv-loop e pixels positions₀ numbers₀ n i₀ positions numbers i = Filled (positionAt (e .card) pixels) n positions₀ numbers₀ i positions numbers
+Inv-loop e pixels positions₀ numbers₀ n i₀ positions numbers i = Filled (positionReportAt (e .card) pixels) n positions₀ numbers₀ i positions numbers
 
 abbrev μ-loop : tie.MeasureT-loop
 μ-loop e pixels positions₀ numbers₀ n i₀ positions numbers i = n - i
 
 -- the reports of the pixels handed in, and their value parts
 abbrev reports : tie.Start Inv-loop μ-loop → ℕ → Report
-reports s = positionAt (s .args .e .card) (s .args .pixels .now)
+reports s = positionReportAt (s .args .e .card) (s .args .pixels .now)
 
 two : (s : tie.Start Inv-loop μ-loop) (i : ℕ) → length (reports s i .values) ≡ 2
 two s i = position-values (positionOf (s .args .e .card) (pairAt (s .args .pixels .now) i .first) (pairAt (s .args .pixels .now) i .second))

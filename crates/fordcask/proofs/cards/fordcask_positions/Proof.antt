@@ -5,7 +5,7 @@ use Rattle.arc.specs.declared.Refusal.{Refusal}
 use Rattle.arc.specs.declared.Verdict.{Verdict}
 use Rattle.arc.specs.Refusals.{refusalOf}
 use Rattle.card.specs.declared.Card.{Card}
-use Rattle.lists.specs.Lists.{listsVerdict, positionAt, valuesLeft, numbersLeft}
+use Rattle.lists.specs.Lists.{listsVerdict, positionReportAt, valuesLeft, numbersLeft}
 use Rattle.fordcask.proofs.Questions.{card-known, card-answers, card-refuses}
 use borrow.Author.Needs.{needs}
 use Rattle.fordcask.proofs.cards.fordcask_positions.Statement.{statement}
@@ -45,10 +45,10 @@ returns c =
     (λ (k : Card). listsVerdict (length (s .args .pixels .now)) (length (s .args .positions .now)) (length (s .args .numbers .now))) v),
     ( x .1 .0 ∙ card-answers (s .args .scale) (s .args .zone) (s .args .card .now) (c .before .before .before .before .before .before .before .before .before .before .read-card .ensures)
     (λ (e : Refusal). s .args .positions .now)
-    (λ (k : Card). valuesLeft (positionAt k) (s .args .pixels .now) (s .args .positions .now) (s .args .numbers .now)) v,
+    (λ (k : Card). valuesLeft (positionReportAt k) (s .args .pixels .now) (s .args .positions .now) (s .args .numbers .now)) v,
     x .1 .1 ∙ card-answers (s .args .scale) (s .args .zone) (s .args .card .now) (c .before .before .before .before .before .before .before .before .before .before .read-card .ensures)
     (λ (e : Refusal). s .args .numbers .now)
-    (λ (k : Card). numbersLeft (positionAt k) (s .args .pixels .now) (s .args .positions .now) (s .args .numbers .now)) v ) )
+    (λ (k : Card). numbersLeft (positionReportAt k) (s .args .pixels .now) (s .args .positions .now) (s .args .numbers .now)) v ) )
 
 returns-2 : tie.Need-returns-2
 returns-2 c =
@@ -59,10 +59,10 @@ returns-2 c =
     (λ (k : Card). listsVerdict (length (s .args .pixels .now)) (length (s .args .positions .now)) (length (s .args .numbers .now))) v),
     ( card-refuses (s .args .scale) (s .args .zone) (s .args .card .now) (c .before .before .before .before .read-card .ensures)
     (λ (e : Refusal). s .args .positions .now)
-    (λ (k : Card). valuesLeft (positionAt k) (s .args .pixels .now) (s .args .positions .now) (s .args .numbers .now)) v,
+    (λ (k : Card). valuesLeft (positionReportAt k) (s .args .pixels .now) (s .args .positions .now) (s .args .numbers .now)) v,
     card-refuses (s .args .scale) (s .args .zone) (s .args .card .now) (c .before .before .before .before .read-card .ensures)
     (λ (e : Refusal). s .args .numbers .now)
-    (λ (k : Card). numbersLeft (positionAt k) (s .args .pixels .now) (s .args .positions .now) (s .args .numbers .now)) v ) )
+    (λ (k : Card). numbersLeft (positionReportAt k) (s .args .pixels .now) (s .args .positions .now) (s .args .numbers .now)) v ) )
 
 pub fordcask-positions-spec : {M : Type 1} → statement M
 fordcask-positions-spec =

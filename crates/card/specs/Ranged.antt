@@ -1,0 +1,25 @@
+-- A position in range, counted in naturals (01, "Numbers given in refusal"). Definitions only.
+--     rangedOf lat lon   what `count_position` answers: the position counted from the South Pole and from 180° west; 4, 5
+use mathlib.Core.Bool.{cond}
+use mathlib.Core.List.{[], _∷_}
+use lib.IntN.{ℤ, pos}
+use Rattle.whole.specs.Whole.{outside, raise}
+use Rattle.arc.specs.Refusals.{refusal, Report, answered, refusedWith}
+use Rattle.arc.specs.Zones.{half, quarter}
+use Rattle.card.specs.declared.range.Ranged.{Ranged}
+use Rattle.card.specs.declared.range.RangedParts.{RangedParts}
+
+-- 4, 5
+abbrev pub rangedOf : ℤ → ℤ → Ranged
+rangedOf lat lon =
+    cond (outside quarter lat) (Ranged.Refused (refusal 4))
+    (cond (outside half lon) (Ranged.Refused (refusal 5)) (Ranged.At (raise quarter lat) (raise half lon)))
+
+-- ---- the paper's number, place and values: of an answer, and as `into_parts` tells them
+
+abbrev pub rangedReport : Ranged → Report
+rangedReport (Ranged.At north east) = answered (pos north ∷ pos east ∷ [])
+rangedReport (Ranged.Refused r) = refusedWith r 2
+
+abbrev pub rangedTold : RangedParts → Report
+rangedTold p = record { number = p .number; place = p .at; values = pos (p .north) ∷ pos (p .east) ∷ [] }
