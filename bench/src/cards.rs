@@ -5,8 +5,8 @@ use std::hint::black_box;
 use crate::inputs::{sheet, Sheet, Written, SCALES};
 use crate::plain::{self, Card, Record, Refusal, CARD};
 use crate::random::Random;
-use crate::raw;
 use crate::timing::{differ, measure, Form};
+use fordcask::raw;
 
 const SET: usize = 1024;
 
@@ -62,6 +62,7 @@ fn read_plain(card: &Written) -> Result<Card, Refusal> {
 }
 
 fn read_ours(card: &Written) -> raw::Card {
+    // SAFETY: the pointer and length are those of one array, which is only read.
     unsafe { raw::fordcask_read_card(card.scale, card.zone, card.bytes.as_ptr(), CARD) }
 }
 
@@ -152,6 +153,7 @@ fn write_plain(sheet: &Sheet, out: &mut [u8; CARD]) -> Refusal {
 
 fn write_ours(sheet: &Sheet, record: &raw::Record, out: &mut [u8; CARD]) -> Refusal {
     let (scale, zone) = (sheet.scale, sheet.zone);
+    // SAFETY: the pointer and length are those of one array, lent for writing.
     let done =
         unsafe { raw::fordcask_write_card(scale, zone, *record, out.as_mut_ptr(), out.len()) };
     Refusal {

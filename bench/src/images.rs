@@ -6,8 +6,8 @@ use crate::inputs::{chart, Written};
 use crate::plain::tiles::{self, Window};
 use crate::plain::CARD;
 use crate::random::Random;
-use crate::raw;
 use crate::timing::{both, differ, measure, Form};
+use fordcask::raw;
 
 pub const SCALE: u64 = 1_000_000;
 const GRIDS: [(u64, &str); 2] = [(20, "20 x 20"), (100, "100 x 100")];
@@ -82,6 +82,7 @@ fn plain_index_check(image: &Image, marks: &mut [u8]) -> (u32, u64) {
 
 fn our_index_check(image: &Image, marks: &mut [u8]) -> (u32, u64) {
     let card = &image.card;
+    // SAFETY: each pointer and length are those of one array or slice; marks are lent for writing.
     let done = unsafe {
         raw::fordcask_index_check(
             card.scale,
@@ -148,6 +149,7 @@ fn windows(question: &str, image: &Image, windows: &[Window]) {
 
 fn our_window(image: &Image, window: &Window) -> Missing {
     let card = &image.card;
+    // SAFETY: each pointer and length are those of one array or slice, which is only read.
     let found = unsafe {
         raw::fordcask_window(
             card.scale,

@@ -6,7 +6,8 @@ use crate::inputs::{largest, pixel, position, Written};
 use crate::plain::{self, Refusal};
 use crate::random::Random;
 use crate::timing::{differ, measure, Form};
-use crate::{doubles, exact, raw};
+use crate::{doubles, exact, lean};
+use fordcask::raw;
 
 const LIST: usize = 4096;
 const SCALES: [(u64, &str); 3] = [
@@ -19,8 +20,9 @@ const SCALES: [(u64, &str); 3] = [
 type List = fn(u64, u64, &[u8], &[i64], &mut [i64], &mut [u32]) -> Result<(), Refusal>;
 
 pub fn positions(random: &mut Random) {
-    let forms: [(&'static str, List); 4] = [
+    let forms: [(&'static str, List); 5] = [
         ("plain", plain::grid::positions),
+        ("lean", lean::positions),
         ("ours", our_positions),
         ("doubles", doubles::positions),
         ("exact", exact::positions),
@@ -38,8 +40,9 @@ pub fn positions(random: &mut Random) {
 }
 
 pub fn pixels(random: &mut Random) {
-    let forms: [(&'static str, List); 4] = [
+    let forms: [(&'static str, List); 5] = [
         ("plain", plain::grid::pixels),
+        ("lean", lean::pixels),
         ("ours", our_pixels),
         ("doubles", doubles::pixels),
         ("exact", exact::pixels),
@@ -111,6 +114,8 @@ fn our_positions(
     positions: &mut [i64],
     numbers: &mut [u32],
 ) -> Result<(), Refusal> {
+    // SAFETY: each pointer and length are those of one slice; the two slices written to are lent
+    // for writing.
     done(unsafe {
         raw::fordcask_positions(
             scale,
@@ -135,6 +140,8 @@ fn our_pixels(
     pixels: &mut [i64],
     numbers: &mut [u32],
 ) -> Result<(), Refusal> {
+    // SAFETY: each pointer and length are those of one slice; the two slices written to are lent
+    // for writing.
     done(unsafe {
         raw::fordcask_pixels(
             scale,

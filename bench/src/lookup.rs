@@ -5,8 +5,8 @@ use crate::inputs::pixel;
 use crate::plain::tiles::{self, Look};
 use crate::plain::{read::read_card, Record, Refusal, CARD, TILE};
 use crate::random::Random;
-use crate::raw;
 use crate::timing::both;
+use fordcask::raw;
 
 const SET: usize = 4096;
 
@@ -93,6 +93,7 @@ fn plain_bands(image: &Image, look: &Look) -> Bands {
 
 fn our_tile(image: &Image, look: &Look) -> Part {
     let card = &image.card;
+    // SAFETY: each pointer and length are those of one array or slice, which is only read.
     let found = unsafe {
         raw::fordcask_tile(
             card.scale,
@@ -119,6 +120,7 @@ fn our_tile(image: &Image, look: &Look) -> Part {
 
 fn our_bands(image: &Image, look: &Look) -> Bands {
     let card = &image.card;
+    // SAFETY: each pointer and length are those of one array or slice, which is only read.
     let found = unsafe {
         raw::fordcask_bands(
             card.scale,

@@ -5,11 +5,11 @@ mod doubles;
 mod exact;
 mod images;
 mod inputs;
+mod lean;
 mod lists;
 mod lookup;
 mod plain;
 mod random;
-mod raw;
 mod single;
 mod timing;
 

@@ -3,8 +3,8 @@
 use crate::inputs::{pixel, position, sheet, Sheet, Written, SCALES};
 use crate::plain::{self, grid::Pair, Refusal, CARD};
 use crate::random::Random;
-use crate::raw;
 use crate::timing::both;
+use fordcask::raw;
 
 const SET: usize = 1024;
 
@@ -27,6 +27,7 @@ pub fn position_calls(random: &mut Random) {
     let ours = |ask: &Asked| {
         let card = &ask.card;
         let bytes = card.bytes.as_ptr();
+        // SAFETY: the pointer and length are those of one array, which is only read.
         let found = unsafe {
             raw::fordcask_position(card.scale, card.zone, bytes, CARD, ask.first, ask.second)
         };
@@ -45,6 +46,7 @@ pub fn pixel_calls(random: &mut Random) {
     let ours = |ask: &Asked| {
         let card = &ask.card;
         let bytes = card.bytes.as_ptr();
+        // SAFETY: the pointer and length are those of one array, which is only read.
         let found = unsafe {
             raw::fordcask_pixel(card.scale, card.zone, bytes, CARD, ask.first, ask.second)
         };

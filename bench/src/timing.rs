@@ -9,7 +9,7 @@ pub const ROUNDS: usize = 31;
 /// Time of one run of the plain rule in a round, in nanoseconds.
 const ROUND_NS: f64 = 1_000_000.0;
 
-/// Lines of exact forms, ours among them, whose answers differ from the plain rule's.
+/// Lines of forms that are exact, ours among them, whose answers differ from the plain rule's.
 static WRONG: AtomicUsize = AtomicUsize::new(0);
 
 pub fn wrong() -> usize {
@@ -100,7 +100,7 @@ pub fn measure(question: &str, calls: usize, mut forms: Vec<Form>) {
         }
     }
     for (form, own) in forms.iter().zip(&times) {
-        if (form.name == "ours" || form.name == "exact") && form.agrees != SAME {
+        if ["ours", "lean", "exact"].contains(&form.name) && form.agrees != SAME {
             WRONG.fetch_add(1, Ordering::Relaxed);
         }
         let best = own.iter().copied().fold(f64::INFINITY, f64::min) / calls as f64;

@@ -2,20 +2,41 @@
 
    The library gives the zones and their pixel spacing, reads and writes image
    cards of 98 bytes, turns pixels of an image into positions and back, and
-   looks up stored tiles.
+   looks up stored tiles. The archive is for x86-64 Linux.
 
-   Each function answers for every number, byte and length handed in. Nothing
-   is kept between calls and no memory is allocated.
+   Each function answers or refuses, whatever numbers and bytes it is handed,
+   in buffers as below. Nothing is kept between calls and no memory is
+   allocated.
 
-   Angles are whole hundredths of an arc-second: latitude from -32400000 to
-   32400000, north positive; longitude from -64800000 to 64800000, east
-   positive. A scale is the S of 1:S.
+   A buffer is a pointer and a length in elements. The pointer is not NULL and
+   is aligned for its elements; it points to that many elements. Where the
+   length is 0 any aligned address but NULL will do. Buffers lent to one call
+   do not overlap. A refusal leaves every buffer unchanged, save the marks of
+   fordcask_index_check.
+
+   Angles are whole hundredths of an arc-second: latitude
+   -32400000..32400000, north positive; longitude -64800000..64800000, east
+   positive. A scale is the S of 1:S. A range x..y has both its ends. What lies
+   outside a range named below is refused.
+
+   A and B are the pixels in the circle along a parallel and along a meridian.
+   A tile is 128 by 128 pixels. The chart is a rectangle of the tiles' pixels;
+   the rest is padding. Subfields of a card named below:
+
+      ARV, BRV   A and B
+      LSO        longitude of the origin, the upper left pixel, +-DDDMMSS.SS
+      PSO        latitude of the origin, +-DDMMSS.SS
+      NUL, NLL   the chart's top and bottom row
+      NLS, NUS   the chart's left and right column
+      NFL, NFC   tiles down and across
+      BAD        the name of the image
+      TIF        Y where the image has a tile index, else N
 
    Each answer starts with `number` and `at`. number 0 means answered. Else it
    is the refusal's number, `at` is its place, and all other fields are 0.
 
-      1   scale not from 5000 to 20000000
-      2   zone not from 1 to 18
+      1   scale not 5000..20000000
+      2   zone not 1..18
       3   zone 9 or 18 where a non-polar zone is needed
       4   latitude outside its range
       5   longitude outside its range
@@ -23,7 +44,7 @@
           list of wrong length
       7   a byte of a subfield of the wrong kind
       8   right kind, wrong value: a constant, minutes or seconds 60 or more,
-          angle outside its range, minus zero, NFL or NFC not 1 to 999, TIF
+          angle outside its range, minus zero, NFL or NFC not 1..999, TIF
       9   ARV or BRV not that of scale and zone
      10   origin not on the tile grid or outside it
      11   an extent broken
@@ -37,11 +58,6 @@
    The place is the subfield's offset in the card for 7 and 8. For 15 it is
    the entry, counted from 0, or the index length where a stored tile is never
    named. Else it is 0.
-
-   A buffer is a pointer and a length in elements. Pointers are not NULL; where
-   the length is 0 any address will do. Buffers lent to one call do not
-   overlap. A refusal leaves every buffer unchanged, save the marks of
-   fordcask_index_check.
 
    To link: `rt staticlib fordcask` makes target/staticlib/libfordcask.a; then
    cc program.c -Ibindings/c target/staticlib/libfordcask.a */
@@ -65,21 +81,21 @@ struct fordcask_refusal {
     uint64_t at;
 };
 
-/* A and B: pixels in the circle along a parallel and along a meridian. */
+/* A and B, multiples of 512. */
 struct fordcask_spacing {
     uint32_t number;
     uint64_t at;
     uint64_t a, b;
 };
 
-/* A zone, 1 to 18. */
+/* A zone, 1..18. */
 struct fordcask_zone {
     uint32_t number;
     uint64_t at;
     uint64_t zone;
 };
 
-/* A list of at most 6 zones; slots past the length are 0. */
+/* A list of 1..6 zones; slots past the length are 0. */
 struct fordcask_cover {
     uint32_t number;
     uint64_t at;
@@ -87,7 +103,7 @@ struct fordcask_cover {
     uint64_t zones[6];
 };
 
-/* A list of at most 18 zones; slots past the length are 0. */
+/* A list of 1..18 zones; slots past the length are 0. */
 struct fordcask_rectangle {
     uint32_t number;
     uint64_t at;
@@ -95,76 +111,94 @@ struct fordcask_rectangle {
     uint64_t zones[18];
 };
 
-/* An origin, n tiles north of the Equator (-B/512 to B/512) and m tiles east
-   of the zero meridian (-A/256 to A/256), and the angles a card stores. */
+/* An origin and the angles a card stores for it. */
 struct fordcask_origin {
     uint32_t number;
     uint64_t at;
-    int64_t n, m;
-    int64_t pso, lso;
+    int64_t n;   /* tiles north of the Equator, -B/512..B/512 */
+    int64_t m;   /* tiles east of the zero meridian, -A/256..A/256 */
+    int64_t pso; /* PSO in hundredths of an arc-second, -32400000..32400000 */
+    int64_t lso; /* LSO in hundredths of an arc-second, -64800000..64800000 */
 };
 
-/* An accepted card. The chart is rows nul to nll and columns nls to nus; nfl
-   and nfc are the tiles down and across. tif is 1 for Y, 0 for N. */
+/* An accepted card. */
 struct fordcask_card {
     uint32_t number;
     uint64_t at;
-    uint64_t a, b;
-    int64_t n, m;
-    uint64_t nul, nus, nll, nls;
-    uint64_t nfl, nfc;
-    uint8_t bad[12];
-    uint8_t tif;
+    uint64_t a, b;   /* A and B of the card's scale and zone */
+    int64_t n;       /* origin, tiles north of the Equator, -B/512..B/512 */
+    int64_t m;       /* origin, tiles east of the zero meridian,
+                        -A/256..A/256 */
+    uint64_t nul;    /* NUL, the chart's top row, 0..nll */
+    uint64_t nus;    /* NUS, the chart's right column, below 128 x nfc */
+    uint64_t nll;    /* NLL, the chart's bottom row, below 128 x nfl */
+    uint64_t nls;    /* NLS, the chart's left column, 0..nus */
+    uint64_t nfl;    /* NFL, tiles down, 1..999, n - nfl not below -B/512 */
+    uint64_t nfc;    /* NFC, tiles across, 1..999 and at most A/128 */
+    uint8_t bad[12]; /* BAD, the name: eight capital letters or digits, a dot,
+                        three more; no zero byte at the end */
+    uint8_t tif;     /* TIF, 1 for Y, 0 for N */
 };
 
-/* A record to be written, fields as in the card. tif 0 is N, any other number
-   is Y. */
+/* A record to be written. */
 struct fordcask_record {
-    int64_t n, m;
-    uint64_t nul, nus, nll, nls;
-    uint64_t nfl, nfc;
-    uint8_t bad[12];
-    uint8_t tif;
+    int64_t n;       /* origin, tiles north of the Equator, -B/512..B/512 */
+    int64_t m;       /* origin, tiles east of the zero meridian,
+                        -A/256..A/256 */
+    uint64_t nul;    /* NUL, the chart's top row, 0..nll */
+    uint64_t nus;    /* NUS, the chart's right column, below 128 x nfc */
+    uint64_t nll;    /* NLL, the chart's bottom row, below 128 x nfl */
+    uint64_t nls;    /* NLS, the chart's left column, 0..nus */
+    uint64_t nfl;    /* NFL, tiles down, 1..999, n - nfl not below -B/512 */
+    uint64_t nfc;    /* NFC, tiles across, 1..999 and at most A/128 */
+    uint8_t bad[12]; /* BAD, the name: eight capital letters or digits, a dot,
+                        three more */
+    uint8_t tif;     /* TIF, 0 for N, any other number for Y */
 };
 
-/* A place of the zone grid: rows north of the Equator, columns east of the
-   zero meridian, 0 to A - 1. */
+/* A place of the zone grid. */
 struct fordcask_place {
     uint32_t number;
     uint64_t at;
-    int64_t row, column;
+    int64_t row;    /* rows north of the Equator, above -B/4, at most B/4 */
+    int64_t column; /* columns east of the zero meridian, 0..A - 1 */
 };
 
 /* A position, hundredths of an arc-second. */
 struct fordcask_position {
     uint32_t number;
     uint64_t at;
-    int64_t lat, lon;
+    int64_t lat; /* -32400000..32400000 */
+    int64_t lon; /* -64800000..64799999; the date line is -64800000 */
 };
 
-/* A pixel of an image; row 0 is the top, column 0 the left. */
+/* A pixel of the chart; row 0 is the top of the tiles, column 0 the left. */
 struct fordcask_pixel {
     uint32_t number;
     uint64_t at;
-    int64_t row, column;
+    int64_t row;    /* NUL..NLL */
+    int64_t column; /* NLS..NUS */
 };
 
-/* Position minus centre in whole hundredths, exact. */
+/* Position minus centre in whole hundredths of an arc-second, exact. */
 struct fordcask_offset {
     uint32_t number;
     uint64_t at;
-    double lat, lon;
+    double lat; /* -64800000..64800000 */
+    double lon; /* the short way, -64800000..64799999 */
 };
 
-/* A stored tile, counted from 1. Its bytes are store[offset] to
-   store[offset + length - 1], length 49152. */
+/* A stored tile. Its bytes are store[offset] to store[offset + length - 1]:
+   red, green, blue, each 128 rows of 128. */
 struct fordcask_tile {
     uint32_t number;
     uint64_t at;
-    uint64_t stored, offset, length;
+    uint64_t stored; /* its number among the stored tiles, 1..count */
+    uint64_t offset; /* 49152 x (stored - 1) */
+    uint64_t length; /* 49152 */
 };
 
-/* The three band values of a pixel. */
+/* The three band values of a pixel, 0..255 each. */
 struct fordcask_bands {
     uint32_t number;
     uint64_t at;
@@ -172,76 +206,97 @@ struct fordcask_bands {
 };
 
 /* missing 1: tile is the first missing one, by its number from 0 in the
-   image. missing 0: none is missing, or the call was refused. */
+   image, 0..NFL x NFC - 1. missing 0: none is missing, or the call was
+   refused. */
 struct fordcask_window {
     uint32_t number;
     uint64_t at;
     uint64_t missing, tile;
 };
 
-/* A and B of a zone at a scale; zones 9 and 18 too. Refuses 1, 2. */
+/* A and B of a zone at a scale. scale 5000..20000000; zone 1..18, the polar
+   zones 9 and 18 too. Refuses 1, 2. */
 struct fordcask_spacing fordcask_spacing(uint64_t scale, uint64_t zone);
 
-/* The basic zone of a latitude. Refuses 4. */
+/* The basic zone of a latitude. lat in hundredths of an arc-second,
+   -32400000..32400000. Refuses 4. */
 struct fordcask_zone fordcask_basic_zone(int64_t lat);
 
 /* The zones covering a latitude, the basic zone first, then equatorward.
-   Refuses 1, 4. */
+   scale 5000..20000000; lat in hundredths of an arc-second,
+   -32400000..32400000. Refuses 1, 4. */
 struct fordcask_cover fordcask_cover(uint64_t scale, int64_t lat);
 
 /* The zones covering some latitude from south to north, both included, in
-   ascending number. Refuses 1, 4 (south), 4 (north), 16. */
+   ascending number. scale 5000..20000000; south and north in hundredths of an
+   arc-second, latitude -32400000..32400000, south not above north.
+   Refuses 1, 4 (south), 4 (north), 16. */
 struct fordcask_rectangle fordcask_rectangle(uint64_t scale, int64_t south,
                                              int64_t north);
 
-/* The origin for an upper left point. Refuses 1, 2, 3, 4, 5. */
+/* The origin for an upper left point. scale 5000..20000000; zone 1..18, not 9
+   or 18; lat and lon in hundredths of an arc-second, latitude
+   -32400000..32400000, longitude -64800000..64800000.
+   Refuses 1, 2, 3, 4, 5. */
 struct fordcask_origin fordcask_align(uint64_t scale, uint64_t zone,
                                       int64_t lat, int64_t lon);
 
-/* Reads a card. Refuses 1, 2, 3, 6, then each subfield from left to right
-   with 7 before 8, then 9, 10, 11. */
+/* Reads a card. scale 5000..20000000; zone 1..18, not 9 or 18; card_len 98.
+   Refuses 1, 2, 3, 6, then each subfield from left to right with 7 before 8,
+   then 9, 10, 11. */
 struct fordcask_card fordcask_read_card(uint64_t scale, uint64_t zone,
                                         const uint8_t *card, size_t card_len);
 
-/* Writes a card into the first 98 bytes of out; the rest stays. Refuses 1, 2,
-   3, 6, 8 at 62 (NFL), 8 at 65 (NFC), 7 at 85 (BAD), 10, 11. */
+/* Writes a card into the first 98 bytes of out; the rest stays. scale
+   5000..20000000; zone 1..18, not 9 or 18; the record's ranges are at struct
+   fordcask_record; out_len 98 or more. Refuses 1, 2, 3, 6, 8 at 62 (NFL), 8 at
+   65 (NFC), 7 at 85 (BAD), 10, 11. */
 struct fordcask_refusal fordcask_write_card(uint64_t scale, uint64_t zone,
                                             struct fordcask_record record,
                                             uint8_t *out, size_t out_len);
 
-/* The offset of a position from a centre. The longitude difference is taken
-   the short way, from -64800000 up to but not including 64800000. Refuses 4, 5
-   for the position, then 4, 5 for the centre. */
+/* The offset of a position from a centre. All four in hundredths of an
+   arc-second, latitude -32400000..32400000, longitude -64800000..64800000.
+   Refuses 4, 5 for the position, then 4, 5 for the centre. */
 struct fordcask_offset fordcask_offset(int64_t lat, int64_t lon,
                                        int64_t centre_lat, int64_t centre_lon);
 
 /* Questions on a card. Each gives the refusals of fordcask_read_card first,
    then its own, which are named at the function. */
 
-/* The zone grid place of a pixel of the tiles, padding included. Refuses 12. */
+/* The zone grid place of a pixel of the tiles, padding included. scale
+   5000..20000000; zone 1..18, not 9 or 18; card_len 98; row
+   0..128 x NFL - 1; column 0..128 x NFC - 1. Refuses 12. */
 struct fordcask_place fordcask_place(uint64_t scale, uint64_t zone,
                                      const uint8_t *card, size_t card_len,
                                      int64_t row, int64_t column);
 
-/* The position of a pixel of the chart; its longitude is below 64800000.
-   Refuses 12, 13. */
+/* The position of a pixel of the chart, in hundredths of an arc-second. scale
+   5000..20000000; zone 1..18, not 9 or 18; card_len 98; row
+   0..128 x NFL - 1 and column 0..128 x NFC - 1, else 12; row NUL..NLL and
+   column NLS..NUS, else 13. Refuses 12, 13. */
 struct fordcask_position fordcask_position(uint64_t scale, uint64_t zone,
                                            const uint8_t *card,
                                            size_t card_len, int64_t row,
                                            int64_t column);
 
-/* The pixel of the chart at a position. Refuses 4, 5, 12, 13. */
+/* The pixel of the chart at a position. scale 5000..20000000; zone 1..18, not
+   9 or 18; card_len 98; lat and lon in hundredths of an arc-second, latitude
+   -32400000..32400000, longitude -64800000..64800000.
+   Refuses 4, 5, 12, 13. */
 struct fordcask_pixel fordcask_pixel(uint64_t scale, uint64_t zone,
                                      const uint8_t *card, size_t card_len,
                                      int64_t lat, int64_t lon);
 
-/* Checks that each number 1 to count occurs exactly once in the index.
-   With TIF Y the index has NFL x NFC entries in reading order, 0 for a tile
-   not stored; with N it is empty. count is at most NFL x NFC, and equal to it
-   with N. marks has at least count elements: mark k - 1 becomes 1 if k occurs
-   before the refused entry (anywhere, if none is refused), else 0; with N all
-   become 1. Marks past the count stay; all stay where the card or a length is
-   refused. Refuses 6, 15. */
+/* Checks that each number 1..count occurs exactly once in the index. scale
+   5000..20000000; zone 1..18, not 9 or 18; card_len 98. With TIF Y the index
+   has NFL x NFC entries in reading order, 0 for a tile not stored; with N it
+   is empty. index is not NULL, also for the empty index of a card with TIF N.
+   count is 0..NFL x NFC, and NFL x NFC with N. marks has at least count
+   elements: mark k - 1 becomes 1 if k occurs before the refused entry
+   (anywhere, if none is refused), else 0; with N all become 1. Marks past the
+   count stay; all stay where the card or a length is refused.
+   Refuses 6, 15. */
 struct fordcask_refusal fordcask_index_check(uint64_t scale, uint64_t zone,
                                              const uint8_t *card,
                                              size_t card_len,
@@ -249,8 +304,11 @@ struct fordcask_refusal fordcask_index_check(uint64_t scale, uint64_t zone,
                                              size_t index_len, uint64_t count,
                                              uint8_t *marks, size_t marks_len);
 
-/* The stored tile of a pixel of the chart. Index and count as above; the store
-   has exactly count x 49152 bytes. Refuses 6, 12, 13, 14, 15. */
+/* The stored tile of a pixel of the chart. scale 5000..20000000; zone 1..18,
+   not 9 or 18; card_len 98; index and count as for fordcask_index_check:
+   index is not NULL, also for the empty index of a card with TIF N; the store
+   has exactly count x 49152 bytes; row NUL..NLL, column NLS..NUS.
+   Refuses 6, 12, 13, 14, 15. */
 struct fordcask_tile fordcask_tile(uint64_t scale, uint64_t zone,
                                    const uint8_t *card, size_t card_len,
                                    const uint32_t *index, size_t index_len,
@@ -258,7 +316,11 @@ struct fordcask_tile fordcask_tile(uint64_t scale, uint64_t zone,
                                    size_t store_len, int64_t row,
                                    int64_t column);
 
-/* The band values of a pixel of the chart. Refuses as fordcask_tile. */
+/* The band values of a pixel of the chart. scale 5000..20000000; zone 1..18,
+   not 9 or 18; card_len 98; index and count as for fordcask_index_check:
+   index is not NULL, also for the empty index of a card with TIF N; the store
+   has exactly count x 49152 bytes; row NUL..NLL, column NLS..NUS.
+   Refuses 6, 12, 13, 14, 15. */
 struct fordcask_bands fordcask_bands(uint64_t scale, uint64_t zone,
                                      const uint8_t *card, size_t card_len,
                                      const uint32_t *index, size_t index_len,
@@ -266,9 +328,13 @@ struct fordcask_bands fordcask_bands(uint64_t scale, uint64_t zone,
                                      size_t store_len, int64_t row,
                                      int64_t column);
 
-/* The first tile not stored in a window, in reading order. Top, left, height
-   and width count tiles; an empty window has none. Refuses 6, 12, then 15
-   where an entry above the count comes before any missing tile. */
+/* The first tile not stored in a window, in reading order. scale
+   5000..20000000; zone 1..18, not 9 or 18; card_len 98; index and count as for
+   fordcask_index_check: index is not NULL, also for the empty index of a card
+   with TIF N. top, left, height and width count tiles: top + height at most
+   NFL, left + width at most NFC; an empty window has no missing tile.
+   Refuses 6, 12, then 15 where an entry above the count comes before any
+   missing tile. */
 struct fordcask_window fordcask_window(uint64_t scale, uint64_t zone,
                                        const uint8_t *card, size_t card_len,
                                        const uint32_t *index,
@@ -276,11 +342,13 @@ struct fordcask_window fordcask_window(uint64_t scale, uint64_t zone,
                                        uint64_t top, uint64_t left,
                                        uint64_t height, uint64_t width);
 
-/* The positions of many pixels. pixels: row, column, row, column, ...;
-   positions: lat, lon, lat, lon, ...; one number for each pair. numbers[i] is
-   0 and pair i the answer, or numbers[i] is 12 or 13 and the pair is 0, 0.
-   What lies past the pairs stays. Refuses 6 where pixels_len is odd,
-   positions_len is below it, or numbers_len is below half of it. */
+/* The positions of many pixels. scale 5000..20000000; zone 1..18, not 9 or 18;
+   card_len 98. pixels: row, column, row, column, ..., rows NUL..NLL and
+   columns NLS..NUS; positions: lat, lon, lat, lon, ... in hundredths of an
+   arc-second; one number for each pair. numbers[i] is 0 and pair i the answer
+   of fordcask_position, or numbers[i] is 12 or 13 and the pair is 0, 0. What
+   lies past the pairs stays. Refuses 6 where pixels_len is odd, positions_len
+   is below it, or numbers_len is below half of it. */
 struct fordcask_refusal fordcask_positions(uint64_t scale, uint64_t zone,
                                            const uint8_t *card,
                                            size_t card_len,
@@ -291,9 +359,14 @@ struct fordcask_refusal fordcask_positions(uint64_t scale, uint64_t zone,
                                            uint32_t *numbers,
                                            size_t numbers_len);
 
-/* The pixels at many positions, laid out as above. numbers[i] is 0, or 4, 5,
-   12 or 13 with the pair 0, 0. Refuses 6 where positions_len is odd,
-   pixels_len is below it, or numbers_len is below half of it. */
+/* The pixels at many positions. scale 5000..20000000; zone 1..18, not 9 or 18;
+   card_len 98. positions: lat, lon, lat, lon, ... in hundredths of an
+   arc-second, latitude -32400000..32400000, longitude -64800000..64800000;
+   pixels: row, column, row, column, ...; one number for each pair. numbers[i]
+   is 0 and pair i the answer of fordcask_pixel, or numbers[i] is 4, 5, 12 or
+   13 and the pair is 0, 0. What lies past the pairs stays. Refuses 6 where
+   positions_len is odd, pixels_len is below it, or numbers_len is below half
+   of it. */
 struct fordcask_refusal fordcask_pixels(uint64_t scale, uint64_t zone,
                                         const uint8_t *card, size_t card_len,
                                         const int64_t *positions,

@@ -1,8 +1,11 @@
-//! The C entry points as they are. A slice is a pointer and a length in elements.
+//! The C entry points as they are; units and ranges are in `bindings/c/fordcask.h`.
 //!
 //! `number` 0 means answered, else it is the refusal's number and `at` its place.
-//! In a refusal every other field is 0. Pointers are not null (any aligned address where the
-//! length is 0), and lent buffers do not overlap.
+//! In a refusal every other field is 0.
+//!
+//! A buffer is a pointer and a length in elements. The pointer is not null and is aligned for its
+//! elements; it points to that many elements. Where the length is 0 any aligned address but null
+//! will do. Buffers lent to one call do not overlap.
 #![allow(missing_docs)]
 
 mod blocks;

@@ -43,8 +43,9 @@ pub struct Window {
 impl Sheet<'_> {
     /// Checks that each number 1..count occurs exactly once in the index. Refuses 6, 15.
     ///
-    /// Mark k - 1 becomes 1 if k occurs before the refused entry, else 0, for k up to the count.
-    /// Marks beyond stay, and all where the card or a length is refused.
+    /// Mark k - 1 becomes 1 if k occurs before the refused entry (anywhere, if none is refused),
+    /// else 0, for k up to the count; with TIF N all of these become 1. Marks beyond stay.
+    /// A refusal before the entries are looked at (the card's, or 6) leaves all marks unchanged.
     pub fn index_check(&self, tiles: Tiles, marks: &mut [u8]) -> Result<(), Refusal> {
         // SAFETY: each pointer and length are those of one slice; marks are lent for writing.
         let given = unsafe {

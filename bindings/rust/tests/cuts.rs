@@ -9,6 +9,8 @@ use support::ask_sheet::shown;
 use support::make::{all_chart, card, pixel, record, scale, with_edges, SCALES, ZONES};
 use support::{seeded, Random};
 
+const OUTSIDE: Refusal = Refusal { number: 12, at: 0 };
+
 /// How the calls of the later cards ended.
 #[derive(Default, Debug)]
 struct Ends {
@@ -161,7 +163,7 @@ fn place_by_trying() {
     assert!(found > 500, "{found} found");
 }
 
-/// Every tile corner of two cards with a common part, at a scale where rows lie close.
+/// Every pixel of a card asked of another that has a part of it in common; 12 outside that part.
 #[test]
 fn common_part() {
     let mut common = 0;
@@ -177,7 +179,8 @@ fn common_part() {
                 let expected = Pixel { row: row - 128, column: column - 256 };
                 let inside = expected.row >= 0 && expected.column >= 0;
                 let found = other.pixel(position);
-                assert_eq!(found.ok(), inside.then_some(expected), "{row} {column}");
+                let right = if inside { Ok(expected) } else { Err(OUTSIDE) };
+                assert_eq!(found, right, "{row} {column}");
                 if inside {
                     common += 1;
                     let again: Result<Position, Refusal> = other.position(expected);

@@ -1,4 +1,5 @@
-//! The figures of document 01, "Figures on both sides of each edge", as they are printed there.
+//! The figures of document 01, "Figures on both sides of each edge", and some more of its edges,
+//! worked out from its rules. Each test names those that are not printed there.
 
 use fordcask::{align, basic_zone, cover, offset, rectangle, spacing};
 use fordcask::{Position, Refusal, Spacing};
@@ -13,6 +14,7 @@ fn spacing_figures() {
     assert_eq!(spacing(1_250_000, 1).map(|s| s.b), Ok(320_512));
     assert_eq!(spacing(4_999, 1), Err(REFUSED_1));
     assert_eq!(spacing(20_000_001, 1), Err(REFUSED_1));
+    // not printed in 01: 512 × 782
     let polar = Spacing { a: 400_384, b: 400_384 };
     assert_eq!(spacing(1_000_000, 9), Ok(polar));
 }
@@ -28,6 +30,7 @@ fn zone_figures() {
         (1_000_000, 11_851_457, &[2, 1]),
         (1_000_000, 11_851_458, &[2]),
         (5_000_000, 27_360_000, &[8, 7, 6]),
+        // not printed in 01
         (1_000_000, -28_800_000, &[18, 17]),
         (20_000_000, 29_519_999, &[9, 8, 7, 6, 5, 4]),
         (20_000_000, 29_520_000, &[9, 8, 7, 6, 5]),
@@ -36,19 +39,23 @@ fn zone_figures() {
         let found = cover(scale, lat).expect("a cover");
         assert_eq!(found.as_slice(), zones, "1:{scale} latitude {lat}");
     }
+    // not printed in 01: no rectangle is
     let both = rectangle(1_000_000, -1, 0).expect("a rectangle");
     assert_eq!(both.as_slice(), [1, 10]);
 }
 
 #[test]
 fn origin_figures() {
+    // 01 prints n and m with the angles they store; the point is not printed there
     let origin = align(1_000_000, 1, 4_143_222, -897_506).expect("an origin");
     assert_eq!((origin.n, origin.m), (100, -20));
     assert_eq!((origin.pso, origin.lso), (4_143_223, -897_507));
+    // not printed as a figure: alignment keeps +180° for m = A/256
     let east = align(1_000_000, 1, 0, 64_800_000).expect("an origin");
     assert_eq!((east.m, east.lso), (1444, 64_800_000));
 }
 
+/// Not printed in 01: the ends of the short way.
 #[test]
 fn offset_figures() {
     let at = |lon| Position { lat: 0, lon };

@@ -53,6 +53,7 @@ fn positions(ask: &mut Ask, sheet: &Sheet, pixels: &[Pixel], out: usize, numbers
         for (i, pixel) in pixels.iter().enumerate() {
             let single = pair(sheet.position(*pixel));
             assert_eq!((numbers[i], found[i]), single, "single call, {}", call());
+            ask.count("pairs of positions", numbers[i], 0);
         }
     }
 }
@@ -72,6 +73,7 @@ fn pixels(ask: &mut Ask, sheet: &Sheet, positions: &[Position], out: usize, numb
         for (i, position) in positions.iter().enumerate() {
             let single = pair(sheet.pixel(*position));
             assert_eq!((numbers[i], found[i]), single, "single call, {}", call());
+            ask.count("pairs of pixels", numbers[i], 0);
         }
     }
 }
@@ -123,6 +125,8 @@ fn random_lists() {
     }
     ask.met("positions", &[0, 6, 7, 8, 9, 10, 11]);
     ask.met("pixels", &[0, 6, 7, 8, 9, 10, 11]);
+    ask.met("pairs of positions", &[0, 12, 13]);
+    ask.met("pairs of pixels", &[0, 4, 5, 12, 13]);
 }
 
 /// Every combination of lengths 0..6, with good and refused cards, scales and zones.
@@ -157,6 +161,9 @@ fn every_length() {
     }
     ask.met("positions", &[0, 1, 2, 3, 6, 8]);
     ask.met("pixels", &[0, 1, 2, 3, 6, 8]);
+    // no padding in the worked card
+    ask.met("pairs of positions", &[0, 12]);
+    ask.met("pairs of pixels", &[0, 4, 5, 12]);
 }
 
 /// A long list: a whole row of pixels of a wide card.
@@ -175,4 +182,6 @@ fn long_list() {
     pixels(&mut ask, &sheet, &found, list.len() + 1, list.len() + 2);
     ask.met("positions", &[0]);
     ask.met("pixels", &[0]);
+    ask.met("pairs of positions", &[0, 12]);
+    ask.met("pairs of pixels", &[0, 12]);
 }

@@ -33,16 +33,21 @@ impl Ask {
         if library != rule {
             panic!("{question}\n  call    {}\n  library {library:?}\n  rule    {rule:?}", call());
         }
-        let tally = self.tallies.entry(question).or_default();
         let (number, at) = match &library {
             Ok(_) => (0, 0),
             Err(refusal) => (refusal.number, refusal.at),
         };
+        self.count(question, number, at);
+        library
+    }
+
+    /// Counts a case; number 0 is an answer.
+    pub fn count(&mut self, question: &'static str, number: u32, at: u64) {
+        let tally = self.tallies.entry(question).or_default();
         *tally.numbers.entry(number).or_default() += 1;
         if number != 15 {
             tally.places.insert((number, at));
         }
-        library
     }
 
     /// The numbers met must be exactly these; 0 stands for an answer.

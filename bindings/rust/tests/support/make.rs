@@ -120,12 +120,10 @@ pub fn all_chart(n: i64, m: i64, nfl: u64, nfc: u64, tif: bool) -> Record {
     }
 }
 
-/// The bytes of a good record.
+/// The bytes of a good record, written by the rule and not by the library.
 pub fn card(scale: u64, zone: u64, record: &Record) -> Vec<u8> {
-    let mut card = vec![0; 98];
-    let written = fordcask::write_card(scale, zone, record, &mut card);
-    written.unwrap_or_else(|refusal| panic!("{refusal}: {scale} {zone} {record:?}"));
-    card
+    let written = rule::write(scale, zone, record, rule::CARD);
+    written.unwrap_or_else(|refusal| panic!("{refusal}: {scale} {zone} {record:?}"))
 }
 
 /// Rows at each edge of chart and tiles, one inside and one outside.

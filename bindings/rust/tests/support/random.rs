@@ -48,7 +48,7 @@ impl Random {
 
     /// True once in `times`, on the average.
     pub fn once_in(&mut self, times: u64) -> bool {
-        self.next().is_multiple_of(times)
+        self.next() % times == 0
     }
 
     pub fn pick<T: Copy>(&mut self, from: &[T]) -> T {

@@ -1,0 +1,353 @@
+/* Calls every function of fordcask.h, in answers and in refusals, and prints
+   every field and every buffer afterwards. */
+
+#include <inttypes.h>
+#include <stdio.h>
+#include <string.h>
+
+#include "fordcask.h"
+
+#define SCALE 1000000
+#define ZONE 1
+#define CARD FORDCASK_CARD_LENGTH
+#define TILE FORDCASK_TILE_LENGTH
+
+/* The card of document 01: two tiles down, one across, all chart, TIF N. */
+static const char worked[] =
+    "30036966400400384-0022935.07+113032.23000000000127000255000000"
+    "00200100012800012801008BASE0101.IMGN";
+
+/* Two tiles down, three across, with padding on each side, TIF Y. */
+static const struct fordcask_record padded = {
+    .n = 100,
+    .m = -20,
+    .nul = 5,
+    .nus = 370,
+    .nll = 250,
+    .nls = 3,
+    .nfl = 2,
+    .nfc = 3,
+    .bad = {'S', 'H', 'E', 'E', 'T', '0', '0', '7', '.', 'A', 'R', 'C'},
+    .tif = 2};
+
+static const uint8_t *card = (const uint8_t *)worked;
+static uint8_t padded_card[CARD];
+
+/* Four stored tiles of the six. */
+static const uint32_t stored_index[6] = {2, 0, 4, 1, 3, 0};
+static uint8_t store[4 * TILE];
+
+static void start(const char *name, uint32_t number, uint64_t at)
+{
+    printf("%s: %" PRIu32 " %" PRIu64, name, number, at);
+}
+
+static void print_zones(uint64_t length, const uint64_t *zones, size_t slots)
+{
+    size_t i;
+
+    printf(" %" PRIu64 ":", length);
+    for (i = 0; i < slots; i++)
+        printf(" %" PRIu64, zones[i]);
+    printf("\n");
+}
+
+static void print_pairs(const int64_t *pairs, size_t length,
+                        const uint32_t *numbers, size_t numbers_len)
+{
+    size_t i;
+
+    for (i = 0; i < length; i++)
+        printf(" %" PRId64, pairs[i]);
+    printf(" :");
+    for (i = 0; i < numbers_len; i++)
+        printf(" %" PRIu32, numbers[i]);
+    printf("\n");
+}
+
+static void spacing(uint64_t scale, uint64_t zone)
+{
+    struct fordcask_spacing s = fordcask_spacing(scale, zone);
+
+    start("spacing", s.number, s.at);
+    printf(" %" PRIu64 " %" PRIu64 "\n", s.a, s.b);
+}
+
+static void basic_zone(int64_t lat)
+{
+    struct fordcask_zone z = fordcask_basic_zone(lat);
+
+    start("basic_zone", z.number, z.at);
+    printf(" %" PRIu64 "\n", z.zone);
+}
+
+static void cover(uint64_t scale, int64_t lat)
+{
+    struct fordcask_cover c = fordcask_cover(scale, lat);
+
+    start("cover", c.number, c.at);
+    print_zones(c.length, c.zones, 6);
+}
+
+static void rectangle(uint64_t scale, int64_t south, int64_t north)
+{
+    struct fordcask_rectangle r = fordcask_rectangle(scale, south, north);
+
+    start("rectangle", r.number, r.at);
+    print_zones(r.length, r.zones, 18);
+}
+
+static void align(uint64_t zone, int64_t lat, int64_t lon)
+{
+    struct fordcask_origin o = fordcask_align(SCALE, zone, lat, lon);
+
+    start("align", o.number, o.at);
+    printf(" %" PRId64 " %" PRId64 " %" PRId64 " %" PRId64 "\n", o.n, o.m,
+           o.pso, o.lso);
+}
+
+/* A zero byte of BAD is printed as '_'. */
+static void read_card(const uint8_t *bytes, size_t length)
+{
+    struct fordcask_card c = fordcask_read_card(SCALE, ZONE, bytes, length);
+    size_t i;
+
+    start("read_card", c.number, c.at);
+    printf(" %" PRIu64 " %" PRIu64 " %" PRId64 " %" PRId64, c.a, c.b, c.n,
+           c.m);
+    printf(" %" PRIu64 " %" PRIu64 " %" PRIu64 " %" PRIu64, c.nul, c.nus,
+           c.nll, c.nls);
+    printf(" %" PRIu64 " %" PRIu64 " ", c.nfl, c.nfc);
+    for (i = 0; i < 12; i++)
+        printf("%c", c.bad[i] == 0 ? '_' : c.bad[i]);
+    printf(" %u\n", (unsigned)c.tif);
+}
+
+/* The output is filled with '#' before. */
+static void write_card(struct fordcask_record record, size_t length)
+{
+    uint8_t out[CARD + 3];
+    struct fordcask_refusal r;
+
+    memset(out, '#', sizeof out);
+    r = fordcask_write_card(SCALE, ZONE, record, out, length);
+    start("write_card", r.number, r.at);
+    printf(" %.*s\n", (int)sizeof out, (const char *)out);
+}
+
+static void offset(int64_t lat, int64_t lon, int64_t centre_lat,
+                   int64_t centre_lon)
+{
+    struct fordcask_offset o =
+        fordcask_offset(lat, lon, centre_lat, centre_lon);
+
+    start("offset", o.number, o.at);
+    printf(" %.3f %.3f\n", o.lat, o.lon);
+}
+
+static void place(const uint8_t *bytes, int64_t row, int64_t column)
+{
+    struct fordcask_place p =
+        fordcask_place(SCALE, ZONE, bytes, CARD, row, column);
+
+    start("place", p.number, p.at);
+    printf(" %" PRId64 " %" PRId64 "\n", p.row, p.column);
+}
+
+static void position(const uint8_t *bytes, int64_t row, int64_t column)
+{
+    struct fordcask_position p =
+        fordcask_position(SCALE, ZONE, bytes, CARD, row, column);
+
+    start("position", p.number, p.at);
+    printf(" %" PRId64 " %" PRId64 "\n", p.lat, p.lon);
+}
+
+static void pixel(const uint8_t *bytes, int64_t lat, int64_t lon)
+{
+    struct fordcask_pixel p =
+        fordcask_pixel(SCALE, ZONE, bytes, CARD, lat, lon);
+
+    start("pixel", p.number, p.at);
+    printf(" %" PRId64 " %" PRId64 "\n", p.row, p.column);
+}
+
+/* The marks are filled with 7 before. */
+static void index_check(const uint8_t *bytes, const uint32_t *index,
+                        size_t length, uint64_t count)
+{
+    uint8_t marks[5] = {7, 7, 7, 7, 7};
+    size_t i;
+    struct fordcask_refusal r = fordcask_index_check(
+        SCALE, ZONE, bytes, CARD, index, length, count, marks, 5);
+
+    start("index_check", r.number, r.at);
+    for (i = 0; i < 5; i++)
+        printf(" %u", (unsigned)marks[i]);
+    printf("\n");
+}
+
+/* fordcask_tile, then fordcask_bands, of one pixel. */
+static void tile(const uint8_t *bytes, const uint32_t *index, size_t length,
+                 uint64_t count, int64_t row, int64_t column)
+{
+    struct fordcask_tile t =
+        fordcask_tile(SCALE, ZONE, bytes, CARD, index, length, count, store,
+                      (size_t)count * TILE, row, column);
+    struct fordcask_bands b =
+        fordcask_bands(SCALE, ZONE, bytes, CARD, index, length, count, store,
+                       (size_t)count * TILE, row, column);
+
+    start("tile", t.number, t.at);
+    printf(" %" PRIu64 " %" PRIu64 " %" PRIu64 "\n", t.stored, t.offset,
+           t.length);
+    start("bands", b.number, b.at);
+    printf(" %u %u %u\n", (unsigned)b.red, (unsigned)b.green,
+           (unsigned)b.blue);
+}
+
+static void window(const uint8_t *bytes, const uint32_t *index, size_t length,
+                   uint64_t count, uint64_t top, uint64_t left,
+                   uint64_t height, uint64_t width)
+{
+    struct fordcask_window w =
+        fordcask_window(SCALE, ZONE, bytes, CARD, index, length, count, top,
+                        left, height, width);
+
+    start("window", w.number, w.at);
+    printf(" %" PRIu64 " %" PRIu64 "\n", w.missing, w.tile);
+}
+
+/* Both outputs are filled with 7 before; length is that of the list. */
+static void positions(size_t length)
+{
+    static const int64_t pixels[8] = {5, 3, 250, 370, 4, 3, 0, 384};
+    int64_t out[9] = {7, 7, 7, 7, 7, 7, 7, 7, 7};
+    uint32_t numbers[5] = {7, 7, 7, 7, 7};
+    struct fordcask_refusal r =
+        fordcask_positions(SCALE, ZONE, padded_card, CARD, pixels, length, out,
+                           9, numbers, 5);
+
+    start("positions", r.number, r.at);
+    print_pairs(out, 9, numbers, 5);
+}
+
+static void pixels(size_t length)
+{
+    static const int64_t places[10] = {4142899,  -897156, 0, 64800001,
+                                       32400001, 0,       0, 0,
+                                       4141604,  -896454};
+    int64_t out[11] = {7, 7, 7, 7, 7, 7, 7, 7, 7, 7, 7};
+    uint32_t numbers[6] = {7, 7, 7, 7, 7, 7};
+    struct fordcask_refusal r = fordcask_pixels(SCALE, ZONE, padded_card, CARD,
+                                                places, length, out, 11,
+                                                numbers, 6);
+
+    start("pixels", r.number, r.at);
+    print_pairs(out, 11, numbers, 6);
+}
+
+static void zones(void)
+{
+    spacing(50000, 1);
+    spacing(1000000, 18);
+    spacing(4999, 1);
+    spacing(5000, 19);
+    basic_zone(11519999);
+    basic_zone(11520000);
+    basic_zone(-1);
+    basic_zone(32400001);
+    cover(5000000, 27360000);
+    cover(20000000, -29519999);
+    cover(20000001, 0);
+    cover(1000000, -32400001);
+    rectangle(1000000, -1, 0);
+    rectangle(1000000, -32400000, 32400000);
+    rectangle(1000000, 1, 0);
+    align(1, 4143222, -897506);
+    align(1, 0, 64800000);
+    align(9, 0, 0);
+    align(1, 0, -64800001);
+    offset(5, 64800000, 7, -1);
+    offset(-32400000, 0, 32400000, 1);
+    offset(0, 0, 0, 64800001);
+}
+
+static void cards(void)
+{
+    struct fordcask_record record = padded;
+    uint8_t damaged[CARD];
+
+    read_card(card, CARD);
+    read_card(card, CARD - 1);
+    memcpy(damaged, card, CARD);
+    damaged[93] = '_';
+    read_card(damaged, CARD);
+    write_card(record, CARD + 3);
+    write_card(record, CARD - 1);
+    record.tif = 0;
+    write_card(record, CARD);
+    record.nfc = 1000;
+    write_card(record, CARD);
+    fordcask_write_card(SCALE, ZONE, padded, padded_card, CARD);
+    read_card(padded_card, CARD);
+}
+
+static void grid(void)
+{
+    place(card, 1, 1);
+    place(padded_card, 0, 383);
+    place(padded_card, 256, 0);
+    position(card, 0, 0);
+    position(card, 1, 1);
+    position(card, 255, 127);
+    position(card, 256, 0);
+    position(padded_card, 4, 3);
+    pixel(card, 4142899, -897156);
+    pixel(card, 32400001, 0);
+    pixel(padded_card, 4142899, -897156);
+    positions(8);
+    positions(7);
+    pixels(10);
+    pixels(9);
+}
+
+static void tiles(void)
+{
+    static const uint32_t spoiled[6] = {1, 0, 3, 2, 5, 3};
+    static const uint32_t unnamed[6] = {1, 0, 0, 0, 4, 2};
+    size_t i;
+
+    /* 60 for each tile, 20 for each band, 4 for each row and 1 for each
+       column, both modulo 4 */
+    for (i = 0; i < sizeof store; i++)
+        store[i] = (uint8_t)(60 * (i / TILE) + 20 * (i % TILE / 16384) +
+                             4 * (i / 128 % 4) + i % 4);
+
+    index_check(padded_card, stored_index, 6, 4);
+    index_check(padded_card, spoiled, 6, 4);
+    index_check(padded_card, unnamed, 6, 4);
+    index_check(padded_card, stored_index, 5, 4);
+    index_check(card, stored_index, 0, 2);
+    tile(padded_card, stored_index, 6, 4, 6, 259);
+    tile(padded_card, stored_index, 6, 4, 131, 3);
+    tile(padded_card, stored_index, 6, 4, 5, 128);
+    tile(padded_card, stored_index, 6, 4, 5, 371);
+    tile(padded_card, spoiled, 6, 4, 250, 129);
+    tile(card, stored_index, 0, 2, 255, 127);
+    tile(card, stored_index, 0, 1, 0, 0);
+    window(padded_card, stored_index, 6, 4, 0, 0, 2, 3);
+    window(padded_card, stored_index, 6, 4, 1, 0, 1, 2);
+    window(padded_card, stored_index, 6, 4, 1, 1, 1, 3);
+    window(padded_card, spoiled, 6, 4, 1, 0, 1, 3);
+    window(card, stored_index, 0, 2, 0, 0, 2, 1);
+}
+
+int main(void)
+{
+    zones();
+    cards();
+    grid();
+    tiles();
+    return 0;
+}
