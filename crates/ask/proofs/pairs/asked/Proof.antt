@@ -1,0 +1,92 @@
+-- The lengths that are lent are tested. Assumes nothing.
+use mathlib.Core.Path.{sym}
+use native.Mathlib.Omega.{arith}
+use lib.Seq.{length-take-le}
+use borrow.Author.Needs.{needs}
+use Rattle.ask.proofs.pairs.asked.Statement.{statement}
+use Rattle.ask.proofs.pairs.asked.Tie as tie
+
+slice-aggregate-card : tie.Need-slice-aggregate-card
+slice-aggregate-card c = search needs
+
+card-requires : tie.Need-card-requires
+card-requires c κs = search needs
+
+slice-aggregate-list : tie.Need-slice-aggregate-list
+slice-aggregate-list c = search needs
+
+list-requires : tie.Need-list-requires
+list-requires c κs = search needs
+
+natural-requires : tie.Need-natural-requires
+natural-requires c κs = search needs
+
+natural-requires-2 : tie.Need-natural-requires-2
+natural-requires-2 c κs = search needs
+
+ended-requires : tie.Need-ended-requires
+ended-requires c κs = search needs
+
+returns : tie.Need-returns
+returns c = search needs
+
+returns-2 : tie.Need-returns-2
+returns-2 c = search needs
+
+returns-3 : tie.Need-returns-3
+returns-3 c = search needs
+
+array-share-prefix-bytes : tie.Need-array-share-prefix-bytes
+array-share-prefix-bytes c = search needs
+
+slice-aggregate-answered : tie.Need-slice-aggregate-answered
+slice-aggregate-answered c = search needs
+
+array-share-prefix-list : tie.Need-array-share-prefix-list
+array-share-prefix-list c = search needs
+
+slice-aggregate-answered-2 : tie.Need-slice-aggregate-answered-2
+slice-aggregate-answered-2 c = search needs
+
+array-borrow-prefix-lent-values : tie.Need-array-borrow-prefix-lent-values
+array-borrow-prefix-lent-values c = search needs
+
+slice-aggregate-answered-3 : tie.Need-slice-aggregate-answered-3
+slice-aggregate-answered-3 c = sym (length-take-le _ _ (omega arith))
+
+array-borrow-prefix-lent-numbers : tie.Need-array-borrow-prefix-lent-numbers
+array-borrow-prefix-lent-numbers c = search needs
+
+slice-aggregate-answered-4 : tie.Need-slice-aggregate-answered-4
+slice-aggregate-answered-4 c = sym (length-take-le _ _ (omega arith))
+
+answered-requires : tie.Need-answered-requires
+answered-requires c κs = search needs
+
+returns-4 : tie.Need-returns-4
+returns-4 c = search needs
+
+pub asked-spec : {M : Type 1} → statement M
+asked-spec =
+    tie.close
+    (tie.spec
+    slice-aggregate-card
+    card-requires
+    slice-aggregate-list
+    list-requires
+    natural-requires
+    natural-requires-2
+    ended-requires
+    returns
+    returns-2
+    returns-3
+    array-share-prefix-bytes
+    slice-aggregate-answered
+    array-share-prefix-list
+    slice-aggregate-answered-2
+    array-borrow-prefix-lent-values
+    slice-aggregate-answered-3
+    array-borrow-prefix-lent-numbers
+    slice-aggregate-answered-4
+    answered-requires
+    returns-4)

@@ -1,0 +1,126 @@
+// Questions on a card (01, "The image card, 98 bytes", "Origins and the zone grid").
+use crate::buffer;
+use crate::print;
+use crate::word;
+use arc::Refusal;
+use arc::Verdict;
+
+// Whether the line is one of these questions, well formed; then it is answered.
+pub fn asked(name: &[u8], line: &[u8], at: usize) -> bool {
+    let mut bytes = [0u8; 65_536];
+    let k = buffer::card(line, at, &mut bytes);
+    let n = k.length;
+    if word::ended(k.next) {
+        return on_card(name, k.scale, k.zone, &bytes[..n]);
+    }
+    let x = word::signed(line, k.next);
+    let y = word::signed(line, x.next);
+    if word::ended(y.next) {
+        return on_pair(name, k.scale, k.zone, &bytes[..n], x.value, y.value);
+    }
+    false
+}
+
+fn on_card(name: &[u8], scale: u64, zone: u64, card: &[u8]) -> bool {
+    if check::same(name, b"read_card") {
+        read_card(scale, zone, card);
+        return true;
+    }
+    if check::same(name, b"extents") {
+        extents(scale, zone, card);
+        return true;
+    }
+    false
+}
+
+fn on_pair(name: &[u8], scale: u64, zone: u64, card: &[u8], x: i64, y: i64) -> bool {
+    if check::same(name, b"place") {
+        place(scale, zone, card, x, y);
+        return true;
+    }
+    if check::same(name, b"position") {
+        position(scale, zone, card, x, y);
+        return true;
+    }
+    if check::same(name, b"pixel") {
+        pixel(scale, zone, card, x, y);
+        return true;
+    }
+    if check::same(name, b"judge_pixel") {
+        let r = judged(scale, zone, card, x, y);
+        print::refusal(r.number, r.at);
+        print::end_line();
+        return true;
+    }
+    false
+}
+
+fn read_card(scale: u64, zone: u64, card: &[u8]) {
+    let k = fordcask::fordcask_read_card(scale, zone, card);
+    let bad = k.bad;
+    print::refusal(k.number, k.at);
+    print::natural(k.a);
+    print::natural(k.b);
+    print::signed(k.n);
+    print::signed(k.m);
+    print::natural(k.nul);
+    print::natural(k.nus);
+    print::natural(k.nll);
+    print::natural(k.nls);
+    print::natural(k.nfl);
+    print::natural(k.nfc);
+    print::name(&bad);
+    print::natural(k.tif as u64);
+    print::end_line();
+}
+
+fn extents(scale: u64, zone: u64, card: &[u8]) {
+    let reading = card_text::read_card(scale, zone, card);
+    let verdict = reading.verdict;
+    let k = reading.card;
+    let r = verdict.refusal();
+    let e = k.extents();
+    print::refusal(r.number, r.at);
+    print::natural(e.nul);
+    print::natural(e.nus);
+    print::natural(e.nll);
+    print::natural(e.nls);
+    print::natural(e.nfl);
+    print::natural(e.nfc);
+    print::end_line();
+}
+
+fn place(scale: u64, zone: u64, card: &[u8], row: i64, column: i64) {
+    let r = fordcask::fordcask_place(scale, zone, card, row, column);
+    print::refusal(r.number, r.at);
+    print::signed(r.row);
+    print::signed(r.column);
+    print::end_line();
+}
+
+fn position(scale: u64, zone: u64, card: &[u8], row: i64, column: i64) {
+    let r = fordcask::fordcask_position(scale, zone, card, row, column);
+    print::refusal(r.number, r.at);
+    print::signed(r.lat);
+    print::signed(r.lon);
+    print::end_line();
+}
+
+fn pixel(scale: u64, zone: u64, card: &[u8], lat: i64, lon: i64) {
+    let r = fordcask::fordcask_pixel(scale, zone, card, lat, lon);
+    print::refusal(r.number, r.at);
+    print::signed(r.row);
+    print::signed(r.column);
+    print::end_line();
+}
+
+// What a pixel is refused with, after reading's own refusals.
+fn judged(scale: u64, zone: u64, card: &[u8], row: i64, column: i64) -> Refusal {
+    let reading = card_text::read_card(scale, zone, card);
+    let verdict = reading.verdict;
+    let k = reading.card;
+    match verdict {
+        Verdict::Accepted => k.judge_pixel(row, column).refusal(),
+        Verdict::Refused(e) => e,
+    }
+}

@@ -1,0 +1,133 @@
+// The words of an answer on standard output, a blank before each but the first.
+use libc::STDOUT_FILENO;
+
+pub fn text(words: &[u8]) {
+    io::write_all(STDOUT_FILENO, words);
+}
+
+pub fn end_line() {
+    text(b"\n");
+}
+
+fn size(n: u64) {
+    io::print_decimal(STDOUT_FILENO, n);
+}
+
+fn whole_number(z: i64) {
+    if z < 0 {
+        text(b"-");
+    }
+    size(whole::size(z));
+}
+
+pub fn natural(n: u64) {
+    text(b" ");
+    size(n);
+}
+
+pub fn signed(z: i64) {
+    text(b" ");
+    whole_number(z);
+}
+
+// Number and place (01, "Numbers given in refusal").
+pub fn refusal(number: u32, at: u64) {
+    size(number as u64);
+    natural(at);
+}
+
+// A byte as a line has it.
+fn byte(b: u8) {
+    if (33 <= b) & (b <= 126) & (b != 92) {
+        let one = [b];
+        text(&one);
+    } else {
+        text(b"\\x");
+        io::print_hex(STDOUT_FILENO, b as u64, 2);
+    }
+}
+
+pub fn bytes(s: &[u8]) {
+    text(b" ");
+    for i in 0..s.len() {
+        byte(s[i]);
+    }
+}
+
+// BAD.
+pub fn name(s: &[u8; 12]) {
+    bytes(s);
+}
+
+// A comma before each number of a list but the first.
+fn comma(i: usize) {
+    if i != 0 {
+        text(b",");
+    }
+}
+
+// The zones of a list, the unused slots too.
+pub fn zones(s: &[u64]) {
+    text(b" [");
+    for i in 0..s.len() {
+        comma(i);
+        size(s[i]);
+    }
+    text(b"]");
+}
+
+// A lent list of values.
+pub fn values(s: &[i64]) {
+    text(b" [");
+    for i in 0..s.len() {
+        comma(i);
+        whole_number(s[i]);
+    }
+    text(b"]");
+}
+
+fn number(n: u32) {
+    size(n as u64);
+}
+
+// A lent list of refusals' numbers.
+pub fn numbers(s: &[u32]) {
+    text(b" [");
+    for i in 0..s.len() {
+        comma(i);
+        number(s[i]);
+    }
+    text(b"]");
+}
+
+fn band(b: u8) {
+    size(b as u64);
+}
+
+// The first and the last byte of a part.
+pub fn ends(part: &[u8]) {
+    text(b" [");
+    if part.len() != 0 {
+        band(part[0]);
+        text(b",");
+        band(part[part.len() - 1]);
+    }
+    text(b"]");
+}
+
+// A double that holds a whole number.
+pub fn double(x: f64) {
+    if x >= -9223372036854775808.0 {
+        if x < 9223372036854775808.0 {
+            signed(std::num::truncating_f64_to_i64(x));
+        }
+    }
+}
+
+// A double's bits, which show that it has no fraction and is no minus zero.
+pub fn bits(x: f64) {
+    if x < 9223372036854775808.0 {
+        text(b" ");
+        io::print_hex(STDOUT_FILENO, f64::to_bits(x), 16);
+    }
+}
