@@ -58,7 +58,8 @@ answered-grids s zone a b e =
     let u : UnitOf (some (f .of-row)) = rw (f .is-row) at (unit-in table zone refl) in
     record {
       columns = rw (f .is-a) (grid (f .of-row .unit) s (f .scale) u);
-      rows = rw (f .is-b) (grid rowUnit s (f .scale) (record { least = omega arith; most = omega arith })) }
+      rows = rw (f .is-b) (grid rowUnit s (f .scale) (record { least = omega arith; most = omega arith }));
+    }
 
 -- B alone
 pub rows-from : (s b : ℕ) → rowsOf s ≡ ConstantAnswer.Pixels b → Scale s × (b ≡ spacingAt rowUnit s)

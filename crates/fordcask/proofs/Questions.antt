@@ -17,7 +17,8 @@ module _ (scale zone : ℕ) (bytes : List ℕ) {x : Reading} (e : x ≡ readOf s
   pub card-known : x .verdict ≡ Verdict.Accepted → Known (x .card)
   card-known v =
       record {
-        scale = scale; zone = zone;
+        scale = scale;
+        zone = zone;
         is-read = record { bytes = bytes; read = sym e ∙ ap (λ (w : Verdict). record { verdict = w; card = x .card }) v };
       }
 

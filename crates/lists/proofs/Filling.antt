@@ -81,15 +81,15 @@ module _ (f : ℕ → Report) where
         record {
           upto = omega arith;
           values =
-            ap₂ (λ (a b : ℤ). set (set now (2 * i) a) (2 * i + 1) b) (toZ-ofZ w64 x fx) (toZ-ofZ w64 y fy)
-            ∙ ap (λ (s : List ℤ). set (set s (2 * i) x) (2 * i + 1) y) (t .values)
-            ∙ ap (λ (s : List ℤ). set s (2 * i + 1) y) first
-            ∙ second
-            ∙ ap (λ (s : List ℤ). over s out) (append-assoc vs (x ∷ []) (y ∷ []) ∙ ap (λ (s : List ℤ). vs ++ s) (sym ev) ∙ ap (λ (k : ℕ). valuesOf k f) (sym (add-one i)));
+              ap₂ (λ (a b : ℤ). set (set now (2 * i) a) (2 * i + 1) b) (toZ-ofZ w64 x fx) (toZ-ofZ w64 y fy)
+              ∙ ap (λ (s : List ℤ). set (set s (2 * i) x) (2 * i + 1) y) (t .values)
+              ∙ ap (λ (s : List ℤ). set s (2 * i + 1) y) first
+              ∙ second
+              ∙ ap (λ (s : List ℤ). over s out) (append-assoc vs (x ∷ []) (y ∷ []) ∙ ap (λ (s : List ℤ). vs ++ s) (sym ev) ∙ ap (λ (k : ℕ). valuesOf k f) (sym (add-one i)));
           numbers =
-            ap (λ (s : List ℕ). set s i z) (t .numbers)
-            ∙ over-next (numbersOf i f) num i z 0 (omega (arith, numbers-length i)) (omega (arith, lists-fit p (length out) (length num) fit))
-            ∙ ap (λ (s : List ℕ). over s num) (ap (λ (k : ℕ). numbersOf i f ++ k ∷ []) (sym en) ∙ ap (λ (k : ℕ). numbersOf k f) (sym (add-one i)));
+              ap (λ (s : List ℕ). set s i z) (t .numbers)
+              ∙ over-next (numbersOf i f) num i z 0 (omega (arith, numbers-length i)) (omega (arith, lists-fit p (length out) (length num) fit))
+              ∙ ap (λ (s : List ℕ). over s num) (ap (λ (k : ℕ). numbersOf i f ++ k ∷ []) (sym en) ∙ ap (λ (k : ℕ). numbersOf k f) (sym (add-one i)));
         }
 
 -- ---- two value parts, in a refusal too

@@ -32,6 +32,11 @@ module _ (d : ℕ) (hd : 0 < d) where
       (le-of-mul-le-mul-right {m = q * 68719476736} {n = c * rate + start} {k = d} (omega (arith, scale-low R)) hd)
       (lt-of-mul-lt-mul-right d {m = c * rate + start} {n = (q + 1) * 68719476736}
       (omega (
-        arith, scale-high R, mul-add c (p * 68719476736) (d - 1), mul-right-comm (q + 1) 68719476736 d, add-mul q 1 d, add-mul c 1 d,
+        arith,
+        scale-high R,
+        mul-add c (p * 68719476736) (d - 1),
+        mul-right-comm (q + 1) 68719476736 d,
+        add-mul q 1 d,
+        add-mul c 1 d,
         less-one c,
       )))

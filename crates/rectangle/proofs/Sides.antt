@@ -41,6 +41,7 @@ module _ (b j : ℕ) (h : j < 9) where
     where
       r : Row
       r = rowAt j
+
       go : (x p : Bool) → ltb low (to (rowAt j)) ≡ x → (ltb s (to (rowAt j)) || p) || ltb ((s - to (rowAt j)) * b) (1024 * circle) ≡ true
           → (x || p) || ltb ((low - to (rowAt j)) * b) (1024 * circle) ≡ true
       go true p q t = refl
@@ -60,8 +61,10 @@ module _ (b j : ℕ) (h : j < 9) where
     where
       near : (s : ℕ) → from (rowAt j) ≤ s → reaches b (rowAt j) s ≡ true → In b j s
       near s f r = rw (le-leb (from (rowAt j)) s f, r)
+
       early : (s : ℕ) → s < to (rowAt j) → reaches b (rowAt j) s ≡ true
       early s k = rw (lt-ltb s (to (rowAt j)) k)
+
       go : (x : Bool) → ltb low (from (rowAt j)) ≡ x → from (rowAt j) ≤ high → reaches b (rowAt j) low ≡ true → (s : ℕ) × (e ≤ s) × (low ≤ s) × (s ≤ high) × In b j s
       go true p f r =
           (from (rowAt j), omega (arith, ltb-true low (from (rowAt j)) p), omega (arith, ltb-true low (from (rowAt j)) p), f, near (from (rowAt j)) (omega arith) (early (from (rowAt j)) (from-to j h)))
@@ -141,7 +144,8 @@ module _ (b j : ℕ) (h : j < 9) where
           lat = pos s;
           above = is-le (pos S -ℤ pos quarter) (pos s) S quarter s 0 (is-difference S quarter) (is-nat s) (omega arith);
           below = is-le (pos s) (pos N -ℤ pos quarter) s 0 N quarter (is-nat s) (is-difference N quarter) (omega arith);
-          in-zone = north-in s ∙ t }
+          in-zone = north-in s ∙ t;
+        }
 
     south-lat : (s : ℕ) → 1 ≤ s → S + s ≤ quarter → quarter ≤ N + s → In b j s → Covered b south north (10 + j)
     south-lat zero i p q t = absurd (omega arith)
@@ -150,14 +154,15 @@ module _ (b j : ℕ) (h : j < 9) where
           lat = negsuc n;
           above = is-le (pos S -ℤ pos quarter) (negsuc n) S quarter 0 (suc n) (is-difference S quarter) (omega arith) (omega arith);
           below = is-le (negsuc n) (pos N -ℤ pos quarter) 0 (suc n) N quarter (omega arith) (is-difference N quarter) (omega arith);
-          in-zone = south-in n ∙ t }
+          in-zone = south-in n ∙ t;
+        }
 
     pub north-is : quarter ≤ N → coversSome b south north (1 + j) ≡ meets b (rowAt j) (S - quarter) (N - quarter)
     north-is k =
         same (coversSome b south north (1 + j)) (meets b (rowAt j) (S - quarter) (N - quarter))
         (λ t. let w = north-size (somes b south north (1 + j) order .0 t) in unmet (S - quarter) (N - quarter) (w .0) (omega (arith, w .1)) (omega (arith, w .2)) (w .3))
         (λ t. let w = met 0 (S - quarter) (N - quarter) (omega arith) (omega arith) (omega arith) t in
-          somes b south north (1 + j) order .1 (north-lat (w .0) (omega (arith, w .2)) (omega (arith, w .3)) (w .4)))
+        somes b south north (1 + j) order .1 (north-lat (w .0) (omega (arith, w .2)) (omega (arith, w .3)) (w .4)))
 
     pub north-none : N < quarter → coversSome b south north (1 + j) ≡ false
     north-none k = none (coversSome b south north (1 + j)) (λ t. let w = north-size (somes b south north (1 + j) order .0 t) in omega (arith, w .2))
@@ -167,7 +172,7 @@ module _ (b j : ℕ) (h : j < 9) where
         same (coversSome b south north (10 + j)) (meets b (rowAt j) (quarter - N) (quarter - S))
         (λ t. let w = south-size (somes b south north (10 + j) order .0 t) in unmet (quarter - N) (quarter - S) (suc (w .0)) (omega (arith, w .2)) (omega (arith, w .1)) (w .3))
         (λ t. let w = met 1 (quarter - N) (quarter - S) (omega arith) (omega arith) (omega arith) t in
-          somes b south north (10 + j) order .1 (south-lat (w .0) (w .1) (omega (arith, w .3)) (omega (arith, w .2)) (w .4)))
+        somes b south north (10 + j) order .1 (south-lat (w .0) (w .1) (omega (arith, w .3)) (omega (arith, w .2)) (w .4)))
 
     pub south-none : quarter ≤ S → coversSome b south north (10 + j) ≡ false
     south-none k = none (coversSome b south north (10 + j)) (λ t. let w = south-size (somes b south north (10 + j) order .0 t) in omega (arith, w .1))

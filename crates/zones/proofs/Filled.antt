@@ -33,7 +33,8 @@ module _ (f : ℕ → Bool) (k : ℕ) (whole rest slots : List ℕ) (n z : ℕ) 
         so = w .so ++ (z ∷ []);
         joined = append-snoc (w .so) z (those f rest) ∙ ap (λ (b : Bool). w .so ++ cond b (z ∷ those f rest) (those f rest)) (sym t) ∙ w .joined;
         filled = rw (w .filled, w .count) (padded-set k (w .so) z (omega (arith, w .count)));
-        count = omega (arith, length-append (w .so) (z ∷ []), w .count) }
+        count = omega (arith, length-append (w .so) (z ∷ []), w .count);
+      }
 
   pub passed : f z ≡ false → Sofar f k whole rest slots n
   passed t =
@@ -41,7 +42,8 @@ module _ (f : ℕ → Bool) (k : ℕ) (whole rest slots : List ℕ) (n z : ℕ) 
         so = w .so;
         joined = ap (λ (b : Bool). w .so ++ cond b (z ∷ those f rest) (those f rest)) (sym t) ∙ w .joined;
         filled = w .filled;
-        count = w .count }
+        count = w .count;
+      }
 
 -- the slots taken are no more than the whole list
 pub count-le : (f : ℕ → Bool) (k : ℕ) (whole rest slots : List ℕ) (n : ℕ) → Sofar f k whole rest slots n → n + length (those f rest) ≡ length whole

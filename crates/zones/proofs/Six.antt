@@ -45,4 +45,5 @@ six-at-most s g lat e =
       zone = first-small lat;
       in-table = p .in-list;
       low = p .low;
-      high = outsides quarter lat .0 e }))
+      high = outsides quarter lat .0 e;
+    }))

@@ -56,7 +56,8 @@ cover-from-requires c κs =
       zone = omega (arith, firsts c, first-small (c .before .before .before .before .args .lat));
       in-table = omega (arith, p .in-list);
       low = rw (e, z) (p .low);
-      high = c .before .before .if1 .left }
+      high = c .before .before .if1 .left;
+    }
 
 returns-2 : tie.Need-returns-2
 returns-2 c =
