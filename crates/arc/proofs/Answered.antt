@@ -65,6 +65,8 @@ answered-grids s zone a b e =
 pub rows-from : (s b : ℕ) → rowsOf s ≡ ConstantAnswer.Pixels b → Scale s × (b ≡ spacingAt rowUnit s)
 rows-from s b e = go (isScale s) refl e
   where
-    go : (t : Bool) → isScale s ≡ t → cond t (ConstantAnswer.Pixels (spacingAt rowUnit s)) (ConstantAnswer.Refused (refusal 1)) ≡ ConstantAnswer.Pixels b → Scale s × (b ≡ spacingAt rowUnit s)
+    go : (t : Bool) → isScale s ≡ t
+        → cond t (ConstantAnswer.Pixels (spacingAt rowUnit s)) (ConstantAnswer.Refused (refusal 1)) ≡ ConstantAnswer.Pixels b
+        → Scale s × (b ≡ spacingAt rowUnit s)
     go true p k = (scale-in s p, cc)
     go false p k = let z : _≡_ {A = ℕ} 0 1 = cc in absurd (omega arith)

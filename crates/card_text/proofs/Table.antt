@@ -72,7 +72,8 @@ passed-values (_▸_ {s} {f} {fs} r p) e =
 abbrev pub noField : Subfield
 noField = sub 0 0 (Number 0 0)
 
-walk-accepted : (fs : List Subfield) (s : List ℕ) → walk fs s ≡ Verdict.Accepted → (i : ℕ) → i < length fs → judgeField (getD fs i noField) s ≡ Verdict.Accepted
+walk-accepted : (fs : List Subfield) (s : List ℕ) → walk fs s ≡ Verdict.Accepted → (i : ℕ) → i < length fs
+    → judgeField (getD fs i noField) s ≡ Verdict.Accepted
 walk-accepted [] s e i h = absurd (not-suc-le-zero h)
 walk-accepted (f ∷ fs) s e zero h = orElse-both (judgeField f s) (walk fs s) e .0
 walk-accepted (f ∷ fs) s e (suc i) h = walk-accepted fs s (orElse-both (judgeField f s) (walk fs s) e .1) i (le-of-suc-le-suc h)

@@ -2,7 +2,8 @@
 -- stays below one dth, so the floor is the same. Assumes nothing.
 use mathlib.Core.Path.{_≡_, sym, ap, _∙_}
 use Prim.Native.Nat.{ℕ, _+_, _-_, _*_, _/_, _≤_, _<_}
-use native.Mathlib.Nat.{mul-le-mul-left, mul-assoc, mul-add, add-mul, mul-one, mul-right-comm, div-eq-of-lt-le, div-mul-le-self, lt-div-mul-add, le-of-mul-le-mul-right, lt-of-mul-lt-mul-right}
+use native.Mathlib.Nat.{mul-le-mul-left, mul-assoc, mul-add, add-mul, mul-one, mul-right-comm, div-eq-of-lt-le, div-mul-le-self}
+use native.Mathlib.Nat.{lt-div-mul-add, le-of-mul-le-mul-right, lt-of-mul-lt-mul-right}
 use native.Mathlib.Omega.{arith}
 use Rattle.lists.specs.Engine.{scaleUp}
 

@@ -68,7 +68,8 @@ module _ (b j : ℕ) (h : j < 9) where
     unfolding covers
     covers-is =
         ap (coversIn b lat (firstZone lat + j)) row-of
-        ∙ ap (λ (t : Bool). t && (holds (rowAt j) (natAbs lat) || overlaps b (rowAt j) (natAbs lat))) (eq-eqb (firstZone lat + j) (zoneOn lat (rowAt j)) (sym zone-on))
+        ∙ ap (λ (t : Bool). t && (holds (rowAt j) (natAbs lat) || overlaps b (rowAt j) (natAbs lat)))
+        (eq-eqb (firstZone lat + j) (zoneOn lat (rowAt j)) (sym zone-on))
         ∙ row-covers (natAbs lat)
 
 -- the basic zone by its row's place

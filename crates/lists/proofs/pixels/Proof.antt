@@ -35,7 +35,9 @@ same-length-2 c = search needs
 
 returns-2 : tie.Need-returns-2
 returns-2 c =
-    let f = sym (c .before .before .before .before .before .before .before .before .lists-fit .ensures) ∙ not-false _ (c .before .before .before .before .before .before .before .if1 .left) in
+    let f =
+    sym (c .before .before .before .before .before .before .before .before .lists-fit .ensures)
+    ∙ not-false _ (c .before .before .before .before .before .before .before .if1 .left) in
     let card = engine-card (c .before .before .before .before .before .before .engine-of .ensures) in
     (rw f refl, (rw card at (c .before .before .before .fill-pixels .ensures .0), rw card at (c .before .before .before .fill-pixels .ensures .1)))
 
