@@ -90,8 +90,8 @@ module _ (scale zone : ℕ) (s : List ℕ) (k : Card) where
             card = ap (λ (x : Reading). x .card) e;
           }
 
-  by-tests : (a b : ℕ) → spacingOf scale zone ≡ SpacingAnswer.Constants a b → (p w c : Bool) (v : Verdict) → isPolar zone ≡ p
-      → eqb (length s) 98 ≡ w
+  by-tests : (a b : ℕ) → spacingOf scale zone ≡ SpacingAnswer.Constants a b → (p w c : Bool) (v : Verdict)
+      → isPolar zone ≡ p → eqb (length s) 98 ≡ w
       → walk layout s ≡ v → constantsIn a b s ≡ c
       → cond p (refused (refusal 3))
       (cond w (afterWalk v (cond c (withOrigin scale zone a b s (rowTile b s) (columnTile a s)) (refused (refusal 9)))) (refused (refusal 6)))

@@ -60,5 +60,6 @@ pub range-is : (z : ℤ) (p j : ℕ) → Is z p (half + j * circle) → Is (into
 range-is z p j e =
     subst⁻¹ (λ (y : ℤ). Is (y -ℤ pos half) (p % circle) half)
     (is-modulo (z +ℤ pos half) circle p j (omega arith)
-    (is-same (z +ℤ pos half) (p + half) (half + j * circle + 0) p (j * circle) (is-add z (pos half) p (half + j * circle) half 0 e (is-nat half)) (omega arith)))
+    (is-same (z +ℤ pos half) (p + half) (half + j * circle + 0) p (j * circle)
+    (is-add z (pos half) p (half + j * circle) half 0 e (is-nat half)) (omega arith)))
     (is-difference (p % circle) half)

@@ -87,7 +87,8 @@ fn put_fixed(out: &mut [u8])
 
 // The bytes of a record whose origin is counted from the South Pole and from 180° west.
 fn put_card(out: &mut [u8], a: u64, b: u64, north: u64, east: u64, r: Record)
-    requires { ⌜ 98 ≤ length (now out) ⌝ ∗ ⌜ Grid a ⌝ ∗ ⌜ Grid b ⌝ ∗ ⌜ (128 * north ≤ b) × (128 * east ≤ a) ⌝ ∗ ⌜ Narrow r ⌝ }
+    requires { ⌜ 98 ≤ length (now out) ⌝ ∗ ⌜ Grid a ⌝ ∗ ⌜ Grid b ⌝
+        ∗ ⌜ (128 * north ≤ b) × (128 * east ≤ a) ⌝ ∗ ⌜ Narrow r ⌝ }
     ensures { λ _. ⌜ now (out .exit) ≡ splice 0 (written layout (heldBy a b north east r)) (now (out .entry)) ⌝ }
 {
     let bad = r.bad;

@@ -57,7 +57,8 @@ module _ (f : ℕ → Report) where
   numbers-length : (i : ℕ) → length (numbersOf i f) ≡ i * 1
   numbers-length i = length-each 1 i (λ (j : ℕ). f j .number ∷ []) (λ j. refl)
 
-  module _ (two : (i : ℕ) → length (f i .values) ≡ 2) (p : ℕ) {out : List ℤ} {num : List ℕ} (fit : listsFit p (length out) (length num) ≡ true) where
+  module _ (two : (i : ℕ) → length (f i .values) ≡ 2) (p : ℕ) {out : List ℤ} {num : List ℕ}
+      (fit : listsFit p (length out) (length num) ≡ true) where
     pub filled-length : {i : ℕ} {now : List ℤ} {nums : List ℕ} → Filled f (pairs p) out num i now nums → length now ≡ length out
     filled-length {i} t =
         ap length (t .values)
@@ -95,8 +96,8 @@ module _ (f : ℕ → Report) where
               ∙ ap (λ (s : List ℤ). set (set s (2 * i) x) (2 * i + 1) y) (t .values)
               ∙ ap (λ (s : List ℤ). set s (2 * i + 1) y) first
               ∙ second
-              ∙ ap (λ (s : List ℤ). over s out) (append-assoc vs (x ∷ []) (y ∷ []) ∙ ap (λ (s : List ℤ). vs ++ s) (sym ev)
-              ∙ ap (λ (k : ℕ). valuesOf k f) (sym (add-one i)));
+              ∙ ap (λ (s : List ℤ). over s out)
+              (append-assoc vs (x ∷ []) (y ∷ []) ∙ ap (λ (s : List ℤ). vs ++ s) (sym ev) ∙ ap (λ (k : ℕ). valuesOf k f) (sym (add-one i)));
           numbers =
               ap (λ (s : List ℕ). set s i z) (t .numbers)
               ∙ over-next (numbersOf i f) num i z 0 (omega (arith, numbers-length i)) (omega (arith, lists-fit p (length out) (length num) fit))

@@ -112,7 +112,8 @@ module _ (b j : ℕ) (h : j < 9) where
   unfolding covers
   not-south s =
       ap (coversIn b (pos s) (10 + j)) (row-south j h)
-      ∙ rw (le-ltb s 0 (omega arith)) (ap (λ (t : Bool). t && (holds (rowAt j) s || overlaps b (rowAt j) s))
+      ∙ rw (le-ltb s 0 (omega arith))
+      (ap (λ (t : Bool). t && (holds (rowAt j) s || overlaps b (rowAt j) s))
       (ne-eqb (10 + j) (rowAt j .northern) (λ e. omega (arith, northern-at j h))))
 
   -- the rectangle, its edges counted from the South Pole

@@ -67,5 +67,6 @@ somes b south north zone o =
           let v : t .lat ≡ south +ℤ pos k =
           is-equal (t .lat) (south +ℤ pos k) x y (a + k) (c + 0) (is-parts (t .lat))
           (is-add south (pos k) a c k 0 (is-parts south) (is-nat k)) (omega arith) in
-          some-complete (λ lat. covers b lat zone) south (natAbs (north -ℤ south) + 1) k (omega arith) (ap (λ (z : ℤ). covers b z zone) (sym v) ∙ t .in-zone)),
+          some-complete (λ lat. covers b lat zone) south (natAbs (north -ℤ south) + 1) k (omega arith)
+          (ap (λ (z : ℤ). covers b z zone) (sym v) ∙ t .in-zone)),
     )

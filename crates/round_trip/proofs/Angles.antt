@@ -39,8 +39,8 @@ module _ (d : ℕ) (z : ℤ) where
   length-angle = simp (length-append, length-digits) (omega arith)
 
   joins : angleText d z
-      ≡ joined (signByte z) (digits d (natAbs z / 360000)) (digits 2 (natAbs z / 6000 % 60)) (digits 2 (natAbs z / 100 % 60))
-      (digits 2 (natAbs z % 100))
+      ≡ joined (signByte z) (digits d (natAbs z / 360000)) (digits 2 (natAbs z / 6000 % 60))
+      (digits 2 (natAbs z / 100 % 60)) (digits 2 (natAbs z % 100))
   unfolding angleText
   joins = refl
 
@@ -144,6 +144,6 @@ module _ (d limit : ℕ) (s : List ℕ) (long : length s ≡ d + 8) (is-laid : a
       again : {w : ℕ} {x : List ℕ} → Run w x → {v : ℕ} → v ≡ number x → digits w v ≡ x
       again {w} {x} q e = ap (digits w) e ∙ digits-number w x (q .long) (q .digit)
 
-      alike : {b b′ : ℕ} {d d′ m m′ s s′ h h′ : List ℕ} → b ≡ b′ → d ≡ d′ → m ≡ m′ → s ≡ s′
-          → h ≡ h′ → joined b d m s h ≡ joined b′ d′ m′ s′ h′
+      alike : {b b′ : ℕ} {d d′ m m′ s s′ h h′ : List ℕ} → b ≡ b′ → d ≡ d′ → m ≡ m′ → s ≡ s′ → h ≡ h′
+          → joined b d m s h ≡ joined b′ d′ m′ s′ h′
       alike p q r s t = cc

@@ -39,8 +39,7 @@ module _ (x : ℤ) (d : ℕ) (h : 0 < d) where
             let q : over j * d + k * d ≤ a + under j * d = le-is (j *ℤ pos d) x (over j * d) (under j * d) a (k * d) (times j) written p in
             let r : over j + k < a / d + under j + 1 =
             lt-of-mul-lt-mul-right d
-            (omega (arith, div-add-mod' a d, mod-lt a h, add-mul (over j) k d, add-mul (a / d + under j) 1 d, add-mul (a / d) (under j) d))
-            in
+            (omega (arith, div-add-mod' a d, mod-lt a h, add-mul (over j) k d, add-mul (a / d + under j) 1 d, add-mul (a / d) (under j) d)) in
             is-le j (floorDiv x d) (over j) (under j) (a / d) k (is-parts j) (is-floor x d a k h written) (omega arith);
       }
 

@@ -81,8 +81,8 @@ module _ (k : ℕ) (hk : k < 2 ^ 32) where
 up-is : (z : ℤ) → ltZ z (pos 0) ≡ true → Is (z +ℤ pos 1) 1 (natAbs z)
 up-is (pos n) t = absurd (omega (arith, ltb-true n 0 t))
 up-is (negsuc n) t =
-    is-same (negsuc n +ℤ pos 1) (0 + 1) (suc n + 0) 1 (suc n) (is-add (negsuc n) (pos 1) 0 (suc n) 1 0 (omega arith) (is-nat 1))
-    (omega arith)
+    is-same (negsuc n +ℤ pos 1) (0 + 1) (suc n + 0) 1 (suc n)
+    (is-add (negsuc n) (pos 1) 0 (suc n) 1 0 (omega arith) (is-nat 1)) (omega arith)
 
 pub size-fits : (z : ℤ) → SFits w64 z → natAbs z ≤ 2 ^ 63
 size-fits (pos n) f = omega (arith, f .sfits)

@@ -55,5 +55,6 @@ round-trip d e hd finer v =
 pub near-modulo : (a d : ℕ) → 0 < d → (x : ℕ) → near (x % (a * d)) d % a ≡ near x d % a
 near-modulo a d h x =
     sym (add-mul-mod-self-right (near (x % (a * d)) d) (x / (a * d)) a)
-    ∙ ap (λ (n : ℕ). n % a) (sym (near-shift d h (x % (a * d)) (x / (a * d) * a))
+    ∙ ap (λ (n : ℕ). n % a)
+    (sym (near-shift d h (x % (a * d)) (x / (a * d) * a))
     ∙ ap (λ (n : ℕ). near n d) (omega (arith, div-add-mod' x (a * d), mul-assoc (x / (a * d)) a d)))

@@ -51,8 +51,8 @@ pub count-le : (f : ℕ → Bool) (k : ℕ) (whole rest slots : List ℕ) (n : �
 count-le f k whole rest slots n w = omega (arith, length-append (w .so) (those f rest), ap length (w .joined), w .count)
 
 -- nothing more to come
-pub finished : (f : ℕ → Bool) (k : ℕ) (whole rest slots : List ℕ) (n : ℕ) → Sofar f k whole rest slots n
-    → those f rest ≡ [] → (slots ≡ padded k whole) × (n ≡ length whole)
+pub finished : (f : ℕ → Bool) (k : ℕ) (whole rest slots : List ℕ) (n : ℕ) → Sofar f k whole rest slots n → those f rest ≡ []
+    → (slots ≡ padded k whole) × (n ≡ length whole)
 finished f k whole rest slots n w e =
     let s : w .so ≡ whole = sym (append-nil (w .so)) ∙ ap (λ (l : List ℕ). w .so ++ l) (sym e) ∙ w .joined in
     (w .filled ∙ ap (padded k) s, w .count ∙ ap length s)

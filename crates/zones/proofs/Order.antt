@@ -88,7 +88,8 @@ fades b first i size g j h t (suc n) k =
 abbrev pub within : ℕ → ℕ → ℕ → ℕ → Bool
 within b first size zone = reaches b (rowAt (zone - first)) size
 
-module _ (b first i size : ℕ) (g : Rowed b first i size) (left : ℕ) (some : 0 < left) (most : left ≤ i) (limit : ℕ) (is : limit ≡ to (rowAt (left - 1))) where
+module _ (b first i size : ℕ) (g : Rowed b first i size) (left : ℕ) (some : 0 < left) (most : left ≤ i)
+    (limit : ℕ) (is : limit ≡ to (rowAt (left - 1))) where
   pub limit-low : limit ≤ size
   limit-low = omega (arith, ends b first i size g (left - 1) (omega arith))
 
@@ -98,7 +99,8 @@ module _ (b first i size : ℕ) (g : Rowed b first i size) (left : ℕ) (some : 
       rw (is, e) (sym (reaches-is b first i size g (left - 1) (omega arith)))
 
   -- it covers: the next slot is one of the six
-  module _ (slots : List ℕ) (n : ℕ) (c : n + left ≡ i + 1) (w : Sofar (within b first size) 6 (coverFrom b first i size) (downFrom first left) slots n) where
+  module _ (slots : List ℕ) (n : ℕ) (c : n + left ≡ i + 1)
+      (w : Sofar (within b first size) 6 (coverFrom b first i size) (downFrom first left) slots n) where
     pub took : (size - limit) * b < 1024 * circle
         → (n < 6) × Sofar (within b first size) 6 (coverFrom b first i size) (downFrom first (left - 1)) (set slots n (first + (left - 1))) (n + 1)
     took t =

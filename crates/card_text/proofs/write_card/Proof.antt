@@ -29,8 +29,8 @@ same-length c = search needs
 returns : tie.Need-returns
 unfolding writeOf outOf
 returns c =
-    rw (sym (c .before .before .before .before .before .before .before .spacing .ensures)
-    ∙ c .before .before .before .before .before .a .given .1) (c .before .before .write-spaced .ensures)
+    rw (sym (c .before .before .before .before .before .before .before .spacing .ensures) ∙ c .before .before .before .before .before .a .given .1)
+    (c .before .before .write-spaced .ensures)
 
 returns-2 : tie.Need-returns-2
 unfolding writeOf outOf

@@ -71,8 +71,7 @@ loop-again c =
     let told : pixelTold p ≡ reports s (l .loop .i) =
     d .into-parts .ensures
     ∙ ap pixelReport
-    (asked ∙ ap (λ (y : Pair). pixelOf (s .args .e .card) (y .first) (y .second)) (d .before .before .before .before .pair-at .ensures))
-    in
+    (asked ∙ ap (λ (y : Pair). pixelOf (s .args .e .card) (y .first) (y .second)) (d .before .before .before .before .pair-at .ensures)) in
     rw (c .before .before .before .put-pair .ensures .0, c .before .before .before .put-pair .ensures .1)
     (filled-next (reports s) (two s) (length (s .args .positions .now)) (s .pre .1) (l .loop .inv)
     (omega (arith, d .before .before .before .before .before .loop-test .taken))

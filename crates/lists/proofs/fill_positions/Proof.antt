@@ -70,8 +70,8 @@ loop-again c =
     (toZ-ofZ w64 (x .second) (record { sfits = d .before .before .struct-told2 .given .1 .0 .1 })) in
     let told : positionTold p ≡ reports s (l .loop .i) =
     d .into-parts .ensures
-    ∙ ap positionReport (asked
-    ∙ ap (λ (y : Pair). positionOf (s .args .e .card) (y .first) (y .second)) (d .before .before .before .before .pair-at .ensures)) in
+    ∙ ap positionReport
+    (asked ∙ ap (λ (y : Pair). positionOf (s .args .e .card) (y .first) (y .second)) (d .before .before .before .before .pair-at .ensures)) in
     rw (c .before .before .before .put-pair .ensures .0, c .before .before .before .put-pair .ensures .1)
     (filled-next (reports s) (two s) (length (s .args .pixels .now)) (s .pre .1) (l .loop .inv)
     (omega (arith, d .before .before .before .before .before .loop-test .taken))

@@ -83,8 +83,10 @@ difference-requires-3 c κs = search needs
 
 cast-difference-6 : tie.Need-cast-difference-6
 cast-difference-6 c =
-    omega
-    (arith, stored-high (columns (c .before .before .before .before .before)) _ (columns-high (c .before .before .before .before .before)))
+    omega (
+      arith,
+      stored-high (columns (c .before .before .before .before .before)) _ (columns-high (c .before .before .before .before .before)),
+    )
 
 difference-requires-4 : tie.Need-difference-requires-4
 difference-requires-4 c κs = search needs

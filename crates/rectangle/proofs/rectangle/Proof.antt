@@ -29,8 +29,8 @@ returns : tie.Need-returns
 returns c = let s = c .before .before .before .before .before in
     rw (sym (c .before .before .before .before .b-constant .ensures) ∙ c .before .before .b .given .1)
     (c .rectangle-at .ensures
-    ∙ ap₂ (rectangleAt (c .before .before .b .given .0 .0)) (toZ-ofZ w64 (s .args .south) (s .fits .south))
-    (toZ-ofZ w64 (s .args .north) (s .fits .north)))
+    ∙ ap₂ (rectangleAt (c .before .before .b .given .0 .0))
+    (toZ-ofZ w64 (s .args .south) (s .fits .south)) (toZ-ofZ w64 (s .args .north) (s .fits .north)))
 
 returns-2 : tie.Need-returns-2
 returns-2 c = rw (sym (c .before .before .before .before .b-constant .ensures) ∙ c .before .before .r .given .1) (c .no-rectangle .ensures)

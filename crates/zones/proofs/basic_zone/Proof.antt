@@ -48,7 +48,9 @@ returns-2 c =
           (c .before .before .if1 .left),
       rw (toZ-ofZ w64 z (c .before .before .before .before .fits .lat)) at (c .if2 .taken),
     )
-    (ap ZoneAnswer.Zone (ap (λ (n : ℕ). n + 9) (c .before .northern .ensures) ∙ sym (southern-is (c .before .before .before .size .result))
+    (ap ZoneAnswer.Zone
+    (ap (λ (n : ℕ). n + 9) (c .before .northern .ensures)
+    ∙ sym (southern-is (c .before .before .before .size .result))
     ∙ ap (λ (n : ℕ). rowHolding n .southern) (sized (c .before .before .before))))
 
 returns-3 : tie.Need-returns-3

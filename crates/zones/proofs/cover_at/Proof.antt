@@ -1,5 +1,5 @@
--- The size is tested as the range is; the basic zone's row and the hemisphere's first zone are those of the cover list as `cover_from` goes
--- through it. Assumes nothing.
+-- The size is tested as the range is; the basic zone's row and the hemisphere's first zone are those of the cover list
+-- as `cover_from` goes through it. Assumes nothing.
 use mathlib.Core.Path.{_≡_, sym, ap, _∙_}
 use native.Mathlib.Omega.{arith}
 use lib.IntN.{natAbs}
@@ -38,8 +38,8 @@ firsts c = c .first-zone .ensures ∙ ap firstZone (toZ-ofZ w64 (c .before .befo
 
 returns : tie.Need-returns
 returns c =
-    rw (outside-size quarter (c .before .before .before .before .args .lat) _ (sized (c .before .before .before))
-    (c .before .before .if1 .taken)) (c .no-cover .ensures ∙ ap refusedCover (c .before .refused .ensures))
+    rw (outside-size quarter (c .before .before .before .before .args .lat) _ (sized (c .before .before .before)) (c .before .before .if1 .taken))
+    (c .no-cover .ensures ∙ ap refusedCover (c .before .refused .ensures))
 
 northern-requires : tie.Need-northern-requires
 northern-requires c κs = search needs

@@ -93,7 +93,8 @@ returns-2 c =
     let a = c .before .before .before .before .args in
     let i = c .before .before .before .loop .inv in
     made (coverFrom (a .b) (a .first) (a .row) (a .size)) _ _
-    (finished _ 6 _ _ _ _ (i .2) (stopped _ _ _ _ (c .before .before .before .before .pre) (c .before .before .before .loop .left) (omega arith) (i .0) _
+    (finished _ 6 _ _ _ _ (i .2)
+    (stopped _ _ _ _ (c .before .before .before .before .pre) (c .before .before .before .loop .left) (omega arith) (i .0) _
     (c .before .poleward .ensures) (c .if1 .taken)))
 
 pub cover-from-spec : {M : Type 1} → statement M

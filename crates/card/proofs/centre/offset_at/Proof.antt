@@ -47,8 +47,8 @@ int-to-float-t10 : tie.Need-int-to-float-t10
 int-to-float-t10 c =
     let s = c .before .before .before .before in
     let z : ℤ = pos (s .args .east) -ℤ pos (s .args .ceast) in
-    rw (columns (c .before .before)) (in-float (shortWay z)
-    (short-size z (s .args .east) (s .args .ceast) (s .pre .1 .1 .1) (is-difference (s .args .east) (s .args .ceast))))
+    rw (columns (c .before .before))
+    (in-float (shortWay z) (short-size z (s .args .east) (s .args .ceast) (s .pre .1 .1 .1) (is-difference (s .args .east) (s .args .ceast))))
 
 returns : tie.Need-returns
 returns c = same (ap (ofInt binary64) (rows (c .before .before .before))) (ap (ofInt binary64) (columns (c .before .before)))

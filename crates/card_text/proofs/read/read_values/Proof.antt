@@ -72,8 +72,9 @@ eastward c = c .before .before .before .before
 abbrev made : tie.After-extents-hold → Reading
 made c =
     let s = start (northward (eastward c)) in
-    accepted (cardFrom (s .args .scale) (s .args .zone) (s .args .a) (s .args .b) (northward (eastward c) .before .north .given .0 .0)
-    (eastward c .before .east .given .0 .0) (c .before .record-in .result))
+    accepted
+    (cardFrom (s .args .scale) (s .args .zone) (s .args .a) (s .args .b)
+    (northward (eastward c) .before .north .given .0 .0) (eastward c .before .east .given .0 .0) (c .before .record-in .result))
 
 answer : (c : tie.After-extents-hold) {ok : Bool} → c .extents-hold .result ≡ ok
     → asked (start (northward (eastward c))) ≡ cond ok (made c) (refused (refusal 11))

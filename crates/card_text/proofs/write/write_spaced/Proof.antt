@@ -55,8 +55,8 @@ column-fits : (c : tie.After-count-from2) → SFits w64 (start (c .before .befor
 column-fits c = record { sfits = c .before .struct-told2 .given .1 .0 .1 }
 
 rows : (c : tie.After-known-told2)
-    → Inside (start (c .before .before .before .before .before) .args .b / 512) (start (c .before .before .before .before .before) .args .r .n)
-    (c .before .north .given .0 .0)
+    → Inside (start (c .before .before .before .before .before) .args .b / 512)
+    (start (c .before .before .before .before .before) .args .r .n) (c .before .north .given .0 .0)
 rows c =
     let x = c .before .before .before in
     let s = start (x .before .before) in
@@ -77,8 +77,8 @@ counted c = c .before .before .before .before .before .before .before .before .b
 judged : (c : tie.After-extents-hold) → tests (start (counted c)) ≡ cond (c .extents-hold .result) Verdict.Accepted (Verdict.Refused (refusal 11))
 judged c =
     let s = start (counted c) in
-    extents-judged (s .args .a) (s .args .b) (s .args .r) (right (counted c)) (rows (c .before .before .before .before .before .before))
-    (columns (c .before)) (c .extents-hold .result) (c .extents-hold .ensures)
+    extents-judged (s .args .a) (s .args .b) (s .args .r) (right (counted c))
+    (rows (c .before .before .before .before .before .before)) (columns (c .before)) (c .extents-hold .result) (c .extents-hold .ensures)
 
 refused-requires : tie.Need-refused-requires
 refused-requires c κs = search needs
@@ -178,7 +178,13 @@ put-card-requires c κs =
     let north = rows (x .before .before .before .before .before .before) in
     let held = sym (x .extents-hold .ensures) ∙ not-false (x .extents-hold .result) (c .before .if3 .left) in (
       counted x .before .before .before .if2 .left,
-      (s .pre .0, (s .pre .1, ((omega (arith, north .high), omega (arith, columns (x .before) .high)), narrow (s .args .r) (s .args .a) _ (right (counted x)) held))),
+      (
+        s .pre .0,
+        (
+          s .pre .1,
+          ((omega (arith, north .high), omega (arith, columns (x .before) .high)), narrow (s .args .r) (s .args .a) _ (right (counted x)) held),
+        ),
+      ),
     )
 
 same-length : tie.Need-same-length

@@ -39,23 +39,19 @@ returns : tie.Need-returns
 returns c =
     let s = c .before .before .before .before .before .before .before .before .before .before .before .before .before in
     let x = c .before .before .before .before .positions .ensures in
+    let read = c .before .before .before .before .before .before .before .before .before .before .read-card .ensures in
     let v = c .before .before .before .before .before .before .before .enum-told .given .1 in (
       c .refusal .ensures
-          ∙ ap refusalOf (x .0
-          ∙ card-answers (s .args .scale) (s .args .zone) (s .args .card .now)
-          (c .before .before .before .before .before .before .before .before .before .before .read-card .ensures)
-          Verdict.Refused
+          ∙ ap refusalOf
+          (x .0
+          ∙ card-answers (s .args .scale) (s .args .zone) (s .args .card .now) read Verdict.Refused
           (λ (k : Card). listsVerdict (length (s .args .pixels .now)) (length (s .args .positions .now)) (length (s .args .numbers .now))) v),
       (
         x .1 .0
-            ∙ card-answers (s .args .scale) (s .args .zone) (s .args .card .now)
-            (c .before .before .before .before .before .before .before .before .before .before .read-card .ensures)
-            (λ (e : Refusal). s .args .positions .now)
+            ∙ card-answers (s .args .scale) (s .args .zone) (s .args .card .now) read (λ (e : Refusal). s .args .positions .now)
             (λ (k : Card). valuesLeft (positionReportAt k) (s .args .pixels .now) (s .args .positions .now) (s .args .numbers .now)) v,
         x .1 .1
-            ∙ card-answers (s .args .scale) (s .args .zone) (s .args .card .now)
-            (c .before .before .before .before .before .before .before .before .before .before .read-card .ensures)
-            (λ (e : Refusal). s .args .numbers .now)
+            ∙ card-answers (s .args .scale) (s .args .zone) (s .args .card .now) read (λ (e : Refusal). s .args .numbers .now)
             (λ (k : Card). numbersLeft (positionReportAt k) (s .args .pixels .now) (s .args .positions .now) (s .args .numbers .now)) v,
       ),
     )

@@ -24,14 +24,15 @@ told c =
     NumberAnswer.Refused
     (λ (k : Card). numberOf k (s .args .index .now) (s .args .count) (s .args .store .now) (s .args .row) (s .args .column)) (c .before .enum-told .given .1)
 
-held : (c : tie.After-known-told) → let s =
-    c .before .before .before .before .before .before .before .before .before .before .before in InStore (c .before .n .given .0 .0)
-    (s .args .count) (s .args .store .now)
+held : (c : tie.After-known-told)
+    → let s = c .before .before .before .before .before .before .before .before .before .before .before in
+    InStore (c .before .n .given .0 .0) (s .args .count) (s .args .store .now)
 held c =
     let s = c .before .before .before .before .before .before .before .before .before .before .before in
-    number-held _ _ _ _ _ _ _ (sym (c .before .before .before .stored-number .ensures
-    ∙ number-plain _ (s .args .index .now) (s .args .count) (s .args .store .now) (s .args .row) (s .args .column) (s .fits .row)
-    (s .fits .column))
+    number-held _ _ _ _ _ _ _
+    (sym (c .before .before .before .stored-number .ensures
+    ∙ number-plain _ (s .args .index .now) (s .args .count) (s .args .store .now) (s .args .row) (s .args .column)
+    (s .fits .row) (s .fits .column))
     ∙ c .before .n .given .1)
 
 read-card-requires : tie.Need-read-card-requires

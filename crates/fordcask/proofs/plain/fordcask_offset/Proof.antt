@@ -23,8 +23,7 @@ returns c =
       toZ-ofZ w64 (s .args .lon) (s .fits .lon),
       toZ-ofZ w64 (s .args .clat) (s .fits .clat),
       toZ-ofZ w64 (s .args .clon) (s .fits .clon),
-    )
-    at (c .before .offset-from .ensures))
+    ) at (c .before .offset-from .ensures))
 
 pub fordcask-offset-spec : {M : Type 1} → statement M
 fordcask-offset-spec = tie.close (tie.spec offset-from-requires into-parts-requires returns)

@@ -21,11 +21,9 @@ use Rattle.lists.proofs.engine.Engine.position.Tie as tie
 -- what the verdict tells where it accepts
 tests : (c : tie.After-enum-told)
     → (inTiles (c .before .before .before .before .args .self .card) (c .before .before .before .before .args .row)
-    (c .before .before .before .before .args .column)
-    ≡ true)
+    (c .before .before .before .before .args .column) ≡ true)
     × (inChart (c .before .before .before .before .args .self .card) (c .before .before .before .before .args .row)
-    (c .before .before .before .before .args .column)
-    ≡ true)
+    (c .before .before .before .before .args .column) ≡ true)
 tests c =
     let s = c .before .before .before .before in
     judged-accepted (s .args .self .card) (s .args .row) (s .args .column) (s .fits .row) (s .fits .column)
