@@ -58,12 +58,15 @@ answered-grids s zone a b e =
     let u : UnitOf (some (f .of-row)) = rw (f .is-row) at (unit-in table zone refl) in
     record {
       columns = rw (f .is-a) (grid (f .of-row .unit) s (f .scale) u);
-      rows = rw (f .is-b) (grid rowUnit s (f .scale) (record { least = omega arith; most = omega arith })) }
+      rows = rw (f .is-b) (grid rowUnit s (f .scale) (record { least = omega arith; most = omega arith }));
+    }
 
 -- B alone
 pub rows-from : (s b : ℕ) → rowsOf s ≡ ConstantAnswer.Pixels b → Scale s × (b ≡ spacingAt rowUnit s)
 rows-from s b e = go (isScale s) refl e
   where
-    go : (t : Bool) → isScale s ≡ t → cond t (ConstantAnswer.Pixels (spacingAt rowUnit s)) (ConstantAnswer.Refused (refusal 1)) ≡ ConstantAnswer.Pixels b → Scale s × (b ≡ spacingAt rowUnit s)
+    go : (t : Bool) → isScale s ≡ t
+        → cond t (ConstantAnswer.Pixels (spacingAt rowUnit s)) (ConstantAnswer.Refused (refusal 1)) ≡ ConstantAnswer.Pixels b
+        → Scale s × (b ≡ spacingAt rowUnit s)
     go true p k = (scale-in s p, cc)
     go false p k = let z : _≡_ {A = ℕ} 0 1 = cc in absurd (omega arith)

@@ -69,7 +69,8 @@ module _ (u s : ℕ) (g : Scale s) where
         some = omega arith;
         below = omega arith;
         enough = omega (arith, enough, carried);
-        close = omega (arith, close, carried) }
+        close = omega (arith, close, carried);
+      }
 
   pub grid : SpacingUnit u → Grid (spacingAt u s)
   unfolding q

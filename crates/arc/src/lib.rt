@@ -7,10 +7,25 @@ mod limits;
 mod parts;
 mod units;
 mod zone;
-pub use limits::{equatorward, poleward};
-pub use parts::{ConstantParts, SpacingParts};
-pub use units::{Circle, Scales, Tile, is_scale};
-pub use zone::{Meridian, Zone1, Zone2, Zone3, Zone4, Zone5, Zone6, Zone7, Zone8, Zone9};
+
+pub use limits::equatorward;
+pub use limits::poleward;
+pub use parts::ConstantParts;
+pub use parts::SpacingParts;
+pub use units::Circle;
+pub use units::Scales;
+pub use units::Tile;
+pub use units::is_scale;
+pub use zone::Meridian;
+pub use zone::Zone1;
+pub use zone::Zone2;
+pub use zone::Zone3;
+pub use zone::Zone4;
+pub use zone::Zone5;
+pub use zone::Zone6;
+pub use zone::Zone7;
+pub use zone::Zone8;
+pub use zone::Zone9;
 
 // A refusal: its number, and its place (01, "Numbers given in refusal").
 #[repr(C)]

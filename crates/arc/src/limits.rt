@@ -1,5 +1,13 @@
 // The rows' limits (001, Table 3-1).
-use crate::{Zone1, Zone2, Zone3, Zone4, Zone5, Zone6, Zone7, Zone8, Zone9};
+use crate::Zone1;
+use crate::Zone2;
+use crate::Zone3;
+use crate::Zone4;
+use crate::Zone5;
+use crate::Zone6;
+use crate::Zone7;
+use crate::Zone8;
+use crate::Zone9;
 ghost use mathlib.Core.Path.{_≡_};
 ghost use Rattle.arc.specs.Zones.{from, to, rowAt};
 
@@ -14,6 +22,7 @@ const EQUATORWARD: [u64; 9] = [
     Zone8::EQUATORWARD,
     Zone9::EQUATORWARD,
 ];
+
 const POLEWARD: [u64; 9] = [
     Zone1::POLEWARD,
     Zone2::POLEWARD,

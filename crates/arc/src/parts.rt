@@ -1,5 +1,8 @@
 // The answers' numbers, for callers that hand them out (01, "Numbers given in refusal").
-use crate::{ConstantAnswer, Refusal, SpacingAnswer, Verdict};
+use crate::ConstantAnswer;
+use crate::Refusal;
+use crate::SpacingAnswer;
+use crate::Verdict;
 ghost use mathlib.Core.Path.{_≡_};
 ghost use Rattle.arc.specs.Refusals.{refusalOf};
 ghost use Rattle.arc.specs.Spacing.{constantReport, constantTold, spacingReport, spacingTold};

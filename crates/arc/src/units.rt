@@ -7,8 +7,11 @@ pub struct Circle;
 
 impl Circle {
     pub const H: u64 = 129_600_000;
+
     pub const HALF: u64 = 64_800_000;
+
     pub const QUARTER: u64 = 32_400_000;
+
     pub const DEGREE: u64 = 360_000;
 }
 
@@ -17,6 +20,7 @@ pub struct Tile;
 
 impl Tile {
     pub const SIDE: u64 = 128;
+
     pub const BYTES: u64 = 49_152;
 }
 
@@ -25,6 +29,7 @@ pub struct Scales;
 
 impl Scales {
     pub const LEAST: u64 = 5_000;
+
     pub const MOST: u64 = 20_000_000;
 }
 

@@ -1,5 +1,7 @@
 // The zones' constants, and spacing as a function of each type (001, Tables 3-1 and 3-5, 3.4.6).
-use crate::{Circle, ConstantAnswer, refused};
+use crate::Circle;
+use crate::ConstantAnswer;
+use crate::refused;
 ghost use mathlib.Core.Path.{_≡_};
 ghost use Prim.Native.Nat.{_≤_};
 ghost use Rattle.arc.specs.Spacing.{spacingAt, rowUnit, columnsOf, Scale};
@@ -23,7 +25,9 @@ pub struct Zone1;
 
 impl Zone1 {
     pub const EQUATORWARD: u64 = 0 * Circle::DEGREE;
+
     pub const POLEWARD: u64 = 32 * Circle::DEGREE;
+
     pub const UNIT: u64 = 722;
 
     fn spacing(scale: u64) -> u64
@@ -39,7 +43,9 @@ pub struct Zone2;
 
 impl Zone2 {
     pub const EQUATORWARD: u64 = 32 * Circle::DEGREE;
+
     pub const POLEWARD: u64 = 48 * Circle::DEGREE;
+
     pub const UNIT: u64 = 591;
 
     fn spacing(scale: u64) -> u64
@@ -55,7 +61,9 @@ pub struct Zone3;
 
 impl Zone3 {
     pub const EQUATORWARD: u64 = 48 * Circle::DEGREE;
+
     pub const POLEWARD: u64 = 56 * Circle::DEGREE;
+
     pub const UNIT: u64 = 480;
 
     fn spacing(scale: u64) -> u64
@@ -71,7 +79,9 @@ pub struct Zone4;
 
 impl Zone4 {
     pub const EQUATORWARD: u64 = 56 * Circle::DEGREE;
+
     pub const POLEWARD: u64 = 64 * Circle::DEGREE;
+
     pub const UNIT: u64 = 389;
 
     fn spacing(scale: u64) -> u64
@@ -87,7 +97,9 @@ pub struct Zone5;
 
 impl Zone5 {
     pub const EQUATORWARD: u64 = 64 * Circle::DEGREE;
+
     pub const POLEWARD: u64 = 68 * Circle::DEGREE;
+
     pub const UNIT: u64 = 319;
 
     fn spacing(scale: u64) -> u64
@@ -103,7 +115,9 @@ pub struct Zone6;
 
 impl Zone6 {
     pub const EQUATORWARD: u64 = 68 * Circle::DEGREE;
+
     pub const POLEWARD: u64 = 72 * Circle::DEGREE;
+
     pub const UNIT: u64 = 268;
 
     fn spacing(scale: u64) -> u64
@@ -119,7 +133,9 @@ pub struct Zone7;
 
 impl Zone7 {
     pub const EQUATORWARD: u64 = 72 * Circle::DEGREE;
+
     pub const POLEWARD: u64 = 76 * Circle::DEGREE;
+
     pub const UNIT: u64 = 215;
 
     fn spacing(scale: u64) -> u64
@@ -135,7 +151,9 @@ pub struct Zone8;
 
 impl Zone8 {
     pub const EQUATORWARD: u64 = 76 * Circle::DEGREE;
+
     pub const POLEWARD: u64 = 80 * Circle::DEGREE;
+
     pub const UNIT: u64 = 161;
 
     fn spacing(scale: u64) -> u64
@@ -151,7 +169,9 @@ pub struct Zone9;
 
 impl Zone9 {
     pub const EQUATORWARD: u64 = 80 * Circle::DEGREE;
+
     pub const POLEWARD: u64 = 90 * Circle::DEGREE;
+
     pub const UNIT: u64 = 782;
 
     fn spacing(scale: u64) -> u64

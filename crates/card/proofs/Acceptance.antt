@@ -70,7 +70,8 @@ module _ (scale zone : ℕ) (s : List ℕ) (k : Card) where
   by-origin a b sp po wh ju co (some n) none f g e = never (refusal 10) k e
   by-origin a b sp po wh ju co (some n) (some m) f g e = go (extentsIn a b n s) refl e
     where
-      go : (t : Bool) → extentsIn a b n s ≡ t → cond t (accepted (cardOf scale zone a b n m s)) (refused (refusal 11)) ≡ accepted k → ReadTo scale zone s k
+      go : (t : Bool) → extentsIn a b n s ≡ t
+          → cond t (accepted (cardOf scale zone a b n m s)) (refused (refusal 11)) ≡ accepted k → ReadTo scale zone s k
       go false t e = never (refusal 11) k e
       go true t e =
           record {
@@ -89,7 +90,8 @@ module _ (scale zone : ℕ) (s : List ℕ) (k : Card) where
             card = ap (λ (x : Reading). x .card) e;
           }
 
-  by-tests : (a b : ℕ) → spacingOf scale zone ≡ SpacingAnswer.Constants a b → (p w c : Bool) (v : Verdict) → isPolar zone ≡ p → eqb (length s) 98 ≡ w
+  by-tests : (a b : ℕ) → spacingOf scale zone ≡ SpacingAnswer.Constants a b → (p w c : Bool) (v : Verdict)
+      → isPolar zone ≡ p → eqb (length s) 98 ≡ w
       → walk layout s ≡ v → constantsIn a b s ≡ c
       → cond p (refused (refusal 3))
       (cond w (afterWalk v (cond c (withOrigin scale zone a b s (rowTile b s) (columnTile a s)) (refused (refusal 9)))) (refused (refusal 6)))

@@ -29,7 +29,9 @@ module _ (k : Card) (l : Laid k) where
         latitude = inside-size quarter (latitudeOf k (pos r)) (natAbs (latitudeOf k (pos r))) refl
             (omega (arith, is-size (latitudeOf k (pos r)) y quarter u, latitude-high k l (k .north - r) (omega (arith, north-high k l))));
         west = is-le (negℤ (pos half)) (longitudeOf k (pos c)) 0 half x half (is-neg (pos half) half 0 (is-nat half)) v (omega arith);
-        east = is-lt (longitudeOf k (pos c)) (pos half) x half half 0 v (is-nat half) (omega (arith, mod-lt (near ((k .east + c) * circle) (k .a)) {m = circle} (omega arith)));
+        east =
+            is-lt (longitudeOf k (pos c)) (pos half) x half half 0 v (is-nat half)
+            (omega (arith, mod-lt (near ((k .east + c) * circle) (k .a)) {m = circle} (omega arith)));
       }
 
 pub answered-in-range : AnsweredInRange
@@ -37,7 +39,9 @@ unfolding positionOf
 answered-in-range k w r c lat lon e = go (inTiles k r c) (inChart k r c) refl e
   where
     go : (t x : Bool) → inTiles k r c ≡ t
-        → cond t (cond x (PositionAnswer.At (latitudeOf k r) (longitudeOf k c)) (PositionAnswer.Refused (refusal 13))) (PositionAnswer.Refused (refusal 12)) ≡ PositionAnswer.At lat lon
+        → cond t (cond x (PositionAnswer.At (latitudeOf k r) (longitudeOf k c)) (PositionAnswer.Refused (refusal 13)))
+        (PositionAnswer.Refused (refusal 12))
+        ≡ PositionAnswer.At lat lon
         → InRange lat lon
     go true true t p =
         let i = tiles-inside k r c t in

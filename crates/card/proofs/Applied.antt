@@ -55,7 +55,8 @@ abbrev townBesideCard : Card
 townBesideCard = cardOf 5000 1 73932800 80076800 (pos 101) (negsuc 20) townBeside
 
 pub all-accepted : (Accepted 1000000 1 paperCard × Accepted 1000000 1 besideCard) × (Accepted 5000 1 townCard × Accepted 5000 1 townBesideCard)
-unfolding spacingAt ceilDiv floorDiv nearest stored number angleLaid degrees minutes seconds hundredths angleSize angleOf angleValid nameLaid layout judgeField extentsHold
+unfolding spacingAt ceilDiv floorDiv nearest stored number angleLaid degrees minutes seconds hundredths angleSize angleOf angleValid
+    nameLaid layout judgeField extentsHold
 all-accepted = (
   (
     bytes-accepted 1000000 1 369664 400384 (pos 100) (negsuc 19) paper refl refl refl refl refl
@@ -77,7 +78,8 @@ all-accepted = (
 
 -- ---- the demand, from each card's pixels over the other and back
 
-pub paper-walked : Walked paperCard (besideCard ∷ᴸ paperCard ∷ᴸ []ᴸ) (pos 0) (pos 0) × Walked paperCard (besideCard ∷ᴸ paperCard ∷ᴸ []ᴸ) (pos 200) (pos 100)
+pub paper-walked : Walked paperCard (besideCard ∷ᴸ paperCard ∷ᴸ []ᴸ) (pos 0) (pos 0)
+    × Walked paperCard (besideCard ∷ᴸ paperCard ∷ᴸ []ᴸ) (pos 200) (pos 100)
 unfolding cardOf number
 paper-walked =
     let go = no-drift 1000000 1 paperCard (besideCard ∷ᴸ paperCard ∷ᴸ []ᴸ) (all-accepted .0 .0, (all-accepted .0 .1, (all-accepted .0 .0, tt))) in
@@ -85,11 +87,15 @@ paper-walked =
 
 pub beside-walked : Walked besideCard (paperCard ∷ᴸ besideCard ∷ᴸ []ᴸ) (pos 64) (pos 64)
 unfolding cardOf number
-beside-walked = no-drift 1000000 1 besideCard (paperCard ∷ᴸ besideCard ∷ᴸ []ᴸ) (all-accepted .0 .1, (all-accepted .0 .0, (all-accepted .0 .1, tt))) (pos 64) (pos 64) refl
+beside-walked =
+    no-drift 1000000 1 besideCard (paperCard ∷ᴸ besideCard ∷ᴸ []ᴸ)
+    (all-accepted .0 .1, (all-accepted .0 .0, (all-accepted .0 .1, tt))) (pos 64) (pos 64) refl
 
 pub town-walked : Walked townCard (townBesideCard ∷ᴸ townCard ∷ᴸ []ᴸ) (pos 1) (pos 1)
 unfolding cardOf number
-town-walked = no-drift 5000 1 townCard (townBesideCard ∷ᴸ townCard ∷ᴸ []ᴸ) (all-accepted .1 .0, (all-accepted .1 .1, (all-accepted .1 .0, tt))) (pos 1) (pos 1) refl
+town-walked =
+    no-drift 5000 1 townCard (townBesideCard ∷ᴸ townCard ∷ᴸ []ᴸ)
+    (all-accepted .1 .0, (all-accepted .1 .1, (all-accepted .1 .0, tt))) (pos 1) (pos 1) refl
 
 -- ---- the same walks, computed: a pixel each time; 13, then a pixel; 12, then a pixel
 
@@ -98,8 +104,10 @@ gives r c lat lon = gave r c (PositionAnswer.At lat lon)
 
 pub visits : (walk (pos 4143223) (negsuc 897506) (besideCard ∷ᴸ paperCard ∷ᴸ []ᴸ)
     ≡ gives (pos 128) (pos 128) (pos 4143223) (negsuc 897506) ∷ᴸ gives (pos 0) (pos 0) (pos 4143223) (negsuc 897506) ∷ᴸ []ᴸ)
-    × (walk (pos 4078485) (negsuc 862447) (besideCard ∷ᴸ paperCard ∷ᴸ []ᴸ) ≡ refused (refusal 13) ∷ᴸ gives (pos 200) (pos 100) (pos 4078485) (negsuc 862447) ∷ᴸ []ᴸ)
-    × (walk (pos 4163939) (negsuc 919944) (paperCard ∷ᴸ besideCard ∷ᴸ []ᴸ) ≡ refused (refusal 12) ∷ᴸ gives (pos 64) (pos 64) (pos 4163939) (negsuc 919944) ∷ᴸ []ᴸ)
+    × (walk (pos 4078485) (negsuc 862447) (besideCard ∷ᴸ paperCard ∷ᴸ []ᴸ)
+    ≡ refused (refusal 13) ∷ᴸ gives (pos 200) (pos 100) (pos 4078485) (negsuc 862447) ∷ᴸ []ᴸ)
+    × (walk (pos 4163939) (negsuc 919944) (paperCard ∷ᴸ besideCard ∷ᴸ []ᴸ)
+    ≡ refused (refusal 12) ∷ᴸ gives (pos 64) (pos 64) (pos 4163939) (negsuc 919944) ∷ᴸ []ᴸ)
     × (walk (pos 20714) (negsuc 4485) (townBesideCard ∷ᴸ townCard ∷ᴸ []ᴸ)
     ≡ gives (pos 129) (pos 129) (pos 20714) (negsuc 4485) ∷ᴸ gives (pos 1) (pos 1) (pos 20714) (negsuc 4485) ∷ᴸ []ᴸ)
 unfolding cardOf number floorDiv nearest modulo latitudeOf longitudeOf rowOf columnOf positionOf pixelOf

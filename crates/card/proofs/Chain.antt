@@ -20,7 +20,8 @@ use Rattle.card.specs.declared.PositionAnswer.{PositionAnswer}
 use Rattle.card.specs.declared.PixelAnswer.{PixelAnswer}
 use Rattle.card.specs.Read.{Accepted}
 use Rattle.card.specs.Grid.{placeRow, placeColumn, inTiles, inChart, latitudeOf, longitudeOf, rowOf, columnOf, positionOf, pixelOf}
-use Rattle.card.specs.NoDrift.{HasPlace, TilesHave, ChartHas, Close, Visit, gave, refused, visitWith, visit, latitudeAfter, longitudeAfter, walk, Right, Each, Every, Walked, NoDrift}
+use Rattle.card.specs.NoDrift.{HasPlace, TilesHave, ChartHas, Close, Visit, gave, refused, visitWith, visit, latitudeAfter}
+use Rattle.card.specs.NoDrift.{longitudeAfter, walk, Right, Each, Every, Walked, NoDrift}
 use Rattle.card.proofs.Laid.{Laid, accepted-laid, same-spacing}
 use Rattle.card.proofs.Line.{Line, rows-line, angle-is, angle-close}
 use Rattle.card.proofs.Axes.{north-is, north-high, east-high, down-high, row-is, column-place, latitude-is, longitude-is, row-back, column-back}
@@ -80,7 +81,8 @@ record Thread (a b : ℕ) (u w lat lon : ℤ) : Type 0 where
 module _ (a b : ℕ) (u w lat lon : ℤ) (t : Thread a b u w lat lon) where
   lat-inside : outside quarter lat ≡ false
   lat-inside =
-      let high : near (t .y * circle) b ≤ 64800000 = near-le b (omega (arith, t .rows .some)) (t .y * circle) 64800000 (omega (arith, t .y-high, t .rows .some)) in
+      let high : near (t .y * circle) b ≤ 64800000 =
+      near-le b (omega (arith, t .rows .some)) (t .y * circle) 64800000 (omega (arith, t .y-high, t .rows .some)) in
       inside-size quarter lat _ refl (omega (arith, is-size lat (near (t .y * circle) b) quarter (t .lat-is)))
 
   lon-inside : outside half lon ≡ false
@@ -167,7 +169,8 @@ module _ (u w lat lon : ℤ) (k : Card) (l : Laid k) (t : Thread (k .a) (k .b) u
 
   place-of-column : placeColumn k γ ≡ w
   place-of-column =
-      ap (placeColumn k) γ-is ∙ column-place k l γ′ ∙ ap pos (same-place (k .a) (t .v) (k .east) (l .columns) (east-high k l) γ′ refl) ∙ sym (t .w-is)
+      ap (placeColumn k) γ-is ∙ column-place k l γ′
+      ∙ ap pos (same-place (k .a) (t .v) (k .east) (l .columns) (east-high k l) γ′ refl) ∙ sym (t .w-is)
 
   at-place : HasPlace k u w ρ γ
   at-place = record { row = place-of-row; column = place-of-column }
@@ -200,7 +203,9 @@ module _ (u w lat lon : ℤ) (k : Card) (l : Laid k) (t : Thread (k .a) (k .b) u
   found i c = cond i (cond c (PixelAnswer.At ρ γ) (PixelAnswer.Refused (refusal 13))) (PixelAnswer.Refused (refusal 12))
 
   abbrev placed : Bool → Bool → PositionAnswer
-  placed i c = cond i (cond c (PositionAnswer.At (latitudeOf k ρ) (longitudeOf k γ)) (PositionAnswer.Refused (refusal 13))) (PositionAnswer.Refused (refusal 12))
+  placed i c =
+      cond i (cond c (PositionAnswer.At (latitudeOf k ρ) (longitudeOf k γ)) (PositionAnswer.Refused (refusal 13)))
+      (PositionAnswer.Refused (refusal 12))
 
   answers : (i c : Bool) → inTiles k ρ γ ≡ i → inChart k ρ γ ≡ c → visit k lat lon ≡ visitWith k (found i c)
   unfolding pixelOf ρ γ

@@ -36,7 +36,8 @@ first-accepts : (v w : Verdict) → orElse v w ≡ Verdict.Accepted → (v ≡ V
 first-accepts Verdict.Accepted w e = (refl, e)
 first-accepts (Verdict.Refused r) w e = let x : _≡_ {A = ℕ} 0 1 = cc in absurd (omega arith)
 
-pub judged-at : (fs : List Subfield) (s : List ℕ) (i : ℕ) → i < length fs → walk fs s ≡ Verdict.Accepted → judgeField (getD fs i STR) s ≡ Verdict.Accepted
+pub judged-at : (fs : List Subfield) (s : List ℕ) (i : ℕ) → i < length fs → walk fs s ≡ Verdict.Accepted
+    → judgeField (getD fs i STR) s ≡ Verdict.Accepted
 judged-at [] s i h e = absurd (omega arith)
 judged-at (f ∷ fs) s zero h e = first-accepts (judgeField f s) (walk fs s) e .0
 judged-at (f ∷ fs) s (suc i) h e = judged-at fs s i (omega arith) (first-accepts (judgeField f s) (walk fs s) e .1)
@@ -49,7 +50,8 @@ judged-number o w low high s e = go (all isDigit (part o w s)) (leb low n) (leb 
     n : ℕ
     n = number (part o w s)
 
-    go : (k x y : Bool) → (x ≡ true → low ≤ n) → (y ≡ true → n ≤ high) → judge k (x && y) o ≡ Verdict.Accepted → (low ≤ n) × (n ≤ high)
+    go : (k x y : Bool) → (x ≡ true → low ≤ n) → (y ≡ true → n ≤ high) → judge k (x && y) o ≡ Verdict.Accepted
+        → (low ≤ n) × (n ≤ high)
     go true true true f g e = (f refl, g refl)
     go true true false f g e = let x : _≡_ {A = ℕ} 0 1 = cc in absurd (omega arith)
     go true false y f g e = let x : _≡_ {A = ℕ} 0 1 = cc in absurd (omega arith)
@@ -92,10 +94,13 @@ pub record Extends (a b : ℕ) (n : ℤ) (nul nus nll nls nfl nfc : ℕ) : Type 
   pub left-right : nls ≤ nus
   pub right : nus < 128 * nfc
 
-pub extends : (a b : ℕ) (n : ℤ) (nul nus nll nls nfl nfc : ℕ) → extentsHold a b n nul nus nll nls nfl nfc ≡ true → Extends a b n nul nus nll nls nfl nfc
+pub extends : (a b : ℕ) (n : ℤ) (nul nus nll nls nfl nfc : ℕ) → extentsHold a b n nul nus nll nls nfl nfc ≡ true
+    → Extends a b n nul nus nll nls nfl nfc
 unfolding extentsHold
 extends a b n nul nus nll nls nfl nfc e =
-    let x = both (leb nfc (a / 128) && leZ (negℤ (pos (b / 512))) (n -ℤ pos nfl) && (leb nul nll && ltb nll (128 * nfl))) (leb nls nus && ltb nus (128 * nfc)) e in
+    let x =
+    both (leb nfc (a / 128) && leZ (negℤ (pos (b / 512))) (n -ℤ pos nfl) && (leb nul nll && ltb nll (128 * nfl)))
+    (leb nls nus && ltb nus (128 * nfc)) e in
     let y = both (leb nfc (a / 128) && leZ (negℤ (pos (b / 512))) (n -ℤ pos nfl)) (leb nul nll && ltb nll (128 * nfl)) (x .0) in
     let z = both (leb nfc (a / 128)) (leZ (negℤ (pos (b / 512))) (n -ℤ pos nfl)) (y .0) in
     let rows = both (leb nul nll) (ltb nll (128 * nfl)) (y .1) in

@@ -39,7 +39,8 @@ module _ {x s l : ℕ} (line : Line x s l) where
   pixel-back v =
       let p : ℕ = near (v * circle) x in
       let split : p * x ≡ p % circle * x + p / circle * x * circle =
-      ap (λ (n : ℕ). n * x) (omega arith) ∙ add-mul (p % circle) (p / circle * circle) x ∙ ap (λ (n : ℕ). p % circle * x + n) (mul-right-comm (p / circle) circle x) in
+      ap (λ (n : ℕ). n * x) (omega arith) ∙ add-mul (p % circle) (p / circle * circle) x
+      ∙ ap (λ (n : ℕ). p % circle * x + n) (mul-right-comm (p / circle) circle x) in
       sym (near-shift circle (omega arith) (p % circle * x) (p / circle * x)) ∙ ap (λ (n : ℕ). near n circle) (sym split)
       ∙ round-trip x circle (line .some) (line .coarse) v
 
@@ -48,7 +49,8 @@ module _ {x s l : ℕ} (line : Line x s l) where
   angle-close z y p e f =
       let q : ℕ = near (p * circle) x in
       let d : ℤ = y *ℤ pos x -ℤ z *ℤ pos circle in
-      let g : Is d (q * x + s * circle) (l * x + p * circle) = is-minus (y *ℤ pos x) (z *ℤ pos circle) (q * x) (l * x) (p * circle) (s * circle) (is-mul y x q l f) (is-mul z circle p s e) in
+      let g : Is d (q * x + s * circle) (l * x + p * circle) =
+      is-minus (y *ℤ pos x) (z *ℤ pos circle) (q * x) (l * x) (p * circle) (s * circle) (is-mul y x q l f) (is-mul z circle p s e) in
       let low : 2 * (q * x) ≤ 2 * (p * circle) + x = near-low x (line .some) (p * circle) in
       let high : 2 * (p * circle) < 2 * (q * x) + x = near-high x (line .some) (p * circle) in
       omega (arith, is-size d (q * x + s * circle) (l * x + p * circle) g, line .exact)
@@ -58,5 +60,6 @@ pub range-is : (z : ℤ) (p j : ℕ) → Is z p (half + j * circle) → Is (into
 range-is z p j e =
     subst⁻¹ (λ (y : ℤ). Is (y -ℤ pos half) (p % circle) half)
     (is-modulo (z +ℤ pos half) circle p j (omega arith)
-    (is-same (z +ℤ pos half) (p + half) (half + j * circle + 0) p (j * circle) (is-add z (pos half) p (half + j * circle) half 0 e (is-nat half)) (omega arith)))
+    (is-same (z +ℤ pos half) (p + half) (half + j * circle + 0) p (j * circle)
+    (is-add z (pos half) p (half + j * circle) half 0 e (is-nat half)) (omega arith)))
     (is-difference (p % circle) half)

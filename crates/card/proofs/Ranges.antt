@@ -50,7 +50,9 @@ module _ (lat lon : ℤ) (f : SFits w64 lat) (g : SFits w64 lon) {r : Ranged} (e
       → F n ≡ cond (outside quarter lat) (F (refusal 4)) (cond (outside half lon) (F (refusal 5)) x)
   ranged-refused {A} F x {n} o = go (outside quarter lat) (outside half lon) (plain ∙ o)
     where
-      go : (s t : Bool) → cond s (Ranged.Refused (refusal 4)) (cond t (Ranged.Refused (refusal 5)) (Ranged.At (raise quarter lat) (raise half lon))) ≡ Ranged.Refused n
+      go : (s t : Bool)
+          → cond s (Ranged.Refused (refusal 4)) (cond t (Ranged.Refused (refusal 5)) (Ranged.At (raise quarter lat) (raise half lon)))
+          ≡ Ranged.Refused n
           → F n ≡ cond s (F (refusal 4)) (cond t (F (refusal 5)) x)
       go true t p = let q : n ≡ refusal 4 = cc in ap F q
       go false true p = let q : n ≡ refusal 5 = cc in ap F q
@@ -60,7 +62,9 @@ module _ (lat lon : ℤ) (f : SFits w64 lat) (g : SFits w64 lon) {r : Ranged} (e
   ranged-at {n} {m} o = go (outside quarter lat) (outside half lon) refl refl (plain ∙ o)
     where
       go : (s t : Bool) → outside quarter lat ≡ s → outside half lon ≡ t
-          → cond s (Ranged.Refused (refusal 4)) (cond t (Ranged.Refused (refusal 5)) (Ranged.At (raise quarter lat) (raise half lon))) ≡ Ranged.At n m → Counts lat lon n m
+          → cond s (Ranged.Refused (refusal 4)) (cond t (Ranged.Refused (refusal 5)) (Ranged.At (raise quarter lat) (raise half lon)))
+          ≡ Ranged.At n m
+          → Counts lat lon n m
       go true t es et p = let y : _≡_ {A = ℕ} 0 1 = cc in absurd (omega arith)
       go false true es et p = let y : _≡_ {A = ℕ} 0 1 = cc in absurd (omega arith)
       go false false es et p = record { rows = raise-inside quarter lat n es (cc); columns = raise-inside half lon m et (cc) }

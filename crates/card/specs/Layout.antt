@@ -92,7 +92,8 @@ TIF = sub 97 1 Flag
 
 unfoldable pub layout : List Subfield
 layout =
-    STR ∷ ARV ∷ BRV ∷ LSO ∷ PSO ∷ NUL ∷ NUS ∷ NLL ∷ NLS ∷ NFL ∷ NFC ∷ PNC ∷ PNL ∷ COD ∷ ROD ∷ POR ∷ PCB ∷ PVB ∷ BAD ∷ TIF ∷ []
+    STR ∷ ARV ∷ BRV ∷ LSO ∷ PSO ∷ NUL ∷ NUS ∷ NLL ∷ NLS ∷ NFL ∷ NFC ∷
+    PNC ∷ PNL ∷ COD ∷ ROD ∷ POR ∷ PCB ∷ PVB ∷ BAD ∷ TIF ∷ []
 
 abbrev pub bytesOf : Subfield → List ℕ → List ℕ
 bytesOf f s = part (f .at) (f .width) s

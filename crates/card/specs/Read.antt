@@ -49,17 +49,45 @@ numberIn f s = number (bytesOf f s)
 unfoldable pub cardOf : ℕ → ℕ → ℕ → ℕ → ℤ → ℤ → List ℕ → Card
 cardOf scale zone a b n m s =
     record {
-      scale = scale; zone = zone; a = a; b = b; n = n; m = m;
-      nul = numberIn NUL s; nus = numberIn NUS s; nll = numberIn NLL s; nls = numberIn NLS s;
-      nfl = numberIn NFL s; nfc = numberIn NFC s; bad = bytesOf BAD s; tif = eqb (getD (bytesOf TIF s) 0 0) 89;
-      north = 128 * raise (b / 512) n; east = 128 * raise (a / 256) m }
+      scale = scale;
+      zone = zone;
+      a = a;
+      b = b;
+      n = n;
+      m = m;
+      nul = numberIn NUL s;
+      nus = numberIn NUS s;
+      nll = numberIn NLL s;
+      nls = numberIn NLS s;
+      nfl = numberIn NFL s;
+      nfc = numberIn NFC s;
+      bad = bytesOf BAD s;
+      tif = eqb (getD (bytesOf TIF s) 0 0) 89;
+      north = 128 * raise (b / 512) n;
+      east = 128 * raise (a / 256) m;
+    }
 
 -- value parts are 0 in a refusal
 abbrev pub noCard : Card
 noCard =
     record {
-      scale = 0; zone = 0; a = 0; b = 0; n = pos 0; m = pos 0; nul = 0; nus = 0; nll = 0; nls = 0; nfl = 0; nfc = 0;
-      bad = replicate 12 0; tif = false; north = 0; east = 0 }
+      scale = 0;
+      zone = 0;
+      a = 0;
+      b = 0;
+      n = pos 0;
+      m = pos 0;
+      nul = 0;
+      nus = 0;
+      nll = 0;
+      nls = 0;
+      nfl = 0;
+      nfc = 0;
+      bad = replicate 12 0;
+      tif = false;
+      north = 0;
+      east = 0;
+    }
 
 abbrev pub accepted : Card → Reading
 accepted k = record { verdict = Verdict.Accepted; card = k }

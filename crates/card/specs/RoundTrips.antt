@@ -16,8 +16,17 @@ use Rattle.card.specs.Write.{writeOf, outOf}
 abbrev pub recordOf : Card → Record
 recordOf k =
     record {
-      n = k .n; m = k .m; nul = k .nul; nus = k .nus; nll = k .nll; nls = k .nls; nfl = k .nfl; nfc = k .nfc;
-      bad = k .bad; tif = k .tif }
+      n = k .n;
+      m = k .m;
+      nul = k .nul;
+      nus = k .nus;
+      nll = k .nll;
+      nls = k .nls;
+      nfl = k .nfl;
+      nfc = k .nfc;
+      bad = k .bad;
+      tif = k .tif;
+    }
 
 -- the card read from what was written: accepted, of this scale and zone, and with this record
 pub record ReadBack (scale zone : ℕ) (r : Record) (s : List ℕ) : Type 0 where

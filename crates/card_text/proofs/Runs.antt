@@ -23,7 +23,8 @@ pub onward-next : (v : ℕ) (s : List ℕ) (i : ℕ) → i < length s → onward
 onward-next v s i h = rw (drop-next s i 0 h)
 
 -- one element more is copied
-pub copy-next : (r q : List ℕ) (i : ℕ) → i < length r → i < length q → take i r ≡ take i q → take (i + 1) (set r i (getD q i 0)) ≡ take (i + 1) q
+pub copy-next : (r q : List ℕ) (i : ℕ) → i < length r → i < length q → take i r ≡ take i q
+    → take (i + 1) (set r i (getD q i 0)) ≡ take (i + 1) q
 copy-next r q i hr hq e = rw (add-one, take-suc-set r i (getD q i 0) hr, take-suc q i 0 hq, e)
 
 pub pow-next : (i : ℕ) → 10 ^ (i + 1) ≡ 10 ^ i * 10

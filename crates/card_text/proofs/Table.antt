@@ -34,7 +34,8 @@ judge-both true false p e = let z : _≡_ {A = ℕ} 0 1 = cc in absurd (omega ar
 judge-both false v p e = let z : _≡_ {A = ℕ} 0 1 = cc in absurd (omega arith)
 
 -- ---- a row as it was read: where its bytes are of the wrong kind, no more is known of it
-module _ (f : Subfield) (s : List ℕ) (before : Verdict) (laid valid : Bool) (v : ℕ) (x : Field) (ex : x ≡ fieldOf before (f .at) laid valid v) (el : laid ≡ rightKind (f .kind) (bytesOf f s)) where
+module _ (f : Subfield) (s : List ℕ) (before : Verdict) (laid valid : Bool) (v : ℕ) (x : Field)
+    (ex : x ≡ fieldOf before (f .at) laid valid v) (el : laid ≡ rightKind (f .kind) (bytesOf f s)) where
   pub field-at : (rightKind (f .kind) (bytesOf f s) ≡ true → (valid ≡ rightValue (f .kind) (bytesOf f s)) × (v ≡ valueOf (f .kind) (bytesOf f s)))
       → FieldAt f s before x
   unfolding judgeField valueIn fieldOf
@@ -72,7 +73,8 @@ passed-values (_▸_ {s} {f} {fs} r p) e =
 abbrev pub noField : Subfield
 noField = sub 0 0 (Number 0 0)
 
-walk-accepted : (fs : List Subfield) (s : List ℕ) → walk fs s ≡ Verdict.Accepted → (i : ℕ) → i < length fs → judgeField (getD fs i noField) s ≡ Verdict.Accepted
+walk-accepted : (fs : List Subfield) (s : List ℕ) → walk fs s ≡ Verdict.Accepted → (i : ℕ) → i < length fs
+    → judgeField (getD fs i noField) s ≡ Verdict.Accepted
 walk-accepted [] s e i h = absurd (not-suc-le-zero h)
 walk-accepted (f ∷ fs) s e zero h = orElse-both (judgeField f s) (walk fs s) e .0
 walk-accepted (f ∷ fs) s e (suc i) h = walk-accepted fs s (orElse-both (judgeField f s) (walk fs s) e .1) i (le-of-suc-le-suc h)

@@ -39,7 +39,9 @@ narrow r a north p e =
     let name = test (nameLaid (r .bad)) 7 85 in
     let q = orElse-both (test down 8 62) (orElse (test across 8 65) (orElse name Verdict.Accepted)) p in
     let fl : r .nfl ≤ 999 = leb-true _ _ (and-r (leb 1 (r .nfl)) (leb (r .nfl) 999) (test-true down 8 62 (q .0))) in
-    let fc : r .nfc ≤ 999 = leb-true _ _ (and-r (leb 1 (r .nfc)) (leb (r .nfc) 999) (test-true across 8 65 (orElse-both (test across 8 65) (orElse name Verdict.Accepted) (q .1) .0))) in
+    let fc : r .nfc ≤ 999 =
+    leb-true _ _
+    (and-r (leb 1 (r .nfc)) (leb (r .nfc) 999) (test-true across 8 65 (orElse-both (test across 8 65) (orElse name Verdict.Accepted) (q .1) .0))) in
     let tiles = leb (r .nfc) (a / 128) && leb (r .nfl) north in
     let rows = leb (r .nul) (r .nll) && ltb (r .nll) (128 * r .nfl) in
     let columns = leb (r .nls) (r .nus) && ltb (r .nus) (128 * r .nfc) in
@@ -79,7 +81,8 @@ module _ (a b : ℕ) (r : Record) where
     unfolding gridTests
     rows-refused o = in-order ∙ rw (p, o)
 
-    pub columns-refused : outside (b / 512) (r .n) ≡ false → outside (a / 256) (r .m) ≡ true → first (recordTests a b r) ≡ Verdict.Refused (refusal 10)
+    pub columns-refused : outside (b / 512) (r .n) ≡ false → outside (a / 256) (r .m) ≡ true
+        → first (recordTests a b r) ≡ Verdict.Refused (refusal 10)
     unfolding gridTests
     columns-refused i o = in-order ∙ rw (p, i, o)
 

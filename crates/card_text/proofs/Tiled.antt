@@ -37,7 +37,8 @@ leZ-not (negsuc m) (negsuc n) = le-not n m
 rows-within : (n : ℤ) (north t nfl : ℕ) → Is n north t → leZ (negℤ (pos t)) (n -ℤ pos nfl) ≡ leb nfl north
 rows-within n north t nfl e =
     leZ-not (negℤ (pos t)) (n -ℤ pos nfl)
-    ∙ ap not (is-ltZ (n -ℤ pos nfl) (negℤ (pos t)) (north + 0) (t + nfl) 0 t (is-minus n (pos nfl) north t nfl 0 e (is-nat nfl)) (is-neg (pos t) t 0 (is-nat t)))
+    ∙ ap not
+    (is-ltZ (n -ℤ pos nfl) (negℤ (pos t)) (north + 0) (t + nfl) 0 t (is-minus n (pos nfl) north t nfl 0 e (is-nat nfl)) (is-neg (pos t) t 0 (is-nat t)))
     ∙ go (leb nfl north) refl
   where
     go : (b : Bool) → leb nfl north ≡ b → not (ltb (north + 0 + t) (0 + (t + nfl))) ≡ b

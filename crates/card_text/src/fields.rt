@@ -1,6 +1,7 @@
 // The subfields, each read once (01, "The image card, 98 bytes").
-use arc::{Refusal, Verdict};
 use crate::digits;
+use arc::Refusal;
+use arc::Verdict;
 ghost use mathlib.Core.Path.{_≡_};
 ghost use Prim.Native.Nat.{_+_, _<_, _≤_};
 ghost use lib.ListN.{length};
@@ -52,7 +53,10 @@ fn joined(before: Field, at: usize, laid: bool, valid: bool, value: u64) -> Fiel
     ensures { λ r. ⌜ r ≡ fieldOf (before .verdict) at laid valid value ⌝ }
 {
     let first = before.verdict;
-    Field { value, verdict: or_else(first, judged(laid, valid, at as u64)) }
+    Field {
+        value,
+        verdict: or_else(first, judged(laid, valid, at as u64)),
+    }
 }
 
 // An angle counted from its limit below zero, and 0 where it is below that.
@@ -75,7 +79,13 @@ fn number_at(s: &[u8], o: usize, w: usize, low: u64, high: u64, before: Field) -
     ensures { λ r. ⌜ FieldAt (sub o w (Kind.Number low high)) (now (s .entry)) (before .verdict) r ⌝ }
 {
     let n = digits::digits_at(s, o, w);
-    joined(before, o, n.ok, (low <= n.value) & (n.value <= high), n.value)
+    joined(
+        before,
+        o,
+        n.ok,
+        (low <= n.value) & (n.value <= high),
+        n.value,
+    )
 }
 
 // ±DDDMMSS.SS or ±DDMMSS.SS, its degrees being read: 43 is +, 45 is −, 46 is the dot.
@@ -100,7 +110,13 @@ fn name_at(s: &[u8], o: usize, before: Field) -> Field
     requires { ⌜ o + 12 ≤ length (now s) ⌝ }
     ensures { λ r. ⌜ FieldAt (sub o 12 Kind.Name) (now (s .entry)) (before .verdict) r ⌝ }
 {
-    joined(before, o, digits::name_laid(digits::bytes_at(s, o, 12)), true, 0)
+    joined(
+        before,
+        o,
+        digits::name_laid(digits::bytes_at(s, o, 12)),
+        true,
+        0,
+    )
 }
 
 // 89 is Y, 78 is N.
@@ -113,6 +129,7 @@ fn flag_at(s: &[u8], o: usize, before: Field) -> Field
 }
 
 // Every subfield, left to right: STR ARV BRV LSO PSO NUL NUS NLL NLS NFL NFC PNC PNL COD ROD POR PCB PVB BAD TIF.
+#[rattlefmt::skip]
 pub fn fields_in(s: &[u8]) -> Fields
     requires { ⌜ length (now s) ≡ 98 ⌝ }
     ensures { λ r. ⌜ FieldsOf (now (s .entry)) r ⌝ }

@@ -1,6 +1,8 @@
 // Reads and writes the 98 bytes of the image card (002, 3.17.1; 01, "The image card, 98 bytes").
-use arc::{SpacingAnswer, Verdict};
-use card::{Reading, Record};
+use arc::SpacingAnswer;
+use arc::Verdict;
+use card::Reading;
+use card::Record;
 ghost use mathlib.Core.Path.{_≡_};
 ghost use Rattle.arc.specs.declared.SpacingAnswer.{SpacingAnswer};
 ghost use Rattle.arc.specs.Spacing.{Grid};

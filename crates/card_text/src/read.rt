@@ -1,8 +1,11 @@
 // From the values of a card to its record and its value (01, "The image card, 98 bytes", "Numbers given in refusal").
-use arc::{Refusal, Verdict};
-use card::{Card, Reading, Record};
-use whole::Counted;
 use crate::stored;
+use arc::Refusal;
+use arc::Verdict;
+use card::Card;
+use card::Reading;
+use card::Record;
+use whole::Counted;
 ghost use mathlib.Core.Path.{_≡_};
 ghost use Prim.Native.Nat.{_≤_};
 ghost use lib.ListN.{length};
@@ -13,15 +16,25 @@ ghost use Rattle.card_text.specs.Found.{extentsAt, recordIn, cardFrom, W
 
 // The values' places in the layout.
 const ARV: usize = 1;
+
 const BRV: usize = 2;
+
 const LSO: usize = 3;
+
 const PSO: usize = 4;
+
 const NUL: usize = 5;
+
 const NUS: usize = 6;
+
 const NLL: usize = 7;
+
 const NLS: usize = 8;
+
 const NFL: usize = 9;
+
 const NFC: usize = 10;
+
 const TIF: usize = 19;
 
 // A refusal of a card, its value all 0.

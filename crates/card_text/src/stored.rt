@@ -1,5 +1,6 @@
 // Origins as a card stores them, counted in tiles from the low end of their axis (01, "Origins and the zone grid").
-use arc::{Circle, Tile};
+use arc::Circle;
+use arc::Tile;
 use whole::Counted;
 ghost use mathlib.Core.Path.{_≡_};
 ghost use Prim.Native.Nat.{_*_, _<_, _≤_};

@@ -1,12 +1,13 @@
 // From a record to the bytes of a card (01, "The image card, 98 bytes", "Numbers given in refusal").
-use arc::{Refusal, Verdict};
-use card::Record;
-use whole::Counted;
 use crate::digits;
 use crate::fields;
 use crate::put;
 use crate::read;
 use crate::stored;
+use arc::Refusal;
+use arc::Verdict;
+use card::Record;
+use whole::Counted;
 ghost use mathlib.Core.Path.{_≡_};
 ghost use Prim.Native.Nat.{_*_, _≤_};
 ghost use lib.ListN.{length, take, drop};
@@ -86,11 +87,18 @@ fn put_fixed(out: &mut [u8])
 
 // The bytes of a record whose origin is counted from the South Pole and from 180° west.
 fn put_card(out: &mut [u8], a: u64, b: u64, north: u64, east: u64, r: Record)
-    requires { ⌜ 98 ≤ length (now out) ⌝ ∗ ⌜ Grid a ⌝ ∗ ⌜ Grid b ⌝ ∗ ⌜ (128 * north ≤ b) × (128 * east ≤ a) ⌝ ∗ ⌜ Narrow r ⌝ }
+    requires { ⌜ 98 ≤ length (now out) ⌝ ∗ ⌜ Grid a ⌝ ∗ ⌜ Grid b ⌝
+        ∗ ⌜ (128 * north ≤ b) × (128 * east ≤ a) ⌝ ∗ ⌜ Narrow r ⌝ }
     ensures { λ _. ⌜ now (out .exit) ≡ splice 0 (written layout (heldBy a b north east r)) (now (out .entry)) ⌝ }
 {
     let bad = r.bad;
-    put_lead(out, a, b, stored::stored_at(east, a), stored::stored_at(north, b));
+    put_lead(
+        out,
+        a,
+        b,
+        stored::stored_at(east, a),
+        stored::stored_at(north, b),
+    );
     put_extents(out, r);
     put_fixed(out);
     put::put_name(out, 85, bad);

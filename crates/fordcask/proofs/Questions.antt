@@ -17,14 +17,17 @@ module _ (scale zone : ℕ) (bytes : List ℕ) {x : Reading} (e : x ≡ readOf s
   pub card-known : x .verdict ≡ Verdict.Accepted → Known (x .card)
   card-known v =
       record {
-        scale = scale; zone = zone;
+        scale = scale;
+        zone = zone;
         is-read = record { bytes = bytes; read = sym e ∙ ap (λ (w : Verdict). record { verdict = w; card = x .card }) v };
       }
 
-  pub card-answers : {A : Type 0} (f : Refusal → A) (g : Card → A) → x .verdict ≡ Verdict.Accepted → g (x .card) ≡ onCard (readOf scale zone bytes) f g
+  pub card-answers : {A : Type 0} (f : Refusal → A) (g : Card → A) → x .verdict ≡ Verdict.Accepted
+      → g (x .card) ≡ onCard (readOf scale zone bytes) f g
   card-answers f g v = sym (ap (λ (w : Verdict). onVerdict w f (g (x .card))) v) ∙ ap (λ (y : Reading). onCard y f g) e
 
-  pub card-refuses : {A : Type 0} (f : Refusal → A) (g : Card → A) {r : Refusal} → x .verdict ≡ Verdict.Refused r → f r ≡ onCard (readOf scale zone bytes) f g
+  pub card-refuses : {A : Type 0} (f : Refusal → A) (g : Card → A) {r : Refusal} → x .verdict ≡ Verdict.Refused r
+      → f r ≡ onCard (readOf scale zone bytes) f g
   card-refuses f g v = sym (ap (λ (w : Verdict). onVerdict w f (g (x .card))) v) ∙ ap (λ (y : Reading). onCard y f g) e
 
 tile-part : (a : NumberAnswer) (store : List ℕ) → take (tileParts a .length) (drop (tileParts a .offset) store) ≡ partIn a store

@@ -45,15 +45,36 @@ rectangleParts c =
 abbrev pub cardParts : Reading → CardParts
 cardParts x =
     record {
-      number = refusalOf (x .verdict) .number; at = refusalOf (x .verdict) .at; a = x .card .a; b = x .card .b; n = x .card .n; m = x .card .m;
-      nul = x .card .nul; nus = x .card .nus; nll = x .card .nll; nls = x .card .nls; nfl = x .card .nfl; nfc = x .card .nfc;
-      bad = x .card .bad; tif = cond (x .card .tif) 1 0 }
+      number = refusalOf (x .verdict) .number;
+      at = refusalOf (x .verdict) .at;
+      a = x .card .a;
+      b = x .card .b;
+      n = x .card .n;
+      m = x .card .m;
+      nul = x .card .nul;
+      nus = x .card .nus;
+      nll = x .card .nll;
+      nls = x .card .nls;
+      nfl = x .card .nfl;
+      nfc = x .card .nfc;
+      bad = x .card .bad;
+      tif = cond (x .card .tif) 1 0;
+    }
 
 abbrev pub recordFrom : RecordParts → Record
 recordFrom r =
     record {
-      n = r .n; m = r .m; nul = r .nul; nus = r .nus; nll = r .nll; nls = r .nls; nfl = r .nfl; nfc = r .nfc;
-      bad = r .bad; tif = not (eqb (r .tif) 0) }
+      n = r .n;
+      m = r .m;
+      nul = r .nul;
+      nus = r .nus;
+      nll = r .nll;
+      nls = r .nls;
+      nfl = r .nfl;
+      nfc = r .nfc;
+      bad = r .bad;
+      tif = not (eqb (r .tif) 0);
+    }
 
 abbrev pub tileParts : NumberAnswer → TileParts
 tileParts (NumberAnswer.Stored n) = record { number = 0; at = 0; stored = n; offset = (n - 1) * tileBytes; length = tileBytes }

@@ -1,7 +1,15 @@
 // Questions on a card, handed in as its bytes with scale and zone (01, "The image card, 98 bytes", "Origins and the zone grid").
-use crate::parts::{CardParts, RecordParts};
-use arc::{Refusal, Verdict};
-use card::{PixelAnswer, PixelParts, PlaceAnswer, PlaceParts, PositionAnswer, PositionParts, Record};
+use crate::parts::CardParts;
+use crate::parts::RecordParts;
+use arc::Refusal;
+use arc::Verdict;
+use card::PixelAnswer;
+use card::PixelParts;
+use card::PlaceAnswer;
+use card::PlaceParts;
+use card::PositionAnswer;
+use card::PositionParts;
+use card::Record;
 ghost use mathlib.Core.Path.{_≡_};
 ghost use lib.ListN.{length};
 ghost use Rattle.arc.specs.declared.Verdict.{Verdict};
@@ -46,7 +54,12 @@ pub extern "C" fn fordcask_read_card(scale: u64, zone: u64, card: &[u8]) -> Card
 
 // Writes a card. Refuses 1, 2, 3, 6, NFL, NFC (8), BAD (7), 10, 11; on a refusal the output stays.
 #[no_mangle]
-pub extern "C" fn fordcask_write_card(scale: u64, zone: u64, r: RecordParts, out: &mut [u8]) -> Refusal
+pub extern "C" fn fordcask_write_card(
+    scale: u64,
+    zone: u64,
+    r: RecordParts,
+    out: &mut [u8],
+) -> Refusal
     ensures answer { λ e. ⌜ e ≡ refusalOf (writeOf scale zone (recordFrom r) (now (out .entry))) ⌝ }
     ensures left { λ _. ⌜ now (out .exit) ≡ outOf scale zone (recordFrom r) (now (out .entry)) ⌝ }
 {
@@ -68,7 +81,13 @@ pub extern "C" fn fordcask_write_card(scale: u64, zone: u64, r: RecordParts, out
 
 // The place of a pixel. Refuses reading's numbers, then 12.
 #[no_mangle]
-pub extern "C" fn fordcask_place(scale: u64, zone: u64, card: &[u8], row: i64, column: i64) -> PlaceParts
+pub extern "C" fn fordcask_place(
+    scale: u64,
+    zone: u64,
+    card: &[u8],
+    row: i64,
+    column: i64,
+) -> PlaceParts
     ensures { λ r. ⌜ placeTold r
         ≡ placeReport (onCard (readOf scale zone (now (card .entry))) PlaceAnswer.Refused (λ k. placeOf k row column)) ⌝ }
 {
@@ -83,7 +102,13 @@ pub extern "C" fn fordcask_place(scale: u64, zone: u64, card: &[u8], row: i64, c
 
 // The position of a pixel. Refuses reading's numbers, then 12, 13.
 #[no_mangle]
-pub extern "C" fn fordcask_position(scale: u64, zone: u64, card: &[u8], row: i64, column: i64) -> PositionParts
+pub extern "C" fn fordcask_position(
+    scale: u64,
+    zone: u64,
+    card: &[u8],
+    row: i64,
+    column: i64,
+) -> PositionParts
     ensures { λ r. ⌜ positionTold r
         ≡ positionReport (onCard (readOf scale zone (now (card .entry))) PositionAnswer.Refused (λ k. positionOf k row column)) ⌝ }
 {
@@ -98,7 +123,13 @@ pub extern "C" fn fordcask_position(scale: u64, zone: u64, card: &[u8], row: i64
 
 // The pixel at a position. Refuses reading's numbers, then 4, 5, 12, 13.
 #[no_mangle]
-pub extern "C" fn fordcask_pixel(scale: u64, zone: u64, card: &[u8], lat: i64, lon: i64) -> PixelParts
+pub extern "C" fn fordcask_pixel(
+    scale: u64,
+    zone: u64,
+    card: &[u8],
+    lat: i64,
+    lon: i64,
+) -> PixelParts
     ensures { λ r. ⌜ pixelTold r
         ≡ pixelReport (onCard (readOf scale zone (now (card .entry))) PixelAnswer.Refused (λ k. pixelOf k lat lon)) ⌝ }
 {

@@ -1,7 +1,13 @@
 // Questions on a card and its tile index (01, "Tiles").
 use crate::parts::TileParts;
-use arc::{Refusal, Tile, Verdict};
-use tiles::{BandsAnswer, BandsParts, NumberAnswer, WindowAnswer, WindowParts};
+use arc::Refusal;
+use arc::Tile;
+use arc::Verdict;
+use tiles::BandsAnswer;
+use tiles::BandsParts;
+use tiles::NumberAnswer;
+use tiles::WindowAnswer;
+use tiles::WindowParts;
 ghost use mathlib.Core.Path.{_≡_};
 ghost use Rattle.arc.specs.declared.Verdict.{Verdict};
 ghost use Rattle.arc.specs.Refusals.{refusalOf};
@@ -17,7 +23,14 @@ ghost use Rattle.fordcask.specs.Entry.{onCard, tileParts};
 
 // Whether each number 1 to count occurs exactly once. Refuses reading's numbers, then 6, 15; on those and 6 the marks stay.
 #[no_mangle]
-pub extern "C" fn fordcask_index_check(scale: u64, zone: u64, card: &[u8], index: &[u32], count: u64, marks: &mut [u8]) -> Refusal
+pub extern "C" fn fordcask_index_check(
+    scale: u64,
+    zone: u64,
+    card: &[u8],
+    index: &[u32],
+    count: u64,
+    marks: &mut [u8],
+) -> Refusal
     ensures answer { λ r. ⌜ r ≡ refusalOf (onCard (readOf scale zone (now (card .entry))) Verdict.Refused
         (λ k. checkOf k (now (index .entry)) count (now (marks .entry)))) ⌝ }
     ensures left { λ _. ⌜ now (marks .exit) ≡ onCard (readOf scale zone (now (card .entry))) (λ e. now (marks .entry))

@@ -1,5 +1,6 @@
 // Questions on numbers alone (01, "Units and the zone table", "Origins and the zone grid").
-use crate::parts::{CoverParts, RectangleParts};
+use crate::parts::CoverParts;
+use crate::parts::RectangleParts;
 use arc::SpacingParts;
 use card::OffsetParts;
 use origin::OriginParts;

@@ -136,7 +136,8 @@ module _ (e : Engine) (made : Made e) where
     pub column-angle : e .columns .base + (c * e .columns .rate + e .columns .start) / 68719476736 ≡ near ((e .card .east + c) * circle) (e .card .a)
     column-angle =
         ap (λ (x : Axis). x .base + (c * x .rate + x .start) / 68719476736) columns-are
-        ∙ ap (λ (q : ℕ). left / m + q) (fixed m (some (k .a) (laid .columns)) 506250 (left % m) c (close (k .a) (laid .columns) c (omega (arith, laid .across-most))))
+        ∙ ap (λ (q : ℕ). left / m + q)
+        (fixed m (some (k .a) (laid .columns)) 506250 (left % m) c (close (k .a) (laid .columns) c (omega (arith, laid .across-most))))
         ∙ sym (mul-add-div-right (some (k .a) (laid .columns)) (left / m) (left % m + 506250 * c))
         ∙ ap (λ (y : ℕ). y / m) (omega (arith, div-add-mod' left m))
         ∙ sym (angle-unit v (k .east + c))
@@ -147,7 +148,14 @@ module _ (e : Engine) (made : Made e) where
     column-below =
         let x : ℕ = near ((k .east + c) * circle) (k .a) in
         lt-of-mul-lt-mul-right (k .a)
-        (omega (arith, near-low (k .a) (omega (arith, laid .columns .some)) ((k .east + c) * circle), east-high k laid, laid .across, laid .columns .most, laid .columns .some))
+        (omega (
+          arith,
+          near-low (k .a) (omega (arith, laid .columns .some)) ((k .east + c) * circle),
+          east-high k laid,
+          laid .across,
+          laid .columns .most,
+          laid .columns .some,
+        ))
 
   -- ---- the rows from the top, the columns from the left
   pub top-low : e .top < 18446744073709551616

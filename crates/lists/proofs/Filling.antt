@@ -57,19 +57,29 @@ module _ (f : ℕ → Report) where
   numbers-length : (i : ℕ) → length (numbersOf i f) ≡ i * 1
   numbers-length i = length-each 1 i (λ (j : ℕ). f j .number ∷ []) (λ j. refl)
 
-  module _ (two : (i : ℕ) → length (f i .values) ≡ 2) (p : ℕ) {out : List ℤ} {num : List ℕ} (fit : listsFit p (length out) (length num) ≡ true) where
+  module _ (two : (i : ℕ) → length (f i .values) ≡ 2) (p : ℕ) {out : List ℤ} {num : List ℕ}
+      (fit : listsFit p (length out) (length num) ≡ true) where
     pub filled-length : {i : ℕ} {now : List ℤ} {nums : List ℕ} → Filled f (pairs p) out num i now nums → length now ≡ length out
-    filled-length {i} t = ap length (t .values) ∙ length-over (valuesOf i f) out (omega (arith, t .upto, lists-fit p (length out) (length num) fit, values-length two i))
+    filled-length {i} t =
+        ap length (t .values)
+        ∙ length-over (valuesOf i f) out (omega (arith, t .upto, lists-fit p (length out) (length num) fit, values-length two i))
 
     pub filled-numbers : {i : ℕ} {now : List ℤ} {nums : List ℕ} → Filled f (pairs p) out num i now nums → length nums ≡ length num
-    filled-numbers {i} t = ap length (t .numbers) ∙ length-over (numbersOf i f) num (omega (arith, t .upto, lists-fit p (length out) (length num) fit, numbers-length i))
+    filled-numbers {i} t =
+        ap length (t .numbers)
+        ∙ length-over (numbersOf i f) num (omega (arith, t .upto, lists-fit p (length out) (length num) fit, numbers-length i))
 
     -- room for one pair more
-    pub filled-room : {i : ℕ} {now : List ℤ} {nums : List ℕ} → Filled f (pairs p) out num i now nums → i < pairs p → (2 * i + 1 < length now) × (i < length nums)
-    filled-room t h = (omega (arith, filled-length t, lists-fit p (length out) (length num) fit), omega (arith, filled-numbers t, lists-fit p (length out) (length num) fit))
+    pub filled-room : {i : ℕ} {now : List ℤ} {nums : List ℕ} → Filled f (pairs p) out num i now nums → i < pairs p
+        → (2 * i + 1 < length now) × (i < length nums)
+    filled-room t h = (
+      omega (arith, filled-length t, lists-fit p (length out) (length num) fit),
+      omega (arith, filled-numbers t, lists-fit p (length out) (length num) fit),
+    )
 
     -- the pair as the machine holds it
-    pub filled-next : {i : ℕ} {now : List ℤ} {nums : List ℕ} → Filled f (pairs p) out num i now nums → i < pairs p → (x y : ℤ) (z : ℕ) → SFits w64 x → SFits w64 y
+    pub filled-next : {i : ℕ} {now : List ℤ} {nums : List ℕ} → Filled f (pairs p) out num i now nums → i < pairs p
+        → (x y : ℤ) (z : ℕ) → SFits w64 x → SFits w64 y
         → f i .values ≡ x ∷ y ∷ [] → f i .number ≡ z
         → Filled f (pairs p) out num (i + 1) (set (set now (2 * i) (toZ w64 (ofZ w64 x))) (2 * i + 1) (toZ w64 (ofZ w64 y))) (set nums i z)
     filled-next {i} {now} t h x y z fx fy ev en =
@@ -77,19 +87,22 @@ module _ (f : ℕ → Report) where
         let first : set (over vs out) (2 * i) x ≡ over (vs ++ x ∷ []) out =
         over-next vs out (2 * i) x (pos 0) (omega (arith, values-length two i)) (omega (arith, lists-fit p (length out) (length num) fit)) in
         let second : set (over (vs ++ x ∷ []) out) (2 * i + 1) y ≡ over ((vs ++ x ∷ []) ++ y ∷ []) out =
-        over-next (vs ++ x ∷ []) out (2 * i + 1) y (pos 0) (omega (arith, values-length two i, length-append vs (x ∷ []))) (omega (arith, lists-fit p (length out) (length num) fit)) in
+        over-next (vs ++ x ∷ []) out (2 * i + 1) y (pos 0) (omega (arith, values-length two i, length-append vs (x ∷ [])))
+        (omega (arith, lists-fit p (length out) (length num) fit)) in
         record {
           upto = omega arith;
           values =
-            ap₂ (λ (a b : ℤ). set (set now (2 * i) a) (2 * i + 1) b) (toZ-ofZ w64 x fx) (toZ-ofZ w64 y fy)
-            ∙ ap (λ (s : List ℤ). set (set s (2 * i) x) (2 * i + 1) y) (t .values)
-            ∙ ap (λ (s : List ℤ). set s (2 * i + 1) y) first
-            ∙ second
-            ∙ ap (λ (s : List ℤ). over s out) (append-assoc vs (x ∷ []) (y ∷ []) ∙ ap (λ (s : List ℤ). vs ++ s) (sym ev) ∙ ap (λ (k : ℕ). valuesOf k f) (sym (add-one i)));
+              ap₂ (λ (a b : ℤ). set (set now (2 * i) a) (2 * i + 1) b) (toZ-ofZ w64 x fx) (toZ-ofZ w64 y fy)
+              ∙ ap (λ (s : List ℤ). set (set s (2 * i) x) (2 * i + 1) y) (t .values)
+              ∙ ap (λ (s : List ℤ). set s (2 * i + 1) y) first
+              ∙ second
+              ∙ ap (λ (s : List ℤ). over s out)
+              (append-assoc vs (x ∷ []) (y ∷ []) ∙ ap (λ (s : List ℤ). vs ++ s) (sym ev) ∙ ap (λ (k : ℕ). valuesOf k f) (sym (add-one i)));
           numbers =
-            ap (λ (s : List ℕ). set s i z) (t .numbers)
-            ∙ over-next (numbersOf i f) num i z 0 (omega (arith, numbers-length i)) (omega (arith, lists-fit p (length out) (length num) fit))
-            ∙ ap (λ (s : List ℕ). over s num) (ap (λ (k : ℕ). numbersOf i f ++ k ∷ []) (sym en) ∙ ap (λ (k : ℕ). numbersOf k f) (sym (add-one i)));
+              ap (λ (s : List ℕ). set s i z) (t .numbers)
+              ∙ over-next (numbersOf i f) num i z 0 (omega (arith, numbers-length i)) (omega (arith, lists-fit p (length out) (length num) fit))
+              ∙ ap (λ (s : List ℕ). over s num)
+              (ap (λ (k : ℕ). numbersOf i f ++ k ∷ []) (sym en) ∙ ap (λ (k : ℕ). numbersOf k f) (sym (add-one i)));
         }
 
 -- ---- two value parts, in a refusal too

@@ -2,7 +2,8 @@
 -- stays below one dth, so the floor is the same. Assumes nothing.
 use mathlib.Core.Path.{_≡_, sym, ap, _∙_}
 use Prim.Native.Nat.{ℕ, _+_, _-_, _*_, _/_, _≤_, _<_}
-use native.Mathlib.Nat.{mul-le-mul-left, mul-assoc, mul-add, add-mul, mul-one, mul-right-comm, div-eq-of-lt-le, div-mul-le-self, lt-div-mul-add, le-of-mul-le-mul-right, lt-of-mul-lt-mul-right}
+use native.Mathlib.Nat.{mul-le-mul-left, mul-assoc, mul-add, add-mul, mul-one, mul-right-comm, div-eq-of-lt-le, div-mul-le-self}
+use native.Mathlib.Nat.{lt-div-mul-add, le-of-mul-le-mul-right, lt-of-mul-lt-mul-right}
 use native.Mathlib.Omega.{arith}
 use Rattle.lists.specs.Engine.{scaleUp}
 
@@ -32,6 +33,11 @@ module _ (d : ℕ) (hd : 0 < d) where
       (le-of-mul-le-mul-right {m = q * 68719476736} {n = c * rate + start} {k = d} (omega (arith, scale-low R)) hd)
       (lt-of-mul-lt-mul-right d {m = c * rate + start} {n = (q + 1) * 68719476736}
       (omega (
-        arith, scale-high R, mul-add c (p * 68719476736) (d - 1), mul-right-comm (q + 1) 68719476736 d, add-mul q 1 d, add-mul c 1 d,
+        arith,
+        scale-high R,
+        mul-add c (p * 68719476736) (d - 1),
+        mul-right-comm (q + 1) 68719476736 d,
+        add-mul q 1 d,
+        add-mul c 1 d,
         less-one c,
       )))

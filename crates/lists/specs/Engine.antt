@@ -32,8 +32,14 @@ columnsOf k = columnsAt (506250 * k .east + k .a / 512) (2 * (k .a / 512))
 unfoldable pub engineOf : Card → Engine
 engineOf k =
     record {
-      card = k; rows = rowsOf k; columns = columnsOf k; top = 506250 * (k .north + k .b / 2) + 253125;
-      down = 2 * (k .b / 512); left = 506250 * (k .a - k .east) + 253125; across = 2 * (k .a / 512) }
+      card = k;
+      rows = rowsOf k;
+      columns = columnsOf k;
+      top = 506250 * (k .north + k .b / 2) + 253125;
+      down = 2 * (k .b / 512);
+      left = 506250 * (k .a - k .east) + 253125;
+      across = 2 * (k .a / 512);
+    }
 
 pub record Made (e : Engine) : Type 0 where
   pub known : Known (e .card)

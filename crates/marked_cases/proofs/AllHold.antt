@@ -13,5 +13,6 @@ use Rattle.card.specs.Grid.{latitudeOf, longitudeOf, positionOf}
 use Rattle.marked_cases.specs.Cases.{MarkedCases}
 
 pub all-hold : MarkedCases
-unfolding floorDiv nearest ceilDiv modulo spacingAt firstHolding covers stored number angleLaid degrees minutes seconds hundredths angleSize angleOf angleValid nameLaid layout judgeField extentsHold firstFrom cardOf withValues readIn latitudeOf longitudeOf positionOf
+unfolding floorDiv nearest ceilDiv modulo spacingAt firstHolding covers stored number angleLaid degrees minutes seconds hundredths
+    angleSize angleOf angleValid nameLaid layout judgeField extentsHold firstFrom cardOf withValues readIn latitudeOf longitudeOf positionOf
 all-hold = (refl, (refl, (refl, (refl, (refl, (refl, (refl, (refl, (refl, (refl, (refl, (refl, tt))))))))))))

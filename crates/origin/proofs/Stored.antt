@@ -45,7 +45,9 @@ module _ (x : ℕ) (g : Grid x) where
       let s : ℕ = under k + under j in
       let p = counted-is s k (omega arith) in
       let q = counted-is s j (omega arith) in
-      let same = equal-is (stored x k) (stored x j) _ (s * tileAngle) _ (s * tileAngle) (stored-is (axis s) k (counted s k) p) (stored-is (axis s) j (counted s j) q) e in
+      let same =
+      equal-is (stored x k) (stored x j) _ (s * tileAngle) _ (s * tileAngle) (stored-is (axis s) k (counted s k) p)
+      (stored-is (axis s) j (counted s j) q) e in
       is-equal k j (counted s k) (s * x) (counted s j) (s * x) p q (ap (λ (n : ℕ). n + s * x) (near-fixes (counted s k) (counted s j) (omega arith)))
 
 pub stored-unique : StoredFixes
@@ -57,5 +59,6 @@ date-line a g =
     let axis = longitudes a g in
     let t : ℕ = a / 256 in
     let two : Is (pos t) (2 * t) t = omega arith in
-    let e : near (2 * t * tileAngle) a ≡ 2 * half = near-is a (axis .some) (2 * t * tileAngle) (2 * half) (omega (arith, axis .exact)) (omega (arith, axis .exact, axis .some)) in
+    let e : near (2 * t * tileAngle) a ≡ 2 * half =
+    near-is a (axis .some) (2 * t * tileAngle) (2 * half) (omega (arith, axis .exact)) (omega (arith, axis .exact, axis .some)) in
     is-equal (stored a (pos t)) (pos half) (near (2 * t * tileAngle) a) half half 0 (stored-is axis (pos t) (2 * t) two) (is-nat half) (omega arith)

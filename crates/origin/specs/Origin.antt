@@ -37,7 +37,8 @@ originOf a b lat lon =
       n = rowTiles b lat;
       m = columnTiles a lon;
       pso = stored b (rowTiles b lat);
-      lso = stored a (columnTiles a lon) }
+      lso = stored a (columnTiles a lon);
+    }
 
 -- 3, 4, 5
 abbrev pub alignIn : ℕ → SpacingAnswer → ℤ → ℤ → OriginAnswer

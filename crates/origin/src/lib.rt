@@ -1,5 +1,8 @@
 // Origins: a whole number of 128-pixel tiles from the Equator and from the zero meridian (001, 3.4.5).
-use arc::{Circle, Refusal, SpacingAnswer, Tile};
+use arc::Circle;
+use arc::Refusal;
+use arc::SpacingAnswer;
+use arc::Tile;
 use whole::Counted;
 ghost use mathlib.Core.Path.{_≡_};
 ghost use Prim.Native.Nat.{_*_, _≤_};

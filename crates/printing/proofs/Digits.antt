@@ -36,7 +36,8 @@ power-at (suc n) i (suc k) h = let e : suc i + k ≡ i + suc k = omega arith in 
 -- the test of a leading zero that is not the last digit
 module _ (v d : ℕ) where
   -- it goes
-  pub trim-zero : (w : ℕ) → d ≡ 48 + v / 10 ^ (w - 1) % 10 → ltb 1 w && eqb d 48 ≡ true → (1 < w) × (trimmed (digits (w - 1) v) ≡ trimmed (digits w v))
+  pub trim-zero : (w : ℕ) → d ≡ 48 + v / 10 ^ (w - 1) % 10 → ltb 1 w && eqb d 48 ≡ true
+      → (1 < w) × (trimmed (digits (w - 1) v) ≡ trimmed (digits w v))
   trim-zero w e t = let b = both (ltb 1 w) (eqb d 48) t in (ltb-true 1 w (b .0), at w (ltb-true 1 w (b .0)) e (b .1))
     where
       at : (w : ℕ) → 1 < w → d ≡ 48 + v / 10 ^ (w - 1) % 10 → eqb d 48 ≡ true → trimmed (digits (w - 1) v) ≡ trimmed (digits w v)
@@ -81,7 +82,8 @@ trim-le [] = omega arith
 trim-le (d ∷ []) = omega arith
 trim-le (d ∷ e ∷ ds) = first (eqb d 48) (trim-le (e ∷ ds))
   where
-    first : (t : Bool) → length (trimmed (e ∷ ds)) ≤ length (e ∷ ds) → length (cond t (trimmed (e ∷ ds)) (d ∷ e ∷ ds)) ≤ length (d ∷ e ∷ ds)
+    first : (t : Bool) → length (trimmed (e ∷ ds)) ≤ length (e ∷ ds)
+        → length (cond t (trimmed (e ∷ ds)) (d ∷ e ∷ ds)) ≤ length (d ∷ e ∷ ds)
     first true m = omega arith
     first false m = omega arith
 

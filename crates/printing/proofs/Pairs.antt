@@ -41,7 +41,8 @@ module _ (s : List ℕ) (k : ℕ) (e : k ≡ 0 + length (upTo 32 s)) where
     unfolding numbersOf
     bad-parts t = rw (← left-part, ← right-part, ← p, ← q, t)
 
-    pub good-parts : x && y ≡ true → {v w : ℕ} → v ≡ number (take k s) → w ≡ number (rest s k) → Numbers.Pair v w ≡ numbersAnswer (numbersOf s)
+    pub good-parts : x && y ≡ true → {v w : ℕ} → v ≡ number (take k s) → w ≡ number (rest s k)
+        → Numbers.Pair v w ≡ numbersAnswer (numbersOf s)
     unfolding numbersOf
     good-parts t f g = rw (← left-part, ← right-part, ← p, ← q, t, f, g)
 

@@ -25,7 +25,8 @@ lines-first [] h = absurd (omega arith)
 lines-first (b ∷ bs) h = rw add-one (split (eqb b 10) bs (lines-first bs))
   where
     split : (t : Bool) (bs : List ℕ) → (0 < length bs → linesOf bs ≡ firstLine bs ∷ linesOf (drop (length (firstLine bs) + 1) bs))
-        → cond t ([] ∷ linesOf bs) (intoFirst b (linesOf bs)) ≡ cond t [] (b ∷ firstLine bs) ∷ linesOf (drop (length (cond t [] (b ∷ firstLine bs))) bs)
+        → cond t ([] ∷ linesOf bs) (intoFirst b (linesOf bs))
+        ≡ cond t [] (b ∷ firstLine bs) ∷ linesOf (drop (length (cond t [] (b ∷ firstLine bs))) bs)
     split true bs more = refl
     split false [] more = refl
     split false (x ∷ xs) more = rw (more (omega arith), add-one)

@@ -14,5 +14,7 @@ use Rattle.printing.specs.Printed.{decimal, lineFor, printed}
 use Rattle.printing.specs.Example.{WorkedExample}
 
 pub worked-example : WorkedExample
-unfolding floorDiv nearest ceilDiv modulo spacingAt stored number angleLaid degrees minutes seconds hundredths angleSize angleOf angleValid nameLaid layout judgeField extentsHold firstFrom cardOf withValues readIn angleText latitudeOf longitudeOf positionOf linesOf numbersOf decimal lineFor printed
+unfolding floorDiv nearest ceilDiv modulo spacingAt stored number angleLaid degrees minutes seconds hundredths angleSize angleOf
+    angleValid nameLaid layout judgeField extentsHold firstFrom cardOf withValues readIn angleText latitudeOf longitudeOf positionOf linesOf
+    numbersOf decimal lineFor printed
 worked-example = refl

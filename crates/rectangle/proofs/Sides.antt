@@ -41,6 +41,7 @@ module _ (b j : ℕ) (h : j < 9) where
     where
       r : Row
       r = rowAt j
+
       go : (x p : Bool) → ltb low (to (rowAt j)) ≡ x → (ltb s (to (rowAt j)) || p) || ltb ((s - to (rowAt j)) * b) (1024 * circle) ≡ true
           → (x || p) || ltb ((low - to (rowAt j)) * b) (1024 * circle) ≡ true
       go true p q t = refl
@@ -52,7 +53,8 @@ module _ (b j : ℕ) (h : j < 9) where
           lt-ltb ((low - to (rowAt j)) * b) (1024 * circle) (omega (arith, ltb-true ((s - to (rowAt j)) * b) (1024 * circle) u))
 
   -- the row meets the stretch at some size of it, e being 0 or 1
-  met : (e low high : ℕ) → e ≤ 1 → e ≤ high → low ≤ high → meets b (rowAt j) low high ≡ true → (s : ℕ) × (e ≤ s) × (low ≤ s) × (s ≤ high) × In b j s
+  met : (e low high : ℕ) → e ≤ 1 → e ≤ high → low ≤ high → meets b (rowAt j) low high ≡ true
+      → (s : ℕ) × (e ≤ s) × (low ≤ s) × (s ≤ high) × In b j s
   unfolding meets
   met e low high e1 eh lh t =
       let w = both (leb (from (rowAt j)) high) (reaches b (rowAt j) low) t in
@@ -60,15 +62,30 @@ module _ (b j : ℕ) (h : j < 9) where
     where
       near : (s : ℕ) → from (rowAt j) ≤ s → reaches b (rowAt j) s ≡ true → In b j s
       near s f r = rw (le-leb (from (rowAt j)) s f, r)
+
       early : (s : ℕ) → s < to (rowAt j) → reaches b (rowAt j) s ≡ true
       early s k = rw (lt-ltb s (to (rowAt j)) k)
-      go : (x : Bool) → ltb low (from (rowAt j)) ≡ x → from (rowAt j) ≤ high → reaches b (rowAt j) low ≡ true → (s : ℕ) × (e ≤ s) × (low ≤ s) × (s ≤ high) × In b j s
-      go true p f r =
-          (from (rowAt j), omega (arith, ltb-true low (from (rowAt j)) p), omega (arith, ltb-true low (from (rowAt j)) p), f, near (from (rowAt j)) (omega arith) (early (from (rowAt j)) (from-to j h)))
+
+      go : (x : Bool) → ltb low (from (rowAt j)) ≡ x → from (rowAt j) ≤ high → reaches b (rowAt j) low ≡ true
+          → (s : ℕ) × (e ≤ s) × (low ≤ s) × (s ≤ high) × In b j s
+      go true p f r = (
+        from (rowAt j),
+        omega (arith, ltb-true low (from (rowAt j)) p),
+        omega (arith, ltb-true low (from (rowAt j)) p),
+        f,
+        near (from (rowAt j)) (omega arith) (early (from (rowAt j)) (from-to j h)),
+      )
       go false p f r = at-low (ltb low e) refl (ltb-false low (from (rowAt j)) p) r
         where
-          at-low : (x : Bool) → ltb low e ≡ x → from (rowAt j) ≤ low → reaches b (rowAt j) low ≡ true → (s : ℕ) × (e ≤ s) × (low ≤ s) × (s ≤ high) × In b j s
-          at-low true q k r = (1, e1, omega (arith, ltb-true low e q), omega (arith, ltb-true low e q), near 1 (omega (arith, ltb-true low e q)) (early 1 (to-least j h)))
+          at-low : (x : Bool) → ltb low e ≡ x → from (rowAt j) ≤ low → reaches b (rowAt j) low ≡ true
+              → (s : ℕ) × (e ≤ s) × (low ≤ s) × (s ≤ high) × In b j s
+          at-low true q k r = (
+            1,
+            e1,
+            omega (arith, ltb-true low e q),
+            omega (arith, ltb-true low e q),
+            near 1 (omega (arith, ltb-true low e q)) (early 1 (to-least j h)),
+          )
           at-low false q k r = (low, ltb-false low e q, omega arith, lh, near low k r)
 
   unmet : (low high s : ℕ) → low ≤ s → s ≤ high → In b j s → meets b (rowAt j) low high ≡ true
@@ -88,13 +105,16 @@ module _ (b j : ℕ) (h : j < 9) where
   unfolding covers
   not-north n =
       ap (coversIn b (negsuc n) (1 + j)) (row-north j h)
-      ∙ ap (λ (t : Bool). t && (holds (rowAt j) (suc n) || overlaps b (rowAt j) (suc n))) (ne-eqb (1 + j) (rowAt j .southern) (λ e. omega (arith, southern-at j h)))
+      ∙ ap (λ (t : Bool). t && (holds (rowAt j) (suc n) || overlaps b (rowAt j) (suc n)))
+      (ne-eqb (1 + j) (rowAt j .southern) (λ e. omega (arith, southern-at j h)))
 
   not-south : (s : ℕ) → covers b (pos s) (10 + j) ≡ false
   unfolding covers
   not-south s =
       ap (coversIn b (pos s) (10 + j)) (row-south j h)
-      ∙ rw (le-ltb s 0 (omega arith)) (ap (λ (t : Bool). t && (holds (rowAt j) s || overlaps b (rowAt j) s)) (ne-eqb (10 + j) (rowAt j .northern) (λ e. omega (arith, northern-at j h))))
+      ∙ rw (le-ltb s 0 (omega arith))
+      (ap (λ (t : Bool). t && (holds (rowAt j) s || overlaps b (rowAt j) s))
+      (ne-eqb (10 + j) (rowAt j .northern) (λ e. omega (arith, northern-at j h))))
 
   -- the rectangle, its edges counted from the South Pole
   module _ (S N : ℕ) (o : S ≤ N) where
@@ -123,14 +143,16 @@ module _ (b j : ℕ) (h : j < 9) where
     north-size : Covered b south north (1 + j) → (s : ℕ) × (S ≤ s + quarter) × (s + quarter ≤ N) × In b j s
     north-size w = go (w .lat) (w .above) (w .below) (w .in-zone)
       where
-        go : (lat : ℤ) → south ≤ℤ lat → lat ≤ℤ north → covers b lat (1 + j) ≡ true → (s : ℕ) × (S ≤ s + quarter) × (s + quarter ≤ N) × In b j s
+        go : (lat : ℤ) → south ≤ℤ lat → lat ≤ℤ north → covers b lat (1 + j) ≡ true
+            → (s : ℕ) × (S ≤ s + quarter) × (s + quarter ≤ N) × In b j s
         go (pos s) p q e = (s, low-pos s p, high-pos s q, sym (north-in s) ∙ e)
         go (negsuc n) p q e = let x : false ≡ true = sym (not-north n) ∙ e in let z : _≡_ {A = ℕ} 0 1 = cc in absurd (omega arith)
 
     south-size : Covered b south north (10 + j) → (n : ℕ) × (S + suc n ≤ quarter) × (quarter ≤ N + suc n) × In b j (suc n)
     south-size w = go (w .lat) (w .above) (w .below) (w .in-zone)
       where
-        go : (lat : ℤ) → south ≤ℤ lat → lat ≤ℤ north → covers b lat (10 + j) ≡ true → (n : ℕ) × (S + suc n ≤ quarter) × (quarter ≤ N + suc n) × In b j (suc n)
+        go : (lat : ℤ) → south ≤ℤ lat → lat ≤ℤ north → covers b lat (10 + j) ≡ true
+            → (n : ℕ) × (S + suc n ≤ quarter) × (quarter ≤ N + suc n) × In b j (suc n)
         go (pos s) p q e = let x : false ≡ true = sym (not-south s) ∙ e in let z : _≡_ {A = ℕ} 0 1 = cc in absurd (omega arith)
         go (negsuc n) p q e = (n, low-neg n p, high-neg n q, sym (south-in n) ∙ e)
 
@@ -141,7 +163,8 @@ module _ (b j : ℕ) (h : j < 9) where
           lat = pos s;
           above = is-le (pos S -ℤ pos quarter) (pos s) S quarter s 0 (is-difference S quarter) (is-nat s) (omega arith);
           below = is-le (pos s) (pos N -ℤ pos quarter) s 0 N quarter (is-nat s) (is-difference N quarter) (omega arith);
-          in-zone = north-in s ∙ t }
+          in-zone = north-in s ∙ t;
+        }
 
     south-lat : (s : ℕ) → 1 ≤ s → S + s ≤ quarter → quarter ≤ N + s → In b j s → Covered b south north (10 + j)
     south-lat zero i p q t = absurd (omega arith)
@@ -150,14 +173,16 @@ module _ (b j : ℕ) (h : j < 9) where
           lat = negsuc n;
           above = is-le (pos S -ℤ pos quarter) (negsuc n) S quarter 0 (suc n) (is-difference S quarter) (omega arith) (omega arith);
           below = is-le (negsuc n) (pos N -ℤ pos quarter) 0 (suc n) N quarter (omega arith) (is-difference N quarter) (omega arith);
-          in-zone = south-in n ∙ t }
+          in-zone = south-in n ∙ t;
+        }
 
     pub north-is : quarter ≤ N → coversSome b south north (1 + j) ≡ meets b (rowAt j) (S - quarter) (N - quarter)
     north-is k =
         same (coversSome b south north (1 + j)) (meets b (rowAt j) (S - quarter) (N - quarter))
-        (λ t. let w = north-size (somes b south north (1 + j) order .0 t) in unmet (S - quarter) (N - quarter) (w .0) (omega (arith, w .1)) (omega (arith, w .2)) (w .3))
+        (λ t. let w = north-size (somes b south north (1 + j) order .0 t) in
+        unmet (S - quarter) (N - quarter) (w .0) (omega (arith, w .1)) (omega (arith, w .2)) (w .3))
         (λ t. let w = met 0 (S - quarter) (N - quarter) (omega arith) (omega arith) (omega arith) t in
-          somes b south north (1 + j) order .1 (north-lat (w .0) (omega (arith, w .2)) (omega (arith, w .3)) (w .4)))
+        somes b south north (1 + j) order .1 (north-lat (w .0) (omega (arith, w .2)) (omega (arith, w .3)) (w .4)))
 
     pub north-none : N < quarter → coversSome b south north (1 + j) ≡ false
     north-none k = none (coversSome b south north (1 + j)) (λ t. let w = north-size (somes b south north (1 + j) order .0 t) in omega (arith, w .2))
@@ -165,9 +190,10 @@ module _ (b j : ℕ) (h : j < 9) where
     pub south-is : S < quarter → coversSome b south north (10 + j) ≡ meets b (rowAt j) (quarter - N) (quarter - S)
     south-is k =
         same (coversSome b south north (10 + j)) (meets b (rowAt j) (quarter - N) (quarter - S))
-        (λ t. let w = south-size (somes b south north (10 + j) order .0 t) in unmet (quarter - N) (quarter - S) (suc (w .0)) (omega (arith, w .2)) (omega (arith, w .1)) (w .3))
+        (λ t. let w = south-size (somes b south north (10 + j) order .0 t) in
+        unmet (quarter - N) (quarter - S) (suc (w .0)) (omega (arith, w .2)) (omega (arith, w .1)) (w .3))
         (λ t. let w = met 1 (quarter - N) (quarter - S) (omega arith) (omega arith) (omega arith) t in
-          somes b south north (10 + j) order .1 (south-lat (w .0) (w .1) (omega (arith, w .3)) (omega (arith, w .2)) (w .4)))
+        somes b south north (10 + j) order .1 (south-lat (w .0) (w .1) (omega (arith, w .3)) (omega (arith, w .2)) (w .4)))
 
     pub south-none : quarter ≤ S → coversSome b south north (10 + j) ≡ false
     south-none k = none (coversSome b south north (10 + j)) (λ t. let w = south-size (somes b south north (10 + j) order .0 t) in omega (arith, w .1))

@@ -22,7 +22,8 @@ module _ (f : ℤ → Bool) where
   some-sound z zero e = let x : _≡_ {A = ℕ} 0 1 = cc in absurd (omega arith)
   some-sound z (suc n) e = go (f z) refl (λ t. some-sound (sucℤ z) n t) e
     where
-      go : (t : Bool) → f z ≡ t → (someFrom f (sucℤ z) n ≡ true → (k : ℕ) × (k < n) × (f (sucℤ z +ℤ pos k) ≡ true)) → t || someFrom f (sucℤ z) n ≡ true
+      go : (t : Bool) → f z ≡ t → (someFrom f (sucℤ z) n ≡ true → (k : ℕ) × (k < n) × (f (sucℤ z +ℤ pos k) ≡ true))
+          → t || someFrom f (sucℤ z) n ≡ true
           → (k : ℕ) × (k < suc n) × (f (z +ℤ pos k) ≡ true)
       go true p r q = (0, omega arith, ap f (+ℤ-idr z) ∙ p)
       go false p r q = let w = r q in (suc (w .0), omega (arith, w .1), ap f (sym (moved z (w .0))) ∙ w .2)
@@ -46,21 +47,26 @@ somes b south north zone o =
     let e : ℕ = under north in
     let l : a + e ≤ d + c = le-is south north a c d e (is-parts south) (is-parts north) o in
     let s : natAbs (north -ℤ south) ≡ d + c - (e + a) =
-    let t = is-size (north -ℤ south) (d + c) (e + a) (is-minus north south d e a c (is-parts north) (is-parts south)) in omega arith in
-    ( (λ t.
-        let w = some-sound (λ lat. covers b lat zone) south (natAbs (north -ℤ south) + 1) t in
-        let k : ℕ = w .0 in
-        let p : Is (south +ℤ pos k) (a + k) (c + 0) = is-add south (pos k) a c k 0 (is-parts south) (is-nat k) in
-        record {
-          lat = south +ℤ pos k;
-          above = is-le south (south +ℤ pos k) a c (a + k) (c + 0) (is-parts south) p (omega arith);
-          below = is-le (south +ℤ pos k) north (a + k) (c + 0) d e p (is-parts north) (omega (arith, w .1));
-          in-zone = w .2 })
-    , (λ t.
-        let x : ℕ = over (t .lat) in
-        let y : ℕ = under (t .lat) in
-        let p : a + y ≤ x + c = le-is south (t .lat) a c x y (is-parts south) (is-parts (t .lat)) (t .above) in
-        let q : x + e ≤ d + y = le-is (t .lat) north x y d e (is-parts (t .lat)) (is-parts north) (t .below) in
-        let k : ℕ = x + c - (y + a) in
-        let v : t .lat ≡ south +ℤ pos k = is-equal (t .lat) (south +ℤ pos k) x y (a + k) (c + 0) (is-parts (t .lat)) (is-add south (pos k) a c k 0 (is-parts south) (is-nat k)) (omega arith) in
-        some-complete (λ lat. covers b lat zone) south (natAbs (north -ℤ south) + 1) k (omega arith) (ap (λ (z : ℤ). covers b z zone) (sym v) ∙ t .in-zone)) )
+    let t = is-size (north -ℤ south) (d + c) (e + a) (is-minus north south d e a c (is-parts north) (is-parts south)) in omega arith in (
+      (λ t.
+          let w = some-sound (λ lat. covers b lat zone) south (natAbs (north -ℤ south) + 1) t in
+          let k : ℕ = w .0 in
+          let p : Is (south +ℤ pos k) (a + k) (c + 0) = is-add south (pos k) a c k 0 (is-parts south) (is-nat k) in
+          record {
+            lat = south +ℤ pos k;
+            above = is-le south (south +ℤ pos k) a c (a + k) (c + 0) (is-parts south) p (omega arith);
+            below = is-le (south +ℤ pos k) north (a + k) (c + 0) d e p (is-parts north) (omega (arith, w .1));
+            in-zone = w .2;
+          }),
+      (λ t.
+          let x : ℕ = over (t .lat) in
+          let y : ℕ = under (t .lat) in
+          let p : a + y ≤ x + c = le-is south (t .lat) a c x y (is-parts south) (is-parts (t .lat)) (t .above) in
+          let q : x + e ≤ d + y = le-is (t .lat) north x y d e (is-parts (t .lat)) (is-parts north) (t .below) in
+          let k : ℕ = x + c - (y + a) in
+          let v : t .lat ≡ south +ℤ pos k =
+          is-equal (t .lat) (south +ℤ pos k) x y (a + k) (c + 0) (is-parts (t .lat))
+          (is-add south (pos k) a c k 0 (is-parts south) (is-nat k)) (omega arith) in
+          some-complete (λ lat. covers b lat zone) south (natAbs (north -ℤ south) + 1) k (omega arith)
+          (ap (λ (z : ℤ). covers b z zone) (sym v) ∙ t .in-zone)),
+    )

@@ -28,7 +28,8 @@ module _ (b S N : ℕ) where
         let e : 19 - zone ≡ suc (19 - (zone + 1)) = omega arith in
         subst (λ (k : ℕ). Sofar f 18 all (upFrom zone k) slots n) e w
 
-    pub took : n < 18 → Sofar f 18 all (upFrom zone (19 - zone)) slots n → f zone ≡ true → Sofar f 18 all (upFrom (zone + 1) (19 - (zone + 1))) (set slots n zone) (n + 1)
+    pub took : n < 18 → Sofar f 18 all (upFrom zone (19 - zone)) slots n → f zone ≡ true
+        → Sofar f 18 all (upFrom (zone + 1) (19 - (zone + 1))) (set slots n zone) (n + 1)
     took k w t = taken f 18 all (upFrom (zone + 1) (19 - (zone + 1))) slots n zone (next w) t k
 
     pub left-out : Sofar f 18 all (upFrom zone (19 - zone)) slots n → f zone ≡ false → Sofar f 18 all (upFrom (zone + 1) (19 - (zone + 1))) slots n

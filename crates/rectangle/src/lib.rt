@@ -1,5 +1,8 @@
 // The zones that cover some latitude of a rectangle (001, 3.3.3).
-use arc::{Circle, ConstantAnswer, Refusal, Verdict};
+use arc::Circle;
+use arc::ConstantAnswer;
+use arc::Refusal;
+use arc::Verdict;
 use whole::Counted;
 ghost use mathlib.Core.Path.{_≡_};
 ghost use Prim.Native.Nat.{_-_, _<_, _≤_};
@@ -65,12 +68,22 @@ fn covers_some(b: u64, zone: u64, south: u64, north: u64) -> bool
         if north < Circle::QUARTER {
             return false;
         }
-        return row_meets(b, zone - 1, less(south, Circle::QUARTER), north - Circle::QUARTER);
+        return row_meets(
+            b,
+            zone - 1,
+            less(south, Circle::QUARTER),
+            north - Circle::QUARTER,
+        );
     }
     if Circle::QUARTER <= south {
         return false;
     }
-    row_meets(b, zone - 10, less(Circle::QUARTER, north), Circle::QUARTER - south)
+    row_meets(
+        b,
+        zone - 10,
+        less(Circle::QUARTER, north),
+        Circle::QUARTER - south,
+    )
 }
 
 // The list, the edges counted from the South Pole.

@@ -44,7 +44,8 @@ record Answered (zone a b : ℕ) (lat lon : ℤ) (o : Origin) : Type 0 where
   pub lon-in : outside half lon ≡ false
   pub is-origin : originOf a b lat lon ≡ o
 
-answered : (zone a b : ℕ) (lat lon : ℤ) (o : Origin) → alignIn zone (SpacingAnswer.Constants a b) lat lon ≡ OriginAnswer.Aligned o → Answered zone a b lat lon o
+answered : (zone a b : ℕ) (lat lon : ℤ) (o : Origin) → alignIn zone (SpacingAnswer.Constants a b) lat lon ≡ OriginAnswer.Aligned o
+    → Answered zone a b lat lon o
 answered zone a b lat lon o e = go (isPolar zone) (outside quarter lat) (outside half lon) refl refl refl e
   where
     go : (p q t : Bool) → isPolar zone ≡ p → outside quarter lat ≡ q → outside half lon ≡ t

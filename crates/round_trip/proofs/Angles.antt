@@ -38,7 +38,9 @@ module _ (d : ℕ) (z : ℤ) where
   unfolding angleText
   length-angle = simp (length-append, length-digits) (omega arith)
 
-  joins : angleText d z ≡ joined (signByte z) (digits d (natAbs z / 360000)) (digits 2 (natAbs z / 6000 % 60)) (digits 2 (natAbs z / 100 % 60)) (digits 2 (natAbs z % 100))
+  joins : angleText d z
+      ≡ joined (signByte z) (digits d (natAbs z / 360000)) (digits 2 (natAbs z / 6000 % 60))
+      (digits 2 (natAbs z / 100 % 60)) (digits 2 (natAbs z % 100))
   unfolding angleText
   joins = refl
 
@@ -110,8 +112,12 @@ module _ (d limit : ℕ) (s : List ℕ) (long : length s ≡ d + 8) (is-laid : a
       let c = leb (angleSize d s) limit in
       let e = not (minus s && eqb (angleSize d s) 0) in
       let abc = and-l (a && b && c) e valid in
-      let ab = and-l (a && b) c abc in
-      (ltb-true (minutes d s) 60 (and-l a b ab), ltb-true (seconds d s) 60 (and-r a b ab), leb-true (angleSize d s) limit (and-r (a && b) c abc), and-r (a && b && c) e valid)
+      let ab = and-l (a && b) c abc in (
+        ltb-true (minutes d s) 60 (and-l a b ab),
+        ltb-true (seconds d s) 60 (and-r a b ab),
+        leb-true (angleSize d s) limit (and-r (a && b) c abc),
+        and-r (a && b && c) e valid,
+      )
 
   -- the size and the sign of the angle
   parted : (natAbs (angleOf d s) ≡ angleSize d s) × (signByte (angleOf d s) ≡ r .sign)
@@ -138,5 +144,6 @@ module _ (d limit : ℕ) (s : List ℕ) (long : length s ≡ d + 8) (is-laid : a
       again : {w : ℕ} {x : List ℕ} → Run w x → {v : ℕ} → v ≡ number x → digits w v ≡ x
       again {w} {x} q e = ap (digits w) e ∙ digits-number w x (q .long) (q .digit)
 
-      alike : {b b′ : ℕ} {d d′ m m′ s s′ h h′ : List ℕ} → b ≡ b′ → d ≡ d′ → m ≡ m′ → s ≡ s′ → h ≡ h′ → joined b d m s h ≡ joined b′ d′ m′ s′ h′
+      alike : {b b′ : ℕ} {d d′ m m′ s s′ h h′ : List ℕ} → b ≡ b′ → d ≡ d′ → m ≡ m′ → s ≡ s′ → h ≡ h′
+          → joined b d m s h ≡ joined b′ d′ m′ s′ h′
       alike p q r s t = cc

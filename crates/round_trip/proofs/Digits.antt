@@ -4,7 +4,8 @@ use mathlib.Core.Path.{_≡_, refl, ap, _∙_}
 use mathlib.Core.List.{List, [], _∷_}
 use mathlib.Core.Bool.{true}
 use Prim.Native.Nat.{ℕ, zero, suc, _+_, _*_, _-_, _/_, _%_, _^_, _≤_, _<_}
-use native.Mathlib.Nat.{pow-succ', zero-mul, zero-add, mul-one, add-mul, mul-assoc, mod-one, mod-lt, mod-eq-of-lt, one-le-pow, div-eq-of-lt-le, mul-le-mul-right, add-sub-cancel-left, mul-add-mod-self-right}
+use native.Mathlib.Nat.{pow-succ', zero-mul, zero-add, mul-one, add-mul, mul-assoc, mod-one, mod-lt, mod-eq-of-lt, one-le-pow}
+use native.Mathlib.Nat.{div-eq-of-lt-le, mul-le-mul-right, add-sub-cancel-left, mul-add-mod-self-right}
 use native.Mathlib.Omega.{arith}
 use lib.Arith.{mod-mul}
 use lib.Dec.{leb}

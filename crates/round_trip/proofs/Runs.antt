@@ -40,7 +40,8 @@ pub record Runs (n : ℕ) (t : List ℕ) : Type 0 where
 
 -- each run at its offset
 module _ {n : ℕ} {t : List ℕ} (r : Runs n t) where
-  run : (p x q : List ℕ) (o w : ℕ) → joined (r .sign) (r .d) (r .m) (r .s) (r .h) ≡ p ++ (x ++ q) → length p ≡ o → length x ≡ w → part o w t ≡ x
+  run : (p x q : List ℕ) (o w : ℕ) → joined (r .sign) (r .d) (r .m) (r .s) (r .h) ≡ p ++ (x ++ q)
+      → length p ≡ o → length x ≡ w → part o w t ≡ x
   run p x q o w e lp lx = rw (r .whole, e) (part-at p x q o w lp lx)
 
   degrees-at : part 1 n t ≡ r .d
@@ -53,7 +54,9 @@ module _ {n : ℕ} {t : List ℕ} (r : Runs n t) where
   seconds-at = run (r .sign ∷ r .d ++ r .m) (r .s) ((46 ∷ []) ++ r .h) (n + 3) 2 (simp append-assoc) (simp length-append (omega arith)) (r .s-run .long)
 
   hundredths-at : part (n + 6) 2 t ≡ r .h
-  hundredths-at = run (r .sign ∷ r .d ++ r .m ++ r .s ++ (46 ∷ [])) (r .h) [] (n + 6) 2 (rw (append-nil (r .h))) (simp length-append (omega arith)) (r .h-run .long)
+  hundredths-at =
+      run (r .sign ∷ r .d ++ r .m ++ r .s ++ (46 ∷ [])) (r .h) [] (n + 6) 2
+      (rw (append-nil (r .h))) (simp length-append (omega arith)) (r .h-run .long)
 
   whole-at : part 1 (n + 4) t ≡ r .d ++ r .m ++ r .s
   whole-at = run (r .sign ∷ []) (r .d ++ r .m ++ r .s) ((46 ∷ []) ++ r .h) 1 (n + 4) (simp append-assoc) refl (simp length-append (omega arith))

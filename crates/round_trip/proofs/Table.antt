@@ -62,10 +62,12 @@ pub data Along (P : Subfield → Value → Type 0) : List Subfield → List Valu
 
 -- the same, of arguments that the table tells
 infixr 5 _then_
-pub _then_ : {P : Subfield → Value → Type 0} {f : Subfield} {v : Value} {fs : List Subfield} {vs : List Value} → P f v → Along P fs vs → Along P (f ∷ fs) (v ∷ vs)
+pub _then_ : {P : Subfield → Value → Type 0} {f : Subfield} {v : Value} {fs : List Subfield} {vs : List Value}
+    → P f v → Along P fs vs → Along P (f ∷ fs) (v ∷ vs)
 p then a = next p a
 
-pub along-at : {P : Subfield → Value → Type 0} {fs : List Subfield} {vs : List Value} → Along P fs vs → (i : ℕ) → i < length fs → P (getD fs i STR) (getD vs i (counted 0))
+pub along-at : {P : Subfield → Value → Type 0} {fs : List Subfield} {vs : List Value} → Along P fs vs
+    → (i : ℕ) → i < length fs → P (getD fs i STR) (getD vs i (counted 0))
 along-at done i h = absurd (not-suc-le-zero h)
 along-at (next p a) zero h = p
 along-at (next p a) (suc i) h = along-at a i (le-of-suc-le-suc h)

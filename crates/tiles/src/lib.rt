@@ -15,10 +15,10 @@ pub use check::index_check;
 pub use look_up::bands;
 pub use look_up::stored_number;
 pub use look_up::tile;
-pub use scan::window;
 pub use parts::BandsParts;
 pub use parts::NumberParts;
 pub use parts::WindowParts;
+pub use scan::window;
 
 // The stored number of a tile, from 1.
 pub enum NumberAnswer {

@@ -73,13 +73,16 @@ module _ (k : ℕ) (hk : k < 2 ^ 32) where
       pub sum-is : toZ w64 (ofZ w64 (toZ w64 (ofZ w64 z) +ℤ toZ w64 k)) ≡ pos (raise k z)
       sum-is = toZ-ofZ w64 (toZ w64 (ofZ w64 z) +ℤ toZ w64 k) sum-fits ∙ plain
 
-      pub sum-casts : T (nonNeg (toZ w64 (ofZ w64 (toZ w64 (ofZ w64 z) +ℤ toZ w64 k)))) × Fits w64 (natAbs (toZ w64 (ofZ w64 (toZ w64 (ofZ w64 z) +ℤ toZ w64 k))))
+      pub sum-casts : T (nonNeg (toZ w64 (ofZ w64 (toZ w64 (ofZ w64 z) +ℤ toZ w64 k))))
+          × Fits w64 (natAbs (toZ w64 (ofZ w64 (toZ w64 (ofZ w64 z) +ℤ toZ w64 k))))
       sum-casts = casts (raise k z) sum-is (omega (arith, raise-high k z h))
 
 -- ---- the size of z, as (0 − (z + 1)) + 1 where z is negative
 up-is : (z : ℤ) → ltZ z (pos 0) ≡ true → Is (z +ℤ pos 1) 1 (natAbs z)
 up-is (pos n) t = absurd (omega (arith, ltb-true n 0 t))
-up-is (negsuc n) t = is-same (negsuc n +ℤ pos 1) (0 + 1) (suc n + 0) 1 (suc n) (is-add (negsuc n) (pos 1) 0 (suc n) 1 0 (omega arith) (is-nat 1)) (omega arith)
+up-is (negsuc n) t =
+    is-same (negsuc n +ℤ pos 1) (0 + 1) (suc n + 0) 1 (suc n)
+    (is-add (negsuc n) (pos 1) 0 (suc n) 1 0 (omega arith) (is-nat 1)) (omega arith)
 
 pub size-fits : (z : ℤ) → SFits w64 z → natAbs z ≤ 2 ^ 63
 size-fits (pos n) f = omega (arith, f .sfits)
@@ -103,7 +106,8 @@ module _ (z : ℤ) (fz : SFits w64 z) where
     down-is : Is (pos 0 -ℤ toZ w64 (ofZ w64 (toZ w64 (ofZ w64 z) +ℤ pos 1))) (natAbs z) 1
     down-is =
         rw (toZ-ofZ w64 (toZ w64 (ofZ w64 z) +ℤ pos 1) up-fits, toZ-ofZ w64 z fz)
-        (is-same (pos 0 -ℤ (z +ℤ pos 1)) (0 + natAbs z) (0 + 1) (natAbs z) 1 (is-minus (pos 0) (z +ℤ pos 1) 0 0 1 (natAbs z) (is-nat 0) (up-is z negative)) (omega arith))
+        (is-same (pos 0 -ℤ (z +ℤ pos 1)) (0 + natAbs z) (0 + 1) (natAbs z) 1
+        (is-minus (pos 0) (z +ℤ pos 1) 0 0 1 (natAbs z) (is-nat 0) (up-is z negative)) (omega arith))
 
     plain-down : pos 0 -ℤ toZ w64 (ofZ w64 (toZ w64 (ofZ w64 z) +ℤ pos 1)) ≡ pos (natAbs z - 1)
     plain-down = is-pos (pos 0 -ℤ toZ w64 (ofZ w64 (toZ w64 (ofZ w64 z) +ℤ pos 1))) (natAbs z) 1 down-is some
@@ -115,7 +119,10 @@ module _ (z : ℤ) (fz : SFits w64 z) where
     down-held = toZ-ofZ w64 (pos 0 -ℤ toZ w64 (ofZ w64 (toZ w64 (ofZ w64 z) +ℤ pos 1))) down-fits ∙ plain-down
 
     pub size-sum : natAbs (toZ w64 (ofZ w64 (pos 0 -ℤ toZ w64 (ofZ w64 (toZ w64 (ofZ w64 z) +ℤ pos 1))))) + 1 ≡ natAbs z
-    size-sum = let e : natAbs (toZ w64 (ofZ w64 (pos 0 -ℤ toZ w64 (ofZ w64 (toZ w64 (ofZ w64 z) +ℤ pos 1))))) ≡ natAbs z - 1 = ap natAbs down-held in omega (arith, some)
+    size-sum =
+        let e : natAbs (toZ w64 (ofZ w64 (pos 0 -ℤ toZ w64 (ofZ w64 (toZ w64 (ofZ w64 z) +ℤ pos 1))))) ≡ natAbs z - 1 =
+        ap natAbs down-held in
+        omega (arith, some)
 
   pub whole-held : ltZ (toZ w64 (ofZ w64 z)) (pos 0) ≡ false → toZ w64 (ofZ w64 z) ≡ pos (natAbs z)
   whole-held t = toZ-ofZ w64 z fz ∙ go z (rw (toZ-ofZ w64 z fz) at t)

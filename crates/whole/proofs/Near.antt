@@ -2,7 +2,8 @@
 -- From a spacing to a finer one and back is the same number again. Assumes nothing.
 use mathlib.Core.Path.{_≡_, sym, ap, _∙_}
 use Prim.Native.Nat.{ℕ, _+_, _*_, _/_, _%_, _≤_, _<_}
-use native.Mathlib.Nat.{add-mul, mul-assoc, mul-left-comm, add-mul-mod-self-right, div-eq-of-lt-le, div-add-mod', lt-div-mul-add, div-mul-le-self, lt-of-mul-lt-mul-right}
+use native.Mathlib.Nat.{add-mul, mul-assoc, mul-left-comm, add-mul-mod-self-right, div-eq-of-lt-le, div-add-mod', lt-div-mul-add}
+use native.Mathlib.Nat.{div-mul-le-self, lt-of-mul-lt-mul-right}
 use native.Mathlib.Omega.{arith}
 use lib.IntN.{ℤ, pos, _+ℤ_, _*ℤ_}
 use Rattle.whole.specs.Whole.{nearest, near}
@@ -54,4 +55,6 @@ round-trip d e hd finer v =
 pub near-modulo : (a d : ℕ) → 0 < d → (x : ℕ) → near (x % (a * d)) d % a ≡ near x d % a
 near-modulo a d h x =
     sym (add-mul-mod-self-right (near (x % (a * d)) d) (x / (a * d)) a)
-    ∙ ap (λ (n : ℕ). n % a) (sym (near-shift d h (x % (a * d)) (x / (a * d) * a)) ∙ ap (λ (n : ℕ). near n d) (omega (arith, div-add-mod' x (a * d), mul-assoc (x / (a * d)) a d)))
+    ∙ ap (λ (n : ℕ). n % a)
+    (sym (near-shift d h (x % (a * d)) (x / (a * d) * a))
+    ∙ ap (λ (n : ℕ). near n d) (omega (arith, div-add-mod' x (a * d), mul-assoc (x / (a * d)) a d)))

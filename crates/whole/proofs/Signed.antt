@@ -3,7 +3,8 @@
 use mathlib.Core.Path.{_≡_, refl, sym, ap, _∙_, subst}
 use mathlib.Core.Bool.{Bool, true, false, cond, not, _||_}
 use Prim.Native.Nat.{ℕ, zero, suc, _+_, _-_, _*_, _/_, _%_, _≤_, _<_}
-use native.Mathlib.Nat.{add-mul, mul-add, add-mul-div-right, div-eq-of-lt-le, div-add-mod', suc-mul, add-zero, lt-div-mul-add, div-mul-le-self, lt-of-mul-lt-mul-right}
+use native.Mathlib.Nat.{add-mul, mul-add, add-mul-div-right, div-eq-of-lt-le, div-add-mod', suc-mul, add-zero, lt-div-mul-add}
+use native.Mathlib.Nat.{div-mul-le-self, lt-of-mul-lt-mul-right}
 use native.Mathlib.Omega.{arith}
 use borrow.Author.Tests.{ltb-false, ltb-true, le-ltb, lt-ltb}
 use lib.Dec.{T, ltb, ltb→lt, nltb→le, leb→le, le→leb}

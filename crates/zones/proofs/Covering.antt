@@ -68,7 +68,8 @@ module _ (b j : ℕ) (h : j < 9) where
     unfolding covers
     covers-is =
         ap (coversIn b lat (firstZone lat + j)) row-of
-        ∙ ap (λ (t : Bool). t && (holds (rowAt j) (natAbs lat) || overlaps b (rowAt j) (natAbs lat))) (eq-eqb (firstZone lat + j) (zoneOn lat (rowAt j)) (sym zone-on))
+        ∙ ap (λ (t : Bool). t && (holds (rowAt j) (natAbs lat) || overlaps b (rowAt j) (natAbs lat)))
+        (eq-eqb (firstZone lat + j) (zoneOn lat (rowAt j)) (sym zone-on))
         ∙ row-covers (natAbs lat)
 
 -- the basic zone by its row's place
@@ -90,13 +91,13 @@ cover-is b lat =
     let e : basicZone lat - first ≡ i = omega (arith, basic-is lat) in
     ap₂ (λ (z n : ℕ). z ∷ those (covers b lat) (downFrom first n)) (basic-is lat) e
     ∙ ap (λ (l : List ℕ). (first + i) ∷ l)
-      (those-same (covers b lat) (within b first (natAbs lat)) first i
-      (λ k h.
-        let r : first + k - first ≡ k = omega arith in
-        let s : from (rowAt k) ≤ natAbs lat = omega (arith, to-from k i h (p .in-list), from-to k (omega (arith, p .in-list)), p .low) in
-        covers-is b k (omega (arith, p .in-list)) lat
-        ∙ ap (λ (t : Bool). t && reaches b (rowAt k) (natAbs lat)) (le-leb (from (rowAt k)) (natAbs lat) s)
-        ∙ ap (λ (m : ℕ). reaches b (rowAt m) (natAbs lat)) (sym r)))
+    (those-same (covers b lat) (within b first (natAbs lat)) first i
+    (λ k h.
+    let r : first + k - first ≡ k = omega arith in
+    let s : from (rowAt k) ≤ natAbs lat = omega (arith, to-from k i h (p .in-list), from-to k (omega (arith, p .in-list)), p .low) in
+    covers-is b k (omega (arith, p .in-list)) lat
+    ∙ ap (λ (t : Bool). t && reaches b (rowAt k) (natAbs lat)) (le-leb (from (rowAt k)) (natAbs lat) s)
+    ∙ ap (λ (m : ℕ). reaches b (rowAt m) (natAbs lat)) (sym r)))
 
 pub first-small : (lat : ℤ) → firstZone lat ≤ 10
 first-small lat = go (ltZ lat (pos 0))

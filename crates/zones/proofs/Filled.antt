@@ -33,7 +33,8 @@ module _ (f : ℕ → Bool) (k : ℕ) (whole rest slots : List ℕ) (n z : ℕ) 
         so = w .so ++ (z ∷ []);
         joined = append-snoc (w .so) z (those f rest) ∙ ap (λ (b : Bool). w .so ++ cond b (z ∷ those f rest) (those f rest)) (sym t) ∙ w .joined;
         filled = rw (w .filled, w .count) (padded-set k (w .so) z (omega (arith, w .count)));
-        count = omega (arith, length-append (w .so) (z ∷ []), w .count) }
+        count = omega (arith, length-append (w .so) (z ∷ []), w .count);
+      }
 
   pub passed : f z ≡ false → Sofar f k whole rest slots n
   passed t =
@@ -41,14 +42,17 @@ module _ (f : ℕ → Bool) (k : ℕ) (whole rest slots : List ℕ) (n z : ℕ) 
         so = w .so;
         joined = ap (λ (b : Bool). w .so ++ cond b (z ∷ those f rest) (those f rest)) (sym t) ∙ w .joined;
         filled = w .filled;
-        count = w .count }
+        count = w .count;
+      }
 
 -- the slots taken are no more than the whole list
-pub count-le : (f : ℕ → Bool) (k : ℕ) (whole rest slots : List ℕ) (n : ℕ) → Sofar f k whole rest slots n → n + length (those f rest) ≡ length whole
+pub count-le : (f : ℕ → Bool) (k : ℕ) (whole rest slots : List ℕ) (n : ℕ) → Sofar f k whole rest slots n
+    → n + length (those f rest) ≡ length whole
 count-le f k whole rest slots n w = omega (arith, length-append (w .so) (those f rest), ap length (w .joined), w .count)
 
 -- nothing more to come
-pub finished : (f : ℕ → Bool) (k : ℕ) (whole rest slots : List ℕ) (n : ℕ) → Sofar f k whole rest slots n → those f rest ≡ [] → (slots ≡ padded k whole) × (n ≡ length whole)
+pub finished : (f : ℕ → Bool) (k : ℕ) (whole rest slots : List ℕ) (n : ℕ) → Sofar f k whole rest slots n → those f rest ≡ []
+    → (slots ≡ padded k whole) × (n ≡ length whole)
 finished f k whole rest slots n w e =
     let s : w .so ≡ whole = sym (append-nil (w .so)) ∙ ap (λ (l : List ℕ). w .so ++ l) (sym e) ∙ w .joined in
     (w .filled ∙ ap (padded k) s, w .count ∙ ap length s)

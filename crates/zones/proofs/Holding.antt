@@ -77,4 +77,10 @@ module _ (size : ℕ) where
           record { at = 0; in-list = omega arith; is = rw x; low = starts r e (p .0) h; high = inl (ltb-true size (to r) x) }
       go false x f =
           let w = f (ltb-false size (to r) x) in
-          record { at = suc (w .at); in-list = omega (arith, w .in-list); is = rw x (w .is); low = w .low; high = ⊎-map (λ k. k) (λ k. omega arith) (w .high) }
+          record {
+            at = suc (w .at);
+            in-list = omega (arith, w .in-list);
+            is = rw x (w .is);
+            low = w .low;
+            high = ⊎-map (λ k. k) (λ k. omega arith) (w .high);
+          }

@@ -60,6 +60,7 @@ module _ (b first i size : ℕ) (g : Rowed b first i size) (j : ℕ) (h : j < i)
     where
       l : (size - to (rowAt j)) * b < 1024 * circle
       l = ltb-true ((size - to (rowAt j)) * b) (1024 * circle) (sym reaches-is ∙ t)
+
       go : (x : Bool) → ltb i (j + 6) ≡ x → i < j + 6
       go true e = ltb-true i (j + 6) e
       go false e =
@@ -87,7 +88,8 @@ fades b first i size g j h t (suc n) k =
 abbrev pub within : ℕ → ℕ → ℕ → ℕ → Bool
 within b first size zone = reaches b (rowAt (zone - first)) size
 
-module _ (b first i size : ℕ) (g : Rowed b first i size) (left : ℕ) (some : 0 < left) (most : left ≤ i) (limit : ℕ) (is : limit ≡ to (rowAt (left - 1))) where
+module _ (b first i size : ℕ) (g : Rowed b first i size) (left : ℕ) (some : 0 < left) (most : left ≤ i)
+    (limit : ℕ) (is : limit ≡ to (rowAt (left - 1))) where
   pub limit-low : limit ≤ size
   limit-low = omega (arith, ends b first i size g (left - 1) (omega arith))
 
@@ -97,7 +99,8 @@ module _ (b first i size : ℕ) (g : Rowed b first i size) (left : ℕ) (some : 
       rw (is, e) (sym (reaches-is b first i size g (left - 1) (omega arith)))
 
   -- it covers: the next slot is one of the six
-  module _ (slots : List ℕ) (n : ℕ) (c : n + left ≡ i + 1) (w : Sofar (within b first size) 6 (coverFrom b first i size) (downFrom first left) slots n) where
+  module _ (slots : List ℕ) (n : ℕ) (c : n + left ≡ i + 1)
+      (w : Sofar (within b first size) 6 (coverFrom b first i size) (downFrom first left) slots n) where
     pub took : (size - limit) * b < 1024 * circle
         → (n < 6) × Sofar (within b first size) 6 (coverFrom b first i size) (downFrom first (left - 1)) (set slots n (first + (left - 1))) (n + 1)
     took t =
@@ -105,10 +108,11 @@ module _ (b first i size : ℕ) (g : Rowed b first i size) (left : ℕ) (some : 
         let y : within b first size (first + (left - 1)) ≡ true = sym test ∙ lt-ltb _ _ t in
         let x : reaches b (rowAt (left - 1)) size ≡ true = ap (λ (k : ℕ). reaches b (rowAt k) size) (sym e) ∙ y in
         let l : n < 6 = omega (arith, near-enough b first i size g (left - 1) (omega arith) x) in
-        let s : left ≡ suc (left - 1) = omega arith in
-        ( l
-        , taken (within b first size) 6 (coverFrom b first i size) (downFrom first (left - 1)) slots n (first + (left - 1))
-          (subst (λ (k : ℕ). Sofar (within b first size) 6 (coverFrom b first i size) (downFrom first k) slots n) s w) y l )
+        let s : left ≡ suc (left - 1) = omega arith in (
+          l,
+          taken (within b first size) 6 (coverFrom b first i size) (downFrom first (left - 1)) slots n (first + (left - 1))
+              (subst (λ (k : ℕ). Sofar (within b first size) 6 (coverFrom b first i size) (downFrom first k) slots n) s w) y l,
+        )
 
   pub stopped : 1024 * circle ≤ (size - limit) * b → those (within b first size) (downFrom first left) ≡ []
   stopped t =

@@ -73,5 +73,6 @@ northern-is size = ap (λ (r : Row). r .northern) (is-place size) ∙ northern-a
 
 pub southern-is : (size : ℕ) → rowHolding size .southern ≡ rowHolding size .northern + 9
 southern-is size =
-    let e : rowHolding size .southern ≡ 10 + place size .at = ap (λ (r : Row). r .southern) (is-place size) ∙ southern-at (place size .at) (place size .in-list) in
+    let e : rowHolding size .southern ≡ 10 + place size .at =
+    ap (λ (r : Row). r .southern) (is-place size) ∙ southern-at (place size .at) (place size .in-list) in
     omega (arith, northern-is size)

@@ -24,7 +24,8 @@ module _ (b first i size : ℕ) (g : Rowed b first i size) where
   few (suc n) h = go (within b first size (first + n)) refl (few n (omega arith))
     where
       go : (t : Bool) → within b first size (first + n) ≡ t → length (those (within b first size) (downFrom first n)) ≤ n - (i - 5)
-          → length (cond t ((first + n) ∷ those (within b first size) (downFrom first n)) (those (within b first size) (downFrom first n))) ≤ suc n - (i - 5)
+          → length (cond t ((first + n) ∷ those (within b first size) (downFrom first n)) (those (within b first size) (downFrom first n)))
+          ≤ suc n - (i - 5)
       go true e r =
           let k : first + n - first ≡ n = omega arith in
           omega (arith, near-enough b first i size g n h (ap (λ (m : ℕ). reaches b (rowAt m) size) (sym k) ∙ e))
@@ -45,4 +46,5 @@ six-at-most s g lat e =
       zone = first-small lat;
       in-table = p .in-list;
       low = p .low;
-      high = outsides quarter lat .0 e }))
+      high = outsides quarter lat .0 e;
+    }))

@@ -1,5 +1,17 @@
 // Which zones hold or cover a latitude, or a rectangle (001, 3.3.3).
-use arc::{Circle, ConstantAnswer, Refusal, Verdict, Zone1, Zone2, Zone3, Zone4, Zone5, Zone6, Zone7, Zone8, Zone9};
+use arc::Circle;
+use arc::ConstantAnswer;
+use arc::Refusal;
+use arc::Verdict;
+use arc::Zone1;
+use arc::Zone2;
+use arc::Zone3;
+use arc::Zone4;
+use arc::Zone5;
+use arc::Zone6;
+use arc::Zone7;
+use arc::Zone8;
+use arc::Zone9;
 ghost use mathlib.Core.Path.{_≡_};
 ghost use Prim.Native.Nat.{_+_, _-_, _*_, _<_, _≤_};
 ghost use lib.IntN.{ℤ, pos, natAbs};

@@ -30,11 +30,20 @@ enum-known-r c = search needs
 
 returns-2 : tie.Need-returns-2
 returns-2 c =
-    rw (sym (c .before .before .before .before .before .before .is-scale .ensures) ∙ not-false _ (c .before .before .before .before .before .if1 .left), sym (c .before .before .before .columns .ensures) ∙ c .before .a .given .1)
+    rw (
+      sym (c .before .before .before .before .before .before .is-scale .ensures)
+          ∙ not-false _ (c .before .before .before .before .before .if1 .left),
+      sym (c .before .before .before .columns .ensures) ∙ c .before .a .given .1,
+    )
     (ap (SpacingAnswer.Constants (c .before .a .given .0 .0)) (c .before .before .before .before .rows .ensures))
 
 returns-3 : tie.Need-returns-3
-returns-3 c = rw (sym (c .before .before .before .before .before .before .is-scale .ensures) ∙ not-false _ (c .before .before .before .before .before .if1 .left), sym (c .before .before .before .columns .ensures) ∙ c .before .r .given .1)
+returns-3 c =
+    rw (
+      sym (c .before .before .before .before .before .before .is-scale .ensures)
+          ∙ not-false _ (c .before .before .before .before .before .if1 .left),
+      sym (c .before .before .before .columns .ensures) ∙ c .before .r .given .1,
+    )
 
 pub spacing-spec : {M : Type 1} → statement M
 spacing-spec =

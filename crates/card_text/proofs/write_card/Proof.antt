@@ -15,7 +15,9 @@ enum-known-a c = search needs
 write-spaced-requires : tie.Need-write-spaced-requires
 write-spaced-requires c κs =
     let s = c .before .before .before .before .before .before in
-    let g = answered-grids (s .args .scale) (s .args .zone) _ _ (sym (c .before .before .before .before .spacing .ensures) ∙ c .before .before .a .given .1) in
+    let g =
+    answered-grids (s .args .scale) (s .args .zone) _ _
+    (sym (c .before .before .before .before .spacing .ensures) ∙ c .before .before .a .given .1) in
     (g .columns, g .rows)
 
 enum-known-e : tie.Need-enum-known-e
@@ -26,7 +28,9 @@ same-length c = search needs
 
 returns : tie.Need-returns
 unfolding writeOf outOf
-returns c = rw (sym (c .before .before .before .before .before .before .before .spacing .ensures) ∙ c .before .before .before .before .before .a .given .1) (c .before .before .write-spaced .ensures)
+returns c =
+    rw (sym (c .before .before .before .before .before .before .before .spacing .ensures) ∙ c .before .before .before .before .before .a .given .1)
+    (c .before .before .write-spaced .ensures)
 
 returns-2 : tie.Need-returns-2
 unfolding writeOf outOf

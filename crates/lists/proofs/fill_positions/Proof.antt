@@ -46,7 +46,12 @@ put-pair-requires c κs =
     (omega (arith, c .before .before .before .before .before .before .before .before .before .loop-test .taken))
 
 add-i : tie.Need-add-i Inv-loop μ-loop
-add-i c = omega (arith, c .before .before .before .before .before .before .before .before .before .before .before .before .before .loop-test .taken, c .before .before .before .before .before .before .before .before .before .before .before .before .before .before .before .before .good)
+add-i c =
+    omega (
+      arith,
+      c .before .before .before .before .before .before .before .before .before .before .before .before .before .loop-test .taken,
+      c .before .before .before .before .before .before .before .before .before .before .before .before .before .before .before .before .good,
+    )
 
 loop-less : tie.Need-loop-less Inv-loop μ-loop
 loop-less c = omega (arith, c .before .before .before .before .before .before .before .before .before .before .before .before .before .loop-test .taken)
@@ -65,9 +70,11 @@ loop-again c =
     (toZ-ofZ w64 (x .second) (record { sfits = d .before .before .struct-told2 .given .1 .0 .1 })) in
     let told : positionTold p ≡ reports s (l .loop .i) =
     d .into-parts .ensures
-    ∙ ap positionReport (asked ∙ ap (λ (y : Pair). positionOf (s .args .e .card) (y .first) (y .second)) (d .before .before .before .before .pair-at .ensures)) in
+    ∙ ap positionReport
+    (asked ∙ ap (λ (y : Pair). positionOf (s .args .e .card) (y .first) (y .second)) (d .before .before .before .before .pair-at .ensures)) in
     rw (c .before .before .before .put-pair .ensures .0, c .before .before .before .put-pair .ensures .1)
-    (filled-next (reports s) (two s) (length (s .args .pixels .now)) (s .pre .1) (l .loop .inv) (omega (arith, d .before .before .before .before .before .loop-test .taken))
+    (filled-next (reports s) (two s) (length (s .args .pixels .now)) (s .pre .1) (l .loop .inv)
+    (omega (arith, d .before .before .before .before .before .loop-test .taken))
     (p .lat) (p .lon) (p .number)
     (record { sfits = c .before .before .before .before .before .struct-told3 .given .1 .1 .0 .1 })
     (record { sfits = c .before .before .before .before .struct-told4 .given .1 .1 .1 .0 .1 })

@@ -22,9 +22,10 @@ engine-of-requires : tie.Need-engine-of-requires
 engine-of-requires c κs = search needs
 
 fill-positions-requires : tie.Need-fill-positions-requires
-fill-positions-requires c κs =
-    (engine-made (c .before .before .before .before .before .before .pre) (c .before .before .engine-of .ensures),
-    sym (c .before .before .before .before .lists-fit .ensures) ∙ not-false _ (c .before .before .before .if1 .left))
+fill-positions-requires c κs = (
+  engine-made (c .before .before .before .before .before .before .pre) (c .before .before .engine-of .ensures),
+  sym (c .before .before .before .before .lists-fit .ensures) ∙ not-false _ (c .before .before .before .if1 .left),
+)
 
 same-length : tie.Need-same-length
 same-length c = search needs
@@ -34,7 +35,9 @@ same-length-2 c = search needs
 
 returns-2 : tie.Need-returns-2
 returns-2 c =
-    let f = sym (c .before .before .before .before .before .before .before .before .lists-fit .ensures) ∙ not-false _ (c .before .before .before .before .before .before .before .if1 .left) in
+    let f =
+    sym (c .before .before .before .before .before .before .before .before .lists-fit .ensures)
+    ∙ not-false _ (c .before .before .before .before .before .before .before .if1 .left) in
     let card = engine-card (c .before .before .before .before .before .before .engine-of .ensures) in
     (rw f refl, (rw card at (c .before .before .before .fill-positions .ensures .0), rw card at (c .before .before .before .fill-positions .ensures .1)))
 

@@ -10,7 +10,8 @@ use Rattle.origin.proofs.align.Statement.{statement}
 use Rattle.origin.proofs.align.Tie as tie
 
 spaced : (c : tie.After-known-told)
-    → spacingOf (c .before .before .before .before .args .scale) (c .before .before .before .before .args .zone) ≡ SpacingAnswer.Constants (c .before .a .given .0 .0) (c .before .a .given .0 .1 .0)
+    → spacingOf (c .before .before .before .before .args .scale) (c .before .before .before .before .args .zone)
+    ≡ SpacingAnswer.Constants (c .before .a .given .0 .0) (c .before .a .given .0 .1 .0)
 spaced c = sym (c .before .before .before .spacing .ensures) ∙ c .before .a .given .1
 
 spacing-requires : tie.Need-spacing-requires

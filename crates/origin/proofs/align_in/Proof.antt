@@ -14,7 +14,8 @@ lat-inside c =
     let s = c .before .before .before .before .before in
     counted-from quarter (s .args .lat) (s .fits .lat) (c .before .before .before .count-from .ensures) (c .before .north .given .1)
 
-lon-inside : (c : tie.After-known-told2) → Inside half (c .before .before .before .before .before .before .before .before .before .args .lon) (c .before .east .given .0 .0)
+lon-inside : (c : tie.After-known-told2)
+    → Inside half (c .before .before .before .before .before .before .before .before .before .args .lon) (c .before .east .given .0 .0)
 lon-inside c =
     let s = c .before .before .before .before .before .before .before .before .before in
     counted-from half (s .args .lon) (s .fits .lon) (c .before .before .before .count-from2 .ensures) (c .before .east .given .1)
@@ -59,7 +60,12 @@ returns-3 : tie.Need-returns-3
 returns-3 c =
     let s = c .before .before .before .before .before .before .before .before .before in
     let out = counted-outside half (s .args .lon) (s .fits .lon) (c .before .before .before .count-from2 .ensures) (c .before .enum-told2 .given .1) in
-    rw (c .before .before .before .before .before .before .before .before .if1 .left, lat-inside (c .before .before .before .before) .test, out) (ap OriginAnswer.Refused (c .refused3 .ensures))
+    rw (
+      c .before .before .before .before .before .before .before .before .if1 .left,
+      lat-inside (c .before .before .before .before) .test,
+      out,
+    )
+    (ap OriginAnswer.Refused (c .refused3 .ensures))
 
 origin-at-requires : tie.Need-origin-at-requires
 origin-at-requires c κs =

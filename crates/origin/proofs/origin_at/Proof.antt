@@ -82,7 +82,11 @@ difference-requires-3 : tie.Need-difference-requires-3
 difference-requires-3 c κs = search needs
 
 cast-difference-6 : tie.Need-cast-difference-6
-cast-difference-6 c = omega (arith, stored-high (columns (c .before .before .before .before .before)) _ (columns-high (c .before .before .before .before .before)))
+cast-difference-6 c =
+    omega (
+      arith,
+      stored-high (columns (c .before .before .before .before .before)) _ (columns-high (c .before .before .before .before .before)),
+    )
 
 difference-requires-4 : tie.Need-difference-requires-4
 difference-requires-4 c κs = search needs

@@ -42,7 +42,11 @@ loop-less c =
     let p = c .before .before .before in
     let g = p .before .before .before .loop in
     let a = p .before .before .before .before .before .args in
-    omega (arith, next-further (a .k) (a .input .now) (g .at) (replicate 64 0) (p .pixel-line .ensures .0) (g .inv) (p .before .before .loop-test .taken) (omega arith))
+    omega (
+      arith,
+      next-further (a .k) (a .input .now) (g .at) (replicate 64 0) (p .pixel-line .ensures .0) (g .inv)
+          (p .before .before .loop-test .taken) (omega arith),
+    )
 
 loop-again : tie.Need-loop-again Inv-loop μ-loop
 loop-again c = c .before .before .before .before .before .before .loop .inv

@@ -5,7 +5,8 @@ use Rattle.printing.proofs.Served.{IsServed, is-served, line-served, li
 use Rattle.printing.proofs.pixel_line.Statement.{statement}
 use Rattle.printing.proofs.pixel_line.Tie as tie
 
-known : (c : tie.Then1) → IsServed (c .before .before .before .args .input .now) (c .before .before .before .args .at) (c .before .before .before .args .out .now)
+known : (c : tie.Then1)
+    → IsServed (c .before .before .before .args .input .now) (c .before .before .before .args .at) (c .before .before .before .args .out .now)
 known c = is-served _ _ _ (c .if1 .taken)
 
 until-requires : tie.Need-until-requires

@@ -33,7 +33,8 @@ returns-2 c =
     rw e
     (c .row-meets .ensures
     ∙ ap (λ (n : ℕ). meets (a .b) (rowAt j) n (a .north - quarter)) (c .before .less .ensures)
-    ∙ sym (north-is (a .b) j (omega (arith, c .before .before .before .if1 .taken)) (a .south) (a .north) (c .before .before .before .before .pre .order) (c .before .before .if2 .left)))
+    ∙ sym (north-is (a .b) j (omega (arith, c .before .before .before .if1 .taken)) (a .south) (a .north)
+    (c .before .before .before .before .pre .order) (c .before .before .if2 .left)))
 
 returns-3 : tie.Need-returns-3
 returns-3 c =
@@ -62,7 +63,8 @@ returns-4 c =
     rw e
     (c .row-meets2 .ensures
     ∙ ap (λ (n : ℕ). meets (a .b) (rowAt j) n (quarter - a .south)) (c .before .less2 .ensures)
-    ∙ sym (south-is (a .b) j (omega (arith, c .before .before .before .before .pre .last-zone)) (a .south) (a .north) (c .before .before .before .before .pre .order) (c .before .before .if3 .left)))
+    ∙ sym (south-is (a .b) j (omega (arith, c .before .before .before .before .pre .last-zone)) (a .south) (a .north)
+    (c .before .before .before .before .pre .order) (c .before .before .if3 .left)))
 
 pub covers-some-spec : {M : Type 1} → statement M
 covers-some-spec =

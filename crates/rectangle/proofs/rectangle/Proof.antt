@@ -15,7 +15,9 @@ enum-known-b : tie.Need-enum-known-b
 enum-known-b c = search needs
 
 rectangle-at-requires : tie.Need-rectangle-at-requires
-rectangle-at-requires c κs = rows-of (c .before .before .before .before .args .scale) _ (sym (c .before .before .before .b-constant .ensures) ∙ c .before .b .given .1)
+rectangle-at-requires c κs =
+    rows-of (c .before .before .before .before .args .scale) _
+    (sym (c .before .before .before .b-constant .ensures) ∙ c .before .b .given .1)
 
 enum-known-r : tie.Need-enum-known-r
 enum-known-r c = search needs
@@ -26,7 +28,9 @@ no-rectangle-requires c κs = search needs
 returns : tie.Need-returns
 returns c = let s = c .before .before .before .before .before in
     rw (sym (c .before .before .before .before .b-constant .ensures) ∙ c .before .before .b .given .1)
-    (c .rectangle-at .ensures ∙ ap₂ (rectangleAt (c .before .before .b .given .0 .0)) (toZ-ofZ w64 (s .args .south) (s .fits .south)) (toZ-ofZ w64 (s .args .north) (s .fits .north)))
+    (c .rectangle-at .ensures
+    ∙ ap₂ (rectangleAt (c .before .before .b .given .0 .0))
+    (toZ-ofZ w64 (s .args .south) (s .fits .south)) (toZ-ofZ w64 (s .args .north) (s .fits .north)))
 
 returns-2 : tie.Need-returns-2
 returns-2 c = rw (sym (c .before .before .before .before .b-constant .ensures) ∙ c .before .before .r .given .1) (c .no-rectangle .ensures)

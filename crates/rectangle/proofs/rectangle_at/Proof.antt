@@ -24,14 +24,21 @@ no-rectangle-requires : tie.Need-no-rectangle-requires
 no-rectangle-requires c κs = search needs
 
 south-in : (c : tie.After-known-told) → Inside quarter (c .before .before .before .before .args .south) (c .before .s .given .0 .0)
-south-in c = let s = c .before .before .before .before in counted-from quarter (s .args .south) (s .fits .south) (c .before .before .before .count-from .ensures) (c .before .s .given .1)
+south-in c =
+    let s = c .before .before .before .before in
+    counted-from quarter (s .args .south) (s .fits .south) (c .before .before .before .count-from .ensures) (c .before .s .given .1)
 
-north-in : (c : tie.After-known-told2) → Inside quarter (c .before .before .before .before .before .before .before .before .args .north) (c .before .n .given .0 .0)
-north-in c = let s = c .before .before .before .before .before .before .before .before in counted-from quarter (s .args .north) (s .fits .north) (c .before .before .before .count-from2 .ensures) (c .before .n .given .1)
+north-in : (c : tie.After-known-told2)
+    → Inside quarter (c .before .before .before .before .before .before .before .before .args .north) (c .before .n .given .0 .0)
+north-in c =
+    let s = c .before .before .before .before .before .before .before .before in
+    counted-from quarter (s .args .north) (s .fits .north) (c .before .before .before .count-from2 .ensures) (c .before .n .given .1)
 
 returns : tie.Need-returns
 returns c = let s = c .before .before .before .before .before in
-    let out = counted-outside quarter (s .args .south) (s .fits .south) (c .before .before .before .before .count-from .ensures) (c .before .before .enum-told .given .1) in
+    let out =
+    counted-outside quarter (s .args .south) (s .fits .south) (c .before .before .before .before .count-from .ensures)
+    (c .before .before .enum-told .given .1) in
     rw out (c .no-rectangle .ensures ∙ ap refusedRectangle (c .before .refused .ensures))
 
 count-from-requires-2 : tie.Need-count-from-requires-2
@@ -51,7 +58,9 @@ no-rectangle-requires-2 c κs = search needs
 
 returns-2 : tie.Need-returns-2
 returns-2 c = let s = c .before .before .before .before .before .before .before .before .before in
-    let out = counted-outside quarter (s .args .north) (s .fits .north) (c .before .before .before .before .count-from2 .ensures) (c .before .before .enum-told2 .given .1) in
+    let out =
+    counted-outside quarter (s .args .north) (s .fits .north) (c .before .before .before .before .count-from2 .ensures)
+    (c .before .before .enum-told2 .given .1) in
     rw (south-in (c .before .before .before .before .before) .test, out) (c .no-rectangle2 .ensures ∙ ap refusedRectangle (c .before .refused2 .ensures))
 
 refused-requires-3 : tie.Need-refused-requires-3
@@ -64,7 +73,8 @@ returns-3 : tie.Need-returns-3
 returns-3 c =
     let p = south-in (c .before .before .before .before .before .before .before) in
     let q = north-in (c .before .before .before) in
-    rw (p .test, q .test, counted-lt quarter q p (c .before .before .if1 .taken)) (c .no-rectangle3 .ensures ∙ ap refusedRectangle (c .before .refused3 .ensures))
+    rw (p .test, q .test, counted-lt quarter q p (c .before .before .if1 .taken))
+    (c .no-rectangle3 .ensures ∙ ap refusedRectangle (c .before .refused3 .ensures))
 
 zones-of-requires : tie.Need-zones-of-requires
 zones-of-requires c κs = (c .before .before .before .before .before .before .before .before .before .pre, (c .if1 .left, north-in (c .before) .high))

@@ -31,19 +31,30 @@ returns-2 : tie.Need-returns-2
 unfolding meets
 returns-2 c =
     let a = c .before .before .before .before .args in
-    rw (sym (c .before .before .before .equatorward .ensures), le-leb _ _ (c .before .if1 .left), sooner (a .low) (a .row) _ (c .before .before .before .before .pre .1 .0) (c .before .before .poleward .ensures) ∙ c .if2 .taken)
+    rw (
+      sym (c .before .before .before .equatorward .ensures),
+      le-leb _ _ (c .before .if1 .left),
+      sooner (a .low) (a .row) _ (c .before .before .before .before .pre .1 .0) (c .before .before .poleward .ensures) ∙ c .if2 .taken,
+    )
 
 less-requires : tie.Need-less-requires
 less-requires c κs = search needs
 
 mul-result : tie.Need-mul-result
-mul-result c = fits-mul 64800000 80076800 tt (omega (arith, c .less .ensures, c .before .before .before .before .before .pre .1 .1)) (c .before .before .before .before .before .pre .0 .most)
+mul-result c =
+    fits-mul 64800000 80076800 tt (omega (arith, c .less .ensures, c .before .before .before .before .before .pre .1 .1))
+    (c .before .before .before .before .before .pre .0 .most)
 
 returns-3 : tie.Need-returns-3
 unfolding meets
 returns-3 c =
     let a = c .before .before .before .before .before .args in
-    rw (sym (c .before .before .before .before .equatorward .ensures), le-leb _ _ (c .before .before .if1 .left), sooner (a .low) (a .row) _ (c .before .before .before .before .before .pre .1 .0) (c .before .before .before .poleward .ensures) ∙ c .before .if2 .left)
+    rw (
+      sym (c .before .before .before .before .equatorward .ensures),
+      le-leb _ _ (c .before .before .if1 .left),
+      sooner (a .low) (a .row) _ (c .before .before .before .before .before .pre .1 .0) (c .before .before .before .poleward .ensures)
+          ∙ c .before .if2 .left,
+    )
     (ap (λ (n : ℕ). ltb (n * a .b) (1024 * circle)) (c .less .ensures ∙ ap (λ (n : ℕ). a .low - n) (c .before .before .before .poleward .ensures)))
 
 pub row-meets-spec : {M : Type 1} → statement M

@@ -17,7 +17,10 @@ use Rattle.rectangle.proofs.zones_of.Statement.{statement}
 use Rattle.rectangle.proofs.zones_of.Tie as tie
 
 abbrev Inv-loop : tie.InvT-loop
-Inv-loop b south north zones₀ length₀ zone₀ zones length zone = (1 ≤ zone) × (zone ≤ 19) × (length < zone) × Sofar (coversSome b (pos south -ℤ pos quarter) (pos north -ℤ pos quarter)) 18 (rectangleZones b (pos south -ℤ pos quarter) (pos north -ℤ pos quarter)) (upFrom zone (19 - zone)) zones length
+Inv-loop b south north zones₀ length₀ zone₀ zones length zone =
+    (1 ≤ zone) × (zone ≤ 19) × (length < zone)
+    × Sofar (coversSome b (pos south -ℤ pos quarter) (pos north -ℤ pos quarter)) 18
+    (rectangleZones b (pos south -ℤ pos quarter) (pos north -ℤ pos quarter)) (upFrom zone (19 - zone)) zones length
 
 abbrev μ-loop : tie.MeasureT-loop
 μ-loop b south north zones₀ length₀ zone₀ zones length zone = 19 - zone
@@ -51,11 +54,24 @@ loop-again c =
     let i = l .inv in
     let e = c .before .covers-some .ensures in
     ⊎-elim
-    (λ w. rw (w .1, w .2) (omega arith, omega arith, omega arith, took (a .b) (a .south) (a .north) (l .zone) (l .zones) (l .length) (c .before .before .loop-test .taken) (omega arith) (i .3) (sym e ∙ w .0 .taken)))
-    (λ w. rw (w .1, w .2) (omega arith, omega arith, omega arith, left-out (a .b) (a .south) (a .north) (l .zone) (l .zones) (l .length) (c .before .before .loop-test .taken) (i .3) (sym e ∙ w .0 .left)))
+    (λ w. rw (w .1, w .2) (
+      omega arith,
+      omega arith,
+      omega arith,
+      took (a .b) (a .south) (a .north) (l .zone) (l .zones) (l .length) (c .before .before .loop-test .taken) (omega arith) (i .3)
+          (sym e ∙ w .0 .taken),
+    ))
+    (λ w. rw (w .1, w .2) (
+      omega arith,
+      omega arith,
+      omega arith,
+      left-out (a .b) (a .south) (a .north) (l .zone) (l .zones) (l .length) (c .before .before .loop-test .taken) (i .3)
+          (sym e ∙ w .0 .left),
+    ))
     (c .if1 .came)
 
-made : (l zs : List ℕ) (n : ℕ) → (zs ≡ padded 18 l) × (n ≡ count l) → _≡_ {A = RectangleAnswer} (record { verdict = Verdict.Accepted; length = n; zones = zs }) (listed l)
+made : (l zs : List ℕ) (n : ℕ) → (zs ≡ padded 18 l) × (n ≡ count l)
+    → _≡_ {A = RectangleAnswer} (record { verdict = Verdict.Accepted; length = n; zones = zs }) (listed l)
 made l zs n p = ap₂ (λ (x : List ℕ) (y : ℕ). record { verdict = Verdict.Accepted; length = y; zones = x }) (p .0) (p .1)
 
 returns : tie.Need-returns Inv-loop μ-loop

@@ -20,12 +20,18 @@ returns c = let s = c .before in rw (low-test (s .args .limit) (s .fits .limit .
 
 returns-2 : tie.Need-returns-2
 returns-2 c = let s = c .before .before in
-    rw (low-test (s .args .limit) (s .fits .limit .fits) (s .args .z) (s .fits .z) (c .before .if1 .left), high-test (s .args .limit) (s .fits .limit .fits) (s .args .z) (s .fits .z) (c .if2 .taken))
+    rw (
+      low-test (s .args .limit) (s .fits .limit .fits) (s .args .z) (s .fits .z) (c .before .if1 .left),
+      high-test (s .args .limit) (s .fits .limit .fits) (s .args .z) (s .fits .z) (c .if2 .taken),
+    )
 
 -- both tests failed
 inside : (c : tie.Else2) → outside (c .before .before .args .limit) (c .before .before .args .z) ≡ false
 inside c = let s = c .before .before in
-    rw (low-test (s .args .limit) (s .fits .limit .fits) (s .args .z) (s .fits .z) (c .before .if1 .left), high-test (s .args .limit) (s .fits .limit .fits) (s .args .z) (s .fits .z) (c .if2 .left))
+    rw (
+      low-test (s .args .limit) (s .fits .limit .fits) (s .args .z) (s .fits .z) (c .before .if1 .left),
+      high-test (s .args .limit) (s .fits .limit .fits) (s .args .z) (s .fits .z) (c .if2 .left),
+    )
 
 add-t4 : tie.Need-add-t4
 add-t4 c = let s = c .before .before in sum-fits (s .args .limit) (s .fits .limit .fits) (s .args .z) (s .fits .z) (inside c)

@@ -14,7 +14,8 @@ cast-result-2 : tie.Need-cast-result-2
 cast-result-2 c = search needs
 
 sub-result : tie.Need-sub-result
-sub-result c = rw (minus-plain (c .args .a) (c .args .b) (c .fits .a .fits) (c .fits .b .fits)) (minus-fits (c .args .a) (c .args .b) (c .fits .a .fits) (c .fits .b .fits))
+sub-result c = rw (minus-plain (c .args .a) (c .args .b) (c .fits .a .fits) (c .fits .b .fits))
+    (minus-fits (c .args .a) (c .args .b) (c .fits .a .fits) (c .fits .b .fits))
 
 returns : tie.Need-returns
 returns c =

@@ -14,7 +14,9 @@ sub-result : tie.Need-sub-result
 sub-result c = down-fits (c .before .args .z) (c .before .fits .z) (c .if1 .taken)
 
 cast-result : tie.Need-cast-result
-cast-result c = casts (natAbs (c .before .args .z) - 1) (down-held (c .before .args .z) (c .before .fits .z) (c .if1 .taken)) (omega (arith, size-fits (c .before .args .z) (c .before .fits .z)))
+cast-result c =
+    casts (natAbs (c .before .args .z) - 1) (down-held (c .before .args .z) (c .before .fits .z) (c .if1 .taken))
+    (omega (arith, size-fits (c .before .args .z) (c .before .fits .z)))
 
 add-result-2 : tie.Need-add-result-2
 add-result-2 c = omega (arith, size-sum (c .before .args .z) (c .before .fits .z) (c .if1 .taken), size-fits (c .before .args .z) (c .before .fits .z))
@@ -23,7 +25,9 @@ returns : tie.Need-returns
 returns c = size-sum (c .before .args .z) (c .before .fits .z) (c .if1 .taken)
 
 cast-result-2 : tie.Need-cast-result-2
-cast-result-2 c = casts (natAbs (c .before .args .z)) (whole-held (c .before .args .z) (c .before .fits .z) (c .if1 .left)) (omega (arith, size-fits (c .before .args .z) (c .before .fits .z)))
+cast-result-2 c =
+    casts (natAbs (c .before .args .z)) (whole-held (c .before .args .z) (c .before .fits .z) (c .if1 .left))
+    (omega (arith, size-fits (c .before .args .z) (c .before .fits .z)))
 
 returns-2 : tie.Need-returns-2
 returns-2 c = search needs

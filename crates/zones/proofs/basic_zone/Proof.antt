@@ -24,24 +24,43 @@ sized : (c : tie.After-size) → c .size .result ≡ natAbs (c .before .args .la
 sized c = c .size .ensures ∙ ap natAbs (toZ-ofZ w64 (c .before .args .lat) (c .before .fits .lat))
 
 returns : tie.Need-returns
-returns c = rw (outside-size quarter (c .before .before .before .args .lat) _ (sized (c .before .before)) (c .before .if1 .taken)) (ap ZoneAnswer.Refused (c .refused .ensures))
+returns c =
+    rw (outside-size quarter (c .before .before .before .args .lat) _ (sized (c .before .before)) (c .before .if1 .taken))
+    (ap ZoneAnswer.Refused (c .refused .ensures))
 
 northern-requires : tie.Need-northern-requires
 northern-requires c κs = search needs
 
 add-t6 : tie.Need-add-t6
-add-t6 c = omega (arith, c .before .northern .ensures, northern-is (c .before .before .before .size .result), place (c .before .before .before .size .result) .in-list)
+add-t6 c =
+    omega (
+      arith,
+      c .before .northern .ensures,
+      northern-is (c .before .before .before .size .result),
+      place (c .before .before .before .size .result) .in-list,
+    )
 
 returns-2 : tie.Need-returns-2
 returns-2 c =
     let z = c .before .before .before .before .args .lat in
-    rw (inside-size quarter (c .before .before .before .before .args .lat) _ (sized (c .before .before .before)) (c .before .before .if1 .left), rw (toZ-ofZ w64 z (c .before .before .before .before .fits .lat)) at (c .if2 .taken))
-    (ap ZoneAnswer.Zone (ap (λ (n : ℕ). n + 9) (c .before .northern .ensures) ∙ sym (southern-is (c .before .before .before .size .result)) ∙ ap (λ (n : ℕ). rowHolding n .southern) (sized (c .before .before .before))))
+    rw (
+      inside-size quarter (c .before .before .before .before .args .lat) _ (sized (c .before .before .before))
+          (c .before .before .if1 .left),
+      rw (toZ-ofZ w64 z (c .before .before .before .before .fits .lat)) at (c .if2 .taken),
+    )
+    (ap ZoneAnswer.Zone
+    (ap (λ (n : ℕ). n + 9) (c .before .northern .ensures)
+    ∙ sym (southern-is (c .before .before .before .size .result))
+    ∙ ap (λ (n : ℕ). rowHolding n .southern) (sized (c .before .before .before))))
 
 returns-3 : tie.Need-returns-3
 returns-3 c =
     let z = c .before .before .before .before .args .lat in
-    rw (inside-size quarter (c .before .before .before .before .args .lat) _ (sized (c .before .before .before)) (c .before .before .if1 .left), rw (toZ-ofZ w64 z (c .before .before .before .before .fits .lat)) at (c .if2 .left))
+    rw (
+      inside-size quarter (c .before .before .before .before .args .lat) _ (sized (c .before .before .before))
+          (c .before .before .if1 .left),
+      rw (toZ-ofZ w64 z (c .before .before .before .before .fits .lat)) at (c .if2 .left),
+    )
     (ap ZoneAnswer.Zone (c .before .northern .ensures ∙ ap (λ (n : ℕ). rowHolding n .northern) (sized (c .before .before .before))))
 
 pub basic-zone-spec : {M : Type 1} → statement M

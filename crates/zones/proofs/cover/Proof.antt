@@ -15,7 +15,9 @@ enum-known-b : tie.Need-enum-known-b
 enum-known-b c = search needs
 
 cover-at-requires : tie.Need-cover-at-requires
-cover-at-requires c κs = rows-of (c .before .before .before .before .args .scale) _ (sym (c .before .before .before .b-constant .ensures) ∙ c .before .b .given .1)
+cover-at-requires c κs =
+    rows-of (c .before .before .before .before .args .scale) _
+    (sym (c .before .before .before .b-constant .ensures) ∙ c .before .b .given .1)
 
 enum-known-r : tie.Need-enum-known-r
 enum-known-r c = search needs

@@ -1,4 +1,5 @@
--- The size is tested as the range is; the basic zone's row and the hemisphere's first zone are those of the cover list as `cover_from` goes through it. Assumes nothing.
+-- The size is tested as the range is; the basic zone's row and the hemisphere's first zone are those of the cover list
+-- as `cover_from` goes through it. Assumes nothing.
 use mathlib.Core.Path.{_≡_, sym, ap, _∙_}
 use native.Mathlib.Omega.{arith}
 use lib.IntN.{natAbs}
@@ -28,14 +29,17 @@ sized c = c .size .ensures ∙ ap natAbs (toZ-ofZ w64 (c .before .args .lat) (c 
 
 placed : (c : tie.After-northern) → c .northern .result - 1 ≡ place (natAbs (c .before .before .before .args .lat)) .at
 placed c =
-    let e : place (c .before .before .size .result) .at ≡ place (natAbs (c .before .before .before .args .lat)) .at = ap (λ (n : ℕ). place n .at) (sized (c .before .before)) in
+    let e : place (c .before .before .size .result) .at ≡ place (natAbs (c .before .before .before .args .lat)) .at =
+    ap (λ (n : ℕ). place n .at) (sized (c .before .before)) in
     omega (arith, c .northern .ensures, northern-is (c .before .before .size .result))
 
 firsts : (c : tie.After-first-zone) → c .first-zone .result ≡ firstZone (c .before .before .before .before .args .lat)
 firsts c = c .first-zone .ensures ∙ ap firstZone (toZ-ofZ w64 (c .before .before .before .before .args .lat) (c .before .before .before .before .fits .lat))
 
 returns : tie.Need-returns
-returns c = rw (outside-size quarter (c .before .before .before .before .args .lat) _ (sized (c .before .before .before)) (c .before .before .if1 .taken)) (c .no-cover .ensures ∙ ap refusedCover (c .before .refused .ensures))
+returns c =
+    rw (outside-size quarter (c .before .before .before .before .args .lat) _ (sized (c .before .before .before)) (c .before .before .if1 .taken))
+    (c .no-cover .ensures ∙ ap refusedCover (c .before .refused .ensures))
 
 northern-requires : tie.Need-northern-requires
 northern-requires c κs = search needs
@@ -56,7 +60,8 @@ cover-from-requires c κs =
       zone = omega (arith, firsts c, first-small (c .before .before .before .before .args .lat));
       in-table = omega (arith, p .in-list);
       low = rw (e, z) (p .low);
-      high = c .before .before .if1 .left }
+      high = c .before .before .if1 .left;
+    }
 
 returns-2 : tie.Need-returns-2
 returns-2 c =

@@ -18,7 +18,9 @@ use Rattle.zones.proofs.cover_from.Statement.{statement}
 use Rattle.zones.proofs.cover_from.Tie as tie
 
 abbrev Inv-loop : tie.InvT-loop
-Inv-loop b first row size zones₀ length₀ left₀ zones length left = (left ≤ row) × (length + left ≡ row + 1) × Sofar (within b first size) 6 (coverFrom b first row size) (downFrom first left) zones length
+Inv-loop b first row size zones₀ length₀ left₀ zones length left =
+    (left ≤ row) × (length + left ≡ row + 1)
+    × Sofar (within b first size) 6 (coverFrom b first row size) (downFrom first left) zones length
 
 abbrev μ-loop : tie.MeasureT-loop
 μ-loop b first row size zones₀ length₀ left₀ zones length left = left
@@ -40,7 +42,9 @@ poleward-requires : tie.Need-poleward-requires Inv-loop μ-loop
 poleward-requires c κs = search needs
 
 sub-if1 : tie.Need-sub-if1 Inv-loop μ-loop
-sub-if1 c = limit-low _ _ _ _ (c .before .before .before .pre) (c .before .before .loop .left) (omega arith) (c .before .before .loop .inv .0) _ (c .poleward .ensures)
+sub-if1 c =
+    limit-low _ _ _ _ (c .before .before .before .pre) (c .before .before .loop .left) (omega arith) (c .before .before .loop .inv .0) _
+    (c .poleward .ensures)
 
 mul-if1 : tie.Need-mul-if1 Inv-loop μ-loop
 mul-if1 c = fits-mul 32400000 80076800 tt (omega (arith, c .before .before .before .pre .high)) (c .before .before .before .pre .rows .most)
@@ -49,9 +53,12 @@ sub-left : tie.Need-sub-left Inv-loop μ-loop
 sub-left c = omega arith
 
 turn : (c : tie.Else1 Inv-loop μ-loop) → let a = c .before .before .before .before .args in let l = c .before .before .before .loop in
-    (l .length < 6) × Sofar (within (a .b) (a .first) (a .size)) 6 (coverFrom (a .b) (a .first) (a .row) (a .size)) (downFrom (a .first) (l .left - 1)) (set (l .zones) (l .length) (a .first + (l .left - 1))) (l .length + 1)
+    (l .length < 6)
+    × Sofar (within (a .b) (a .first) (a .size)) 6 (coverFrom (a .b) (a .first) (a .row) (a .size)) (downFrom (a .first) (l .left - 1))
+    (set (l .zones) (l .length) (a .first + (l .left - 1))) (l .length + 1)
 turn c = let i = c .before .before .before .loop .inv in
-    took _ _ _ _ (c .before .before .before .before .pre) (c .before .before .before .loop .left) (omega arith) (i .0) _ (c .before .poleward .ensures) _ _ (i .1) (i .2) (c .if1 .left)
+    took _ _ _ _ (c .before .before .before .before .pre) (c .before .before .before .loop .left) (omega arith) (i .0) _
+    (c .before .poleward .ensures) _ _ (i .1) (i .2) (c .if1 .left)
 
 add-zones-2 : tie.Need-add-zones-2 Inv-loop μ-loop
 add-zones-2 c = omega (arith, c .before .before .before .before .pre .zone, c .before .before .before .before .pre .in-table)
@@ -71,7 +78,8 @@ loop-less c = omega arith
 loop-again : tie.Need-loop-again Inv-loop μ-loop
 loop-again c = (omega arith, omega arith, turn c .1)
 
-made : (l zs : List ℕ) (n : ℕ) → (zs ≡ padded 6 l) × (n ≡ count l) → _≡_ {A = CoverAnswer} (record { verdict = Verdict.Accepted; length = n; zones = zs }) (listed l)
+made : (l zs : List ℕ) (n : ℕ) → (zs ≡ padded 6 l) × (n ≡ count l)
+    → _≡_ {A = CoverAnswer} (record { verdict = Verdict.Accepted; length = n; zones = zs }) (listed l)
 made l zs n p = ap₂ (λ (x : List ℕ) (y : ℕ). record { verdict = Verdict.Accepted; length = y; zones = x }) (p .0) (p .1)
 
 returns : tie.Need-returns Inv-loop μ-loop
@@ -84,7 +92,10 @@ returns-2 : tie.Need-returns-2 Inv-loop μ-loop
 returns-2 c =
     let a = c .before .before .before .before .args in
     let i = c .before .before .before .loop .inv in
-    made (coverFrom (a .b) (a .first) (a .row) (a .size)) _ _ (finished _ 6 _ _ _ _ (i .2) (stopped _ _ _ _ (c .before .before .before .before .pre) (c .before .before .before .loop .left) (omega arith) (i .0) _ (c .before .poleward .ensures) (c .if1 .taken)))
+    made (coverFrom (a .b) (a .first) (a .row) (a .size)) _ _
+    (finished _ 6 _ _ _ _ (i .2)
+    (stopped _ _ _ _ (c .before .before .before .before .pre) (c .before .before .before .loop .left) (omega arith) (i .0) _
+    (c .before .poleward .ensures) (c .if1 .taken)))
 
 pub cover-from-spec : {M : Type 1} → statement M
 cover-from-spec =

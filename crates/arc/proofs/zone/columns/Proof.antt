@@ -38,37 +38,74 @@ refused-requires : tie.Need-refused-requires
 refused-requires c κs = search needs
 
 returns : tie.Need-returns
-returns c = let a = c .before .before .args in either (columnsOf (a .scale)) 1 10 (a .zone) (c .before .match .keys1) (ap Pixels (c .spacing .ensures)) (ap Pixels (c .spacing .ensures))
+returns c =
+    let a = c .before .before .args in
+    either (columnsOf (a .scale)) 1 10 (a .zone) (c .before .match .keys1)
+    (ap Pixels (c .spacing .ensures)) (ap Pixels (c .spacing .ensures))
 
 returns-2 : tie.Need-returns-2
-returns-2 c = let a = c .before .before .args in either (columnsOf (a .scale)) 2 11 (a .zone) (c .before .match .keys2) (ap Pixels (c .spacing2 .ensures)) (ap Pixels (c .spacing2 .ensures))
+returns-2 c =
+    let a = c .before .before .args in
+    either (columnsOf (a .scale)) 2 11 (a .zone) (c .before .match .keys2)
+    (ap Pixels (c .spacing2 .ensures)) (ap Pixels (c .spacing2 .ensures))
 
 returns-3 : tie.Need-returns-3
-returns-3 c = let a = c .before .before .args in either (columnsOf (a .scale)) 3 12 (a .zone) (c .before .match .keys3) (ap Pixels (c .spacing3 .ensures)) (ap Pixels (c .spacing3 .ensures))
+returns-3 c =
+    let a = c .before .before .args in
+    either (columnsOf (a .scale)) 3 12 (a .zone) (c .before .match .keys3)
+    (ap Pixels (c .spacing3 .ensures)) (ap Pixels (c .spacing3 .ensures))
 
 returns-4 : tie.Need-returns-4
-returns-4 c = let a = c .before .before .args in either (columnsOf (a .scale)) 4 13 (a .zone) (c .before .match .keys4) (ap Pixels (c .spacing4 .ensures)) (ap Pixels (c .spacing4 .ensures))
+returns-4 c =
+    let a = c .before .before .args in
+    either (columnsOf (a .scale)) 4 13 (a .zone) (c .before .match .keys4)
+    (ap Pixels (c .spacing4 .ensures)) (ap Pixels (c .spacing4 .ensures))
 
 returns-5 : tie.Need-returns-5
-returns-5 c = let a = c .before .before .args in either (columnsOf (a .scale)) 5 14 (a .zone) (c .before .match .keys5) (ap Pixels (c .spacing5 .ensures)) (ap Pixels (c .spacing5 .ensures))
+returns-5 c =
+    let a = c .before .before .args in
+    either (columnsOf (a .scale)) 5 14 (a .zone) (c .before .match .keys5)
+    (ap Pixels (c .spacing5 .ensures)) (ap Pixels (c .spacing5 .ensures))
 
 returns-6 : tie.Need-returns-6
-returns-6 c = let a = c .before .before .args in either (columnsOf (a .scale)) 6 15 (a .zone) (c .before .match .keys6) (ap Pixels (c .spacing6 .ensures)) (ap Pixels (c .spacing6 .ensures))
+returns-6 c =
+    let a = c .before .before .args in
+    either (columnsOf (a .scale)) 6 15 (a .zone) (c .before .match .keys6)
+    (ap Pixels (c .spacing6 .ensures)) (ap Pixels (c .spacing6 .ensures))
 
 returns-7 : tie.Need-returns-7
-returns-7 c = let a = c .before .before .args in either (columnsOf (a .scale)) 7 16 (a .zone) (c .before .match .keys7) (ap Pixels (c .spacing7 .ensures)) (ap Pixels (c .spacing7 .ensures))
+returns-7 c =
+    let a = c .before .before .args in
+    either (columnsOf (a .scale)) 7 16 (a .zone) (c .before .match .keys7)
+    (ap Pixels (c .spacing7 .ensures)) (ap Pixels (c .spacing7 .ensures))
 
 returns-8 : tie.Need-returns-8
-returns-8 c = let a = c .before .before .args in either (columnsOf (a .scale)) 8 17 (a .zone) (c .before .match .keys8) (ap Pixels (c .spacing8 .ensures)) (ap Pixels (c .spacing8 .ensures))
+returns-8 c =
+    let a = c .before .before .args in
+    either (columnsOf (a .scale)) 8 17 (a .zone) (c .before .match .keys8)
+    (ap Pixels (c .spacing8 .ensures)) (ap Pixels (c .spacing8 .ensures))
 
 returns-9 : tie.Need-returns-9
-returns-9 c = let a = c .before .before .args in either (columnsOf (a .scale)) 9 18 (a .zone) (c .before .match .keys9) (ap Pixels (c .spacing9 .ensures)) (ap Pixels (c .spacing9 .ensures))
+returns-9 c =
+    let a = c .before .before .args in
+    either (columnsOf (a .scale)) 9 18 (a .zone) (c .before .match .keys9)
+    (ap Pixels (c .spacing9 .ensures)) (ap Pixels (c .spacing9 .ensures))
 
 returns-10 : tie.Need-returns-10
 returns-10 c =
     let r = c .before .match .rest in
     let z = c .before .before .args .zone in
-    rw (neither 1 10 z (r .0 .0 .0 .0 .0 .0 .0 .0 .1), neither 2 11 z (r .0 .0 .0 .0 .0 .0 .0 .1), neither 3 12 z (r .0 .0 .0 .0 .0 .0 .1), neither 4 13 z (r .0 .0 .0 .0 .0 .1), neither 5 14 z (r .0 .0 .0 .0 .1), neither 6 15 z (r .0 .0 .0 .1), neither 7 16 z (r .0 .0 .1), neither 8 17 z (r .0 .1), neither 9 18 z (r .1))
+    rw (
+      neither 1 10 z (r .0 .0 .0 .0 .0 .0 .0 .0 .1),
+      neither 2 11 z (r .0 .0 .0 .0 .0 .0 .0 .1),
+      neither 3 12 z (r .0 .0 .0 .0 .0 .0 .1),
+      neither 4 13 z (r .0 .0 .0 .0 .0 .1),
+      neither 5 14 z (r .0 .0 .0 .0 .1),
+      neither 6 15 z (r .0 .0 .0 .1),
+      neither 7 16 z (r .0 .0 .1),
+      neither 8 17 z (r .0 .1),
+      neither 9 18 z (r .1),
+    )
     (ap Refused (c .refused .ensures))
 
 pub columns-spec : {M : Type 1} → statement M

@@ -18,7 +18,12 @@ below : (c : tie.After-turned) → c .turned .result < 80076800
 below c =
     let s = c .before .before .before in
     let k = s .args .self in
-    omega (arith, known-laid k (s .pre .0), c .turned .ensures, mod-lt (c .before .nearest .result + (k .a - k .east)) {m = k .a} (omega (arith, known-laid k (s .pre .0))))
+    omega (
+      arith,
+      known-laid k (s .pre .0),
+      c .turned .ensures,
+      mod-lt (c .before .nearest .result + (k .a - k .east)) {m = k .a} (omega (arith, known-laid k (s .pre .0))),
+    )
 
 mul-nearest : tie.Need-mul-nearest
 mul-nearest c = let s = c .before in fits-mul 129600000 80076800 tt (s .pre .1) (known-laid _ (s .pre .0) .columns .most)

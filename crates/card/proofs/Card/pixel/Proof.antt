@@ -9,7 +9,8 @@ use Rattle.card.proofs.Card.pixel.Statement.{statement}
 use Rattle.card.proofs.Card.pixel.Tie as tie
 
 counts : (c : tie.After-known-told)
-    → Counts (c .before .before .before .before .args .lat) (c .before .before .before .before .args .lon) (c .before .north .given .0 .0) (c .before .north .given .0 .1 .0)
+    → Counts (c .before .before .before .before .args .lat) (c .before .before .before .before .args .lon)
+    (c .before .north .given .0 .0) (c .before .north .given .0 .1 .0)
 counts c =
     let s = c .before .before .before .before in
     ranged-at (s .args .lat) (s .args .lon) (s .fits .lat) (s .fits .lon) (c .before .before .before .count-position .ensures) (c .before .north .given .1)

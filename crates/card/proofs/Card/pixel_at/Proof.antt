@@ -20,7 +20,9 @@ enum-known-r c = search needs
 returns : tie.Need-returns
 returns c =
     let s = c .before .before .before in
-    let i = judged-accepted (s .args .self) (s .args .row) (s .args .column) (s .fits .row) (s .fits .column) (c .before .before .judge-pixel .ensures) (c .enum-told .given .1) in
+    let i =
+    judged-accepted (s .args .self) (s .args .row) (s .args .column) (s .fits .row) (s .fits .column)
+    (c .before .before .judge-pixel .ensures) (c .enum-told .given .1) in
     rw (i .0, i .1) (ap₂ PixelAnswer.At (toZ-ofZ w64 (s .args .row) (s .fits .row)) (toZ-ofZ w64 (s .args .column) (s .fits .column)))
 
 returns-2 : tie.Need-returns-2

@@ -15,7 +15,8 @@ use Rattle.card.proofs.Card.place.Tie as tie
 tiles : (c : tie.Else1) → inTiles (c .before .before .args .self) (c .before .before .args .row) (c .before .before .args .column) ≡ true
 tiles c =
     let s = c .before .before in
-    tested (inTiles (s .args .self)) (s .args .row) (s .args .column) (s .fits .row) (s .fits .column) (c .before .in-tiles .ensures) (not-false _ (c .if1 .left))
+    tested (inTiles (s .args .self)) (s .args .row) (s .args .column) (s .fits .row) (s .fits .column)
+    (c .before .in-tiles .ensures) (not-false _ (c .if1 .left))
 
 inside : (c : tie.Else1) → Inside (c .before .before .args .self) (c .before .before .args .row) (c .before .before .args .column)
 inside c = tiles-inside _ _ _ (tiles c)
@@ -30,7 +31,8 @@ returns : tie.Need-returns
 unfolding placeOf
 returns c =
     let s = c .before .before .before in
-    rw (tested (inTiles (s .args .self)) (s .args .row) (s .args .column) (s .fits .row) (s .fits .column) (c .before .before .in-tiles .ensures) (not-true _ (c .before .if1 .taken)))
+    rw (tested (inTiles (s .args .self)) (s .args .row) (s .args .column) (s .fits .row) (s .fits .column)
+    (c .before .before .in-tiles .ensures) (not-true _ (c .before .if1 .taken)))
     (ap PlaceAnswer.Refused (c .refused .ensures))
 
 cast-place-row : tie.Need-cast-place-row

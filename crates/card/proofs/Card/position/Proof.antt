@@ -12,13 +12,16 @@ use Rattle.card.proofs.Card.position.Statement.{statement}
 use Rattle.card.proofs.Card.position.Tie as tie
 
 -- what the verdict tells where it accepts
-tests : (c : tie.After-enum-told) → (inTiles (c .before .before .before .args .self) (c .before .before .before .args .row) (c .before .before .before .args .column) ≡ true)
+tests : (c : tie.After-enum-told)
+    → (inTiles (c .before .before .before .args .self) (c .before .before .before .args .row) (c .before .before .before .args .column) ≡ true)
     × (inChart (c .before .before .before .args .self) (c .before .before .before .args .row) (c .before .before .before .args .column) ≡ true)
 tests c =
     let s = c .before .before .before in
-    judged-accepted (s .args .self) (s .args .row) (s .args .column) (s .fits .row) (s .fits .column) (c .before .before .judge-pixel .ensures) (c .enum-told .given .1)
+    judged-accepted (s .args .self) (s .args .row) (s .args .column) (s .fits .row) (s .fits .column)
+    (c .before .before .judge-pixel .ensures) (c .enum-told .given .1)
 
-inside : (c : tie.After-enum-told) → Inside (c .before .before .before .args .self) (c .before .before .before .args .row) (c .before .before .before .args .column)
+inside : (c : tie.After-enum-told)
+    → Inside (c .before .before .before .args .self) (c .before .before .before .args .row) (c .before .before .before .args .column)
 inside c = tiles-inside _ _ _ (tests c .0)
 
 judge-pixel-requires : tie.Need-judge-pixel-requires

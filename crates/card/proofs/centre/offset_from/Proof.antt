@@ -14,7 +14,8 @@ use Rattle.card.proofs.centre.offset_from.Statement.{statement}
 use Rattle.card.proofs.centre.offset_from.Tie as tie
 
 counts : (c : tie.After-known-told)
-    → Counts (c .before .before .before .before .args .lat) (c .before .before .before .before .args .lon) (c .before .north .given .0 .0) (c .before .north .given .0 .1 .0)
+    → Counts (c .before .before .before .before .args .lat) (c .before .before .before .before .args .lon)
+    (c .before .north .given .0 .0) (c .before .north .given .0 .1 .0)
 counts c =
     let s = c .before .before .before .before in
     ranged-at (s .args .lat) (s .args .lon) (s .fits .lat) (s .fits .lon) (c .before .before .before .count-position .ensures) (c .before .north .given .1)
@@ -24,7 +25,8 @@ centre : (c : tie.After-known-told2)
     (c .before .before .before .before .before .before .before .before .args .clon) (c .before .cnorth .given .0 .0) (c .before .cnorth .given .0 .1 .0)
 centre c =
     let s = c .before .before .before .before .before .before .before .before in
-    ranged-at (s .args .clat) (s .args .clon) (s .fits .clat) (s .fits .clon) (c .before .before .before .count-position2 .ensures) (c .before .cnorth .given .1)
+    ranged-at (s .args .clat) (s .args .clon) (s .fits .clat) (s .fits .clon)
+    (c .before .before .before .count-position2 .ensures) (c .before .cnorth .given .1)
 
 -- the answer where the position is in range
 abbrev centred : ℤ → ℤ → ℤ → ℤ → OffsetAnswer
@@ -63,7 +65,8 @@ returns c =
     rw (p .rows .test, p .columns .test, q .rows .test, q .columns .test)
     (ap OffsetAnswer.At
     (c .offset-at .ensures
-    ∙ ap₂ (λ (x y : ℤ). record { lat = ofInt binary64 x; lon = ofInt binary64 (shortWay y) }) (counts-apart (p .rows) (q .rows)) (counts-apart (p .columns) (q .columns))))
+    ∙ ap₂ (λ (x y : ℤ). record { lat = ofInt binary64 x; lon = ofInt binary64 (shortWay y) })
+    (counts-apart (p .rows) (q .rows)) (counts-apart (p .columns) (q .columns))))
 
 returns-2 : tie.Need-returns-2
 unfolding offsetOf

@@ -13,7 +13,8 @@ lat-inside c =
     let s = c .before .before .before .before in
     counted-from quarter (s .args .lat) (s .fits .lat) (c .before .before .before .count-from .ensures) (c .before .north .given .1)
 
-lon-inside : (c : tie.After-known-told2) → Inside half (c .before .before .before .before .before .before .before .before .args .lon) (c .before .east .given .0 .0)
+lon-inside : (c : tie.After-known-told2)
+    → Inside half (c .before .before .before .before .before .before .before .before .args .lon) (c .before .east .given .0 .0)
 lon-inside c =
     let s = c .before .before .before .before .before .before .before .before in
     counted-from half (s .args .lon) (s .fits .lon) (c .before .before .before .count-from2 .ensures) (c .before .east .given .1)

@@ -21,7 +21,13 @@ all-named-requires-2 c κs = search needs
 
 returns : tie.Need-returns
 unfolding nameLaid
-returns c = rw (c .before .before .before .all-named .ensures, c .before .before .before .before .bytes-at .ensures .0, c .all-named2 .ensures, c .before .bytes-at2 .ensures .0)
+returns c =
+    rw (
+      c .before .before .before .all-named .ensures,
+      c .before .before .before .before .bytes-at .ensures .0,
+      c .all-named2 .ensures,
+      c .before .bytes-at2 .ensures .0,
+    )
 
 pub name-laid-spec : {M : Type 1} → statement M
 name-laid-spec =

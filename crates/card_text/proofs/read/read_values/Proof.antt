@@ -46,7 +46,11 @@ values s = values-are (s .pre .0) (s .pre .1 .0) (s .pre .1 .1) (s .args .scale)
 with-north : (c : tie.After-known-told) → asked (start c)
     ≡ placed (start c) (Counted.From (c .before .north .given .0 .0)) (foundAt (start c .args .a) (getD (start c .args .t6) 3 0))
 with-north c =
-    rw (values (start c), not-false (spaced (start c)) (c .before .before .before .before .if1 .left), sym (c .before .before .before .tile-of .ensures) ∙ c .before .north .given .1)
+    rw (
+      values (start c),
+      not-false (spaced (start c)) (c .before .before .before .before .if1 .left),
+      sym (c .before .before .before .tile-of .ensures) ∙ c .before .north .given .1,
+    )
 
 rows : (c : tie.After-known-told) → c .before .north .given .0 .0 ≤ 2 * (start c .args .b / 512)
 rows c =
@@ -68,9 +72,12 @@ eastward c = c .before .before .before .before
 abbrev made : tie.After-extents-hold → Reading
 made c =
     let s = start (northward (eastward c)) in
-    accepted (cardFrom (s .args .scale) (s .args .zone) (s .args .a) (s .args .b) (northward (eastward c) .before .north .given .0 .0) (eastward c .before .east .given .0 .0) (c .before .record-in .result))
+    accepted
+    (cardFrom (s .args .scale) (s .args .zone) (s .args .a) (s .args .b)
+    (northward (eastward c) .before .north .given .0 .0) (eastward c .before .east .given .0 .0) (c .before .record-in .result))
 
-answer : (c : tie.After-extents-hold) {ok : Bool} → c .extents-hold .result ≡ ok → asked (start (northward (eastward c))) ≡ cond ok (made c) (refused (refusal 11))
+answer : (c : tie.After-extents-hold) {ok : Bool} → c .extents-hold .result ≡ ok
+    → asked (start (northward (eastward c))) ≡ cond ok (made c) (refused (refusal 11))
 answer c q =
     let e = eastward c in
     let s = start (northward e) in
@@ -118,7 +125,11 @@ refused-with-requires-2 c κs = search needs
 returns-2 : tie.Need-returns-2
 returns-2 c =
     let s = c .before .before .before .before .before .before .before in
-    rw (values s, not-false (spaced s) (c .before .before .before .before .before .if1 .left), sym (c .before .before .before .before .tile-of .ensures) ∙ c .before .before .enum-told .given .1)
+    rw (
+      values s,
+      not-false (spaced s) (c .before .before .before .before .before .if1 .left),
+      sym (c .before .before .before .before .tile-of .ensures) ∙ c .before .before .enum-told .given .1,
+    )
     (c .refused-with2 .ensures ∙ ap refused (c .before .refused2 .ensures))
 
 array-read-tile-of-2 : tie.Need-array-read-tile-of-2
@@ -141,7 +152,10 @@ refused-with-requires-3 c κs = search needs
 
 returns-3 : tie.Need-returns-3
 returns-3 c =
-    rw (with-north (c .before .before .before .before .before), sym (c .before .before .before .before .tile-of2 .ensures) ∙ c .before .before .enum-told2 .given .1)
+    rw (
+      with-north (c .before .before .before .before .before),
+      sym (c .before .before .before .before .tile-of2 .ensures) ∙ c .before .before .enum-told2 .given .1,
+    )
     (c .refused-with3 .ensures ∙ ap refused (c .before .refused3 .ensures))
 
 cast-difference : tie.Need-cast-difference

@@ -15,8 +15,11 @@ nearest-requires c κs = search needs
 
 returns : tie.Need-returns
 returns c =
-    let s = c .before in
-    (c .nearest .ensures, rw (c .nearest .ensures) (near-le (s .args .spacing) (omega (arith, s .pre .0 .some)) (s .args .tiles * tileAngle) 129600000 (omega arith)))
+    let s = c .before in (
+      c .nearest .ensures,
+      rw (c .nearest .ensures)
+          (near-le (s .args .spacing) (omega (arith, s .pre .0 .some)) (s .args .tiles * tileAngle) 129600000 (omega arith)),
+    )
 
 pub stored-at-spec : {M : Type 1} → statement M
 stored-at-spec = tie.close (tie.spec mul-nearest nearest-requires returns)

@@ -41,7 +41,9 @@ returns c =
     let s = lead .before .before .before .before .before .before in
     let first = rw (lead .before .before .stored-at .ensures .0, lead .before .stored-at2 .ensures .0) at (lead .put-lead .ensures) in
     let all : Put layout (heldBy (s .args .a) (s .args .b) (s .args .north) (s .args .east) (s .args .r)) (s .args .out .now) _ =
-    put-append first (put-append (extents .put-extents .ensures) (put-append (fixed .put-fixed .ensures) (bad .put-name .ensures .0 ▸ tif .put-flag .ensures ▸ end))) in
+    put-append first
+    (put-append (extents .put-extents .ensures)
+    (put-append (fixed .put-fixed .ensures) (bad .put-name .ensures .0 ▸ tif .put-flag .ensures ▸ end))) in
     put-all all 0 (rw (bad .put-name .ensures .1)) (s .pre .0)
 
 pub put-card-spec : {M : Type 1} → statement M

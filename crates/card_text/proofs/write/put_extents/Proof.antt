@@ -35,7 +35,8 @@ returns c =
     let nll = nls .before .before .before .before in
     let nus = nll .before .before .before .before in
     let nul = nus .before .before .before .before in
-    nul .put-number .ensures ▸ nus .put-number2 .ensures ▸ nll .put-number3 .ensures ▸ nls .put-number4 .ensures ▸ nfl .put-number5 .ensures ▸ nfc .put-number6 .ensures ▸ end
+    nul .put-number .ensures ▸ nus .put-number2 .ensures ▸ nll .put-number3 .ensures ▸ nls .put-number4 .ensures ▸
+    nfl .put-number5 .ensures ▸ nfc .put-number6 .ensures ▸ end
 
 pub put-extents-spec : {M : Type 1} → statement M
 put-extents-spec =

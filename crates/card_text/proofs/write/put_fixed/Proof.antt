@@ -39,7 +39,8 @@ returns c =
     let cod = rod .before .before .before .before in
     let pnl = cod .before .before .before .before in
     let pnc = pnl .before .before .before .before in
-    pnc .put-number .ensures ▸ pnl .put-number2 .ensures ▸ cod .put-number3 .ensures ▸ rod .put-number4 .ensures ▸ por .put-number5 .ensures ▸ pcb .put-number6 .ensures ▸ pvb .put-number7 .ensures ▸ end
+    pnc .put-number .ensures ▸ pnl .put-number2 .ensures ▸ cod .put-number3 .ensures ▸ rod .put-number4 .ensures ▸
+    por .put-number5 .ensures ▸ pcb .put-number6 .ensures ▸ pvb .put-number7 .ensures ▸ end
 
 pub put-fixed-spec : {M : Type 1} → statement M
 put-fixed-spec =

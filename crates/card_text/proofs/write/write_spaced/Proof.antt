@@ -54,13 +54,17 @@ row-fits c = record { sfits = c .before .struct-told .given .0 .1 }
 column-fits : (c : tie.After-count-from2) → SFits w64 (start (c .before .before .before .before .before .before .before) .args .r .m)
 column-fits c = record { sfits = c .before .struct-told2 .given .1 .0 .1 }
 
-rows : (c : tie.After-known-told2) → Inside (start (c .before .before .before .before .before) .args .b / 512) (start (c .before .before .before .before .before) .args .r .n) (c .before .north .given .0 .0)
+rows : (c : tie.After-known-told2)
+    → Inside (start (c .before .before .before .before .before) .args .b / 512)
+    (start (c .before .before .before .before .before) .args .r .n) (c .before .north .given .0 .0)
 rows c =
     let x = c .before .before .before in
     let s = start (x .before .before) in
     counted-from (s .args .b / 512) (s .args .r .n) (row-fits x) (x .count-from .ensures) (c .before .north .given .1)
 
-columns : (c : tie.After-known-told3) → Inside (start (c .before .before .before .before .before .before .before .before .before .before) .args .a / 256) (start (c .before .before .before .before .before .before .before .before .before .before) .args .r .m) (c .before .east .given .0 .0)
+columns : (c : tie.After-known-told3)
+    → Inside (start (c .before .before .before .before .before .before .before .before .before .before) .args .a / 256)
+    (start (c .before .before .before .before .before .before .before .before .before .before) .args .r .m) (c .before .east .given .0 .0)
 columns c =
     let x = c .before .before .before in
     let s = start (x .before .before .before .before .before .before .before) in
@@ -73,7 +77,8 @@ counted c = c .before .before .before .before .before .before .before .before .b
 judged : (c : tie.After-extents-hold) → tests (start (counted c)) ≡ cond (c .extents-hold .result) Verdict.Accepted (Verdict.Refused (refusal 11))
 judged c =
     let s = start (counted c) in
-    extents-judged (s .args .a) (s .args .b) (s .args .r) (right (counted c)) (rows (c .before .before .before .before .before .before)) (columns (c .before)) (c .extents-hold .result) (c .extents-hold .ensures)
+    extents-judged (s .args .a) (s .args .b) (s .args .r) (right (counted c))
+    (rows (c .before .before .before .before .before .before)) (columns (c .before)) (c .extents-hold .result) (c .extents-hold .ensures)
 
 refused-requires : tie.Need-refused-requires
 refused-requires c κs = search needs
@@ -85,7 +90,9 @@ refused-requires-2 : tie.Need-refused-requires-2
 refused-requires-2 c κs = search needs
 
 returns-2 : tie.Need-returns-2
-returns-2 c = rw (c .before .before .if1 .left, lt-leb 98 (length (c .before .before .before .before .args .out .now)) (c .before .if2 .taken)) (ap Verdict.Refused (c .refused2 .ensures), refl)
+returns-2 c =
+    rw (c .before .before .if1 .left, lt-leb 98 (length (c .before .before .before .before .args .out .now)) (c .before .if2 .taken))
+    (ap Verdict.Refused (c .refused2 .ensures), refl)
 
 judge-counts-requires : tie.Need-judge-counts-requires
 judge-counts-requires c κs = search needs
@@ -97,7 +104,12 @@ returns-3 : tie.Need-returns-3
 returns-3 c =
     let s = c .before .before .before .before .before .before .before in
     let e = counts-refused (s .args .a) (s .args .b) (s .args .r) (sym (c .before .before .before .judge-counts .ensures) ∙ c .before .counts .given .1) in
-    rw (c .before .before .before .before .before .if1 .left, le-leb 98 (length (s .args .out .now)) (c .before .before .before .before .if2 .left), e) (refl, refl)
+    rw (
+      c .before .before .before .before .before .if1 .left,
+      le-leb 98 (length (s .args .out .now)) (c .before .before .before .before .if2 .left),
+      e,
+    )
+    (refl, refl)
 
 enum-told : tie.Need-enum-told
 enum-told c = search needs
@@ -166,7 +178,13 @@ put-card-requires c κs =
     let north = rows (x .before .before .before .before .before .before) in
     let held = sym (x .extents-hold .ensures) ∙ not-false (x .extents-hold .result) (c .before .if3 .left) in (
       counted x .before .before .before .if2 .left,
-      (s .pre .0, (s .pre .1, ((omega (arith, north .high), omega (arith, columns (x .before) .high)), narrow (s .args .r) (s .args .a) _ (right (counted x)) held))),
+      (
+        s .pre .0,
+        (
+          s .pre .1,
+          ((omega (arith, north .high), omega (arith, columns (x .before) .high)), narrow (s .args .r) (s .args .a) _ (right (counted x)) held),
+        ),
+      ),
     )
 
 same-length : tie.Need-same-length
@@ -177,7 +195,8 @@ returns-7 c =
     let x = c .before .before .before .before .before in
     let s = start (counted x) in
     let codes =
-    held-are (s .args .a) (s .args .b) _ _ (s .args .r) (s .pre .0) (s .pre .1) (inside-is _ _ _ (rows (x .before .before .before .before .before .before))) (inside-is _ _ _ (columns (x .before))) in
+    held-are (s .args .a) (s .args .b) _ _ (s .args .r) (s .pre .0) (s .pre .1)
+    (inside-is _ _ _ (rows (x .before .before .before .before .before .before))) (inside-is _ _ _ (columns (x .before))) in
     rw (answered (counted x) (judged x), not-false (x .extents-hold .result) (c .before .before .before .before .if3 .left))
     (refl, c .before .before .put-card .ensures ∙ ap (λ (t : List ℕ). splice 0 t (s .args .out .now)) codes ∙ splice-over _ _)
 

@@ -39,30 +39,39 @@ returns : tie.Need-returns
 returns c =
     let s = c .before .before .before .before .before .before .before .before .before .before .before .before .before in
     let x = c .before .before .before .before .positions .ensures in
-    let v = c .before .before .before .before .before .before .before .enum-told .given .1 in
-    ( c .refusal .ensures ∙ ap refusalOf (x .0 ∙ card-answers (s .args .scale) (s .args .zone) (s .args .card .now) (c .before .before .before .before .before .before .before .before .before .before .read-card .ensures)
-    Verdict.Refused
-    (λ (k : Card). listsVerdict (length (s .args .pixels .now)) (length (s .args .positions .now)) (length (s .args .numbers .now))) v),
-    ( x .1 .0 ∙ card-answers (s .args .scale) (s .args .zone) (s .args .card .now) (c .before .before .before .before .before .before .before .before .before .before .read-card .ensures)
-    (λ (e : Refusal). s .args .positions .now)
-    (λ (k : Card). valuesLeft (positionReportAt k) (s .args .pixels .now) (s .args .positions .now) (s .args .numbers .now)) v,
-    x .1 .1 ∙ card-answers (s .args .scale) (s .args .zone) (s .args .card .now) (c .before .before .before .before .before .before .before .before .before .before .read-card .ensures)
-    (λ (e : Refusal). s .args .numbers .now)
-    (λ (k : Card). numbersLeft (positionReportAt k) (s .args .pixels .now) (s .args .positions .now) (s .args .numbers .now)) v ) )
+    let read = c .before .before .before .before .before .before .before .before .before .before .read-card .ensures in
+    let v = c .before .before .before .before .before .before .before .enum-told .given .1 in (
+      c .refusal .ensures
+          ∙ ap refusalOf
+          (x .0
+          ∙ card-answers (s .args .scale) (s .args .zone) (s .args .card .now) read Verdict.Refused
+          (λ (k : Card). listsVerdict (length (s .args .pixels .now)) (length (s .args .positions .now)) (length (s .args .numbers .now))) v),
+      (
+        x .1 .0
+            ∙ card-answers (s .args .scale) (s .args .zone) (s .args .card .now) read (λ (e : Refusal). s .args .positions .now)
+            (λ (k : Card). valuesLeft (positionReportAt k) (s .args .pixels .now) (s .args .positions .now) (s .args .numbers .now)) v,
+        x .1 .1
+            ∙ card-answers (s .args .scale) (s .args .zone) (s .args .card .now) read (λ (e : Refusal). s .args .numbers .now)
+            (λ (k : Card). numbersLeft (positionReportAt k) (s .args .pixels .now) (s .args .positions .now) (s .args .numbers .now)) v,
+      ),
+    )
 
 returns-2 : tie.Need-returns-2
 returns-2 c =
     let s = c .before .before .before .before .before .before .before in
-    let v = c .before .verdict .given .1 in
-    ( ap refusalOf (card-refuses (s .args .scale) (s .args .zone) (s .args .card .now) (c .before .before .before .before .read-card .ensures)
-    Verdict.Refused
-    (λ (k : Card). listsVerdict (length (s .args .pixels .now)) (length (s .args .positions .now)) (length (s .args .numbers .now))) v),
-    ( card-refuses (s .args .scale) (s .args .zone) (s .args .card .now) (c .before .before .before .before .read-card .ensures)
-    (λ (e : Refusal). s .args .positions .now)
-    (λ (k : Card). valuesLeft (positionReportAt k) (s .args .pixels .now) (s .args .positions .now) (s .args .numbers .now)) v,
-    card-refuses (s .args .scale) (s .args .zone) (s .args .card .now) (c .before .before .before .before .read-card .ensures)
-    (λ (e : Refusal). s .args .numbers .now)
-    (λ (k : Card). numbersLeft (positionReportAt k) (s .args .pixels .now) (s .args .positions .now) (s .args .numbers .now)) v ) )
+    let v = c .before .verdict .given .1 in (
+      ap refusalOf (card-refuses (s .args .scale) (s .args .zone) (s .args .card .now) (c .before .before .before .before .read-card .ensures)
+          Verdict.Refused
+          (λ (k : Card). listsVerdict (length (s .args .pixels .now)) (length (s .args .positions .now)) (length (s .args .numbers .now))) v),
+      (
+        card-refuses (s .args .scale) (s .args .zone) (s .args .card .now) (c .before .before .before .before .read-card .ensures)
+            (λ (e : Refusal). s .args .positions .now)
+            (λ (k : Card). valuesLeft (positionReportAt k) (s .args .pixels .now) (s .args .positions .now) (s .args .numbers .now)) v,
+        card-refuses (s .args .scale) (s .args .zone) (s .args .card .now) (c .before .before .before .before .read-card .ensures)
+            (λ (e : Refusal). s .args .numbers .now)
+            (λ (k : Card). numbersLeft (positionReportAt k) (s .args .pixels .now) (s .args .positions .now) (s .args .numbers .now)) v,
+      ),
+    )
 
 pub fordcask-positions-spec : {M : Type 1} → statement M
 fordcask-positions-spec =

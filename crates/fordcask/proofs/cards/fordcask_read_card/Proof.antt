@@ -27,7 +27,8 @@ returns c =
     let x = c .before .before .before .before .before .read-card .result in
     let n = toZ-ofZ w64 (x .card .n) (record { sfits = c .struct-told .given .1 .1 .1 .1 .0 .1 }) in
     let m = toZ-ofZ w64 (x .card .m) (record { sfits = c .struct-told .given .1 .1 .1 .1 .1 .0 .1 }) in
-    rw (n, m, c .before .before .before .before .refusal .ensures, flag (x .card .tif)) (ap cardParts (c .before .before .before .before .before .read-card .ensures))
+    rw (n, m, c .before .before .before .before .refusal .ensures, flag (x .card .tif))
+    (ap cardParts (c .before .before .before .before .before .read-card .ensures))
 
 pub fordcask-read-card-spec : {M : Type 1} → statement M
 fordcask-read-card-spec = tie.close (tie.spec read-card-requires refusal-requires cast-t9 returns)

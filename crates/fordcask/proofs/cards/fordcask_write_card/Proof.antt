@@ -19,7 +19,11 @@ same-length c = search needs
 returns : tie.Need-returns
 returns c =
     let r = c .before .before .before .before .before .before .before .before .before .args .r in
-    let e = rw (toZ-ofZ w64 (r .n) (record { sfits = c .before .before .before .before .before .struct-told .given .0 .1 }), toZ-ofZ w64 (r .m) (record { sfits = c .before .before .before .before .before .struct-told .given .1 .0 .1 })) at (c .before .before .before .write-card .ensures) in
+    let e =
+    rw (
+      toZ-ofZ w64 (r .n) (record { sfits = c .before .before .before .before .before .struct-told .given .0 .1 }),
+      toZ-ofZ w64 (r .m) (record { sfits = c .before .before .before .before .before .struct-told .given .1 .0 .1 }),
+    ) at (c .before .before .before .write-card .ensures) in
     (c .refusal .ensures ∙ ap refusalOf (e .0), e .1)
 
 pub fordcask-write-card-spec : {M : Type 1} → statement M

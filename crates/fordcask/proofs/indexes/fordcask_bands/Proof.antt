@@ -38,7 +38,8 @@ returns c =
     (rw (toZ-ofZ w64 (s .args .row) (s .fits .row), toZ-ofZ w64 (s .args .column) (s .fits .column)) at (c .before .bands .ensures)
     ∙ card-answers (s .args .scale) (s .args .zone) (s .args .card .now) (c .before .before .before .before .before .read-card .ensures)
     BandsAnswer.Refused
-    (λ (k : Card). bandsOf k (s .args .index .now) (s .args .count) (s .args .store .now) (s .args .row) (s .args .column)) (c .before .before .enum-told .given .1))
+    (λ (k : Card). bandsOf k (s .args .index .now) (s .args .count) (s .args .store .now) (s .args .row) (s .args .column))
+    (c .before .before .enum-told .given .1))
 
 returns-2 : tie.Need-returns-2
 returns-2 c =
@@ -46,7 +47,8 @@ returns-2 c =
     c .into-parts2 .ensures
     ∙ ap bandsReport (card-refuses (s .args .scale) (s .args .zone) (s .args .card .now) (c .before .before .before .before .before .read-card .ensures)
     BandsAnswer.Refused
-    (λ (k : Card). bandsOf k (s .args .index .now) (s .args .count) (s .args .store .now) (s .args .row) (s .args .column)) (c .before .before .verdict .given .1))
+    (λ (k : Card). bandsOf k (s .args .index .now) (s .args .count) (s .args .store .now) (s .args .row) (s .args .column))
+    (c .before .before .verdict .given .1))
 
 pub fordcask-bands-spec : {M : Type 1} → statement M
 fordcask-bands-spec =

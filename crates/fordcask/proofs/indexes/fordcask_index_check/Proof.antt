@@ -34,20 +34,27 @@ same-length c = search needs
 returns : tie.Need-returns
 returns c =
     let s = c .before .before .before .before .before .before .before .before .before .before .before .before in
-    let v = c .before .before .before .before .before .enum-told .given .1 in
-    ( c .refusal .ensures ∙ ap refusalOf (c .before .before .before .index-check .ensures .0 ∙ card-answers (s .args .scale) (s .args .zone) (s .args .card .now) (c .before .before .before .before .before .before .before .before .read-card .ensures)
-    Verdict.Refused (λ (k : Card). checkOf k (s .args .index .now) (s .args .count) (s .args .marks .now)) v),
-    c .before .before .before .index-check .ensures .1 ∙ card-answers (s .args .scale) (s .args .zone) (s .args .card .now) (c .before .before .before .before .before .before .before .before .read-card .ensures)
-    (λ (e : Refusal). s .args .marks .now) (λ (k : Card). marksOf k (s .args .index .now) (s .args .count) (s .args .marks .now)) v )
+    let read = c .before .before .before .before .before .before .before .before .read-card .ensures in
+    let v = c .before .before .before .before .before .enum-told .given .1 in (
+      c .refusal .ensures
+          ∙ ap refusalOf
+          (c .before .before .before .index-check .ensures .0
+          ∙ card-answers (s .args .scale) (s .args .zone) (s .args .card .now) read Verdict.Refused
+          (λ (k : Card). checkOf k (s .args .index .now) (s .args .count) (s .args .marks .now)) v),
+      c .before .before .before .index-check .ensures .1
+          ∙ card-answers (s .args .scale) (s .args .zone) (s .args .card .now) read (λ (e : Refusal). s .args .marks .now)
+          (λ (k : Card). marksOf k (s .args .index .now) (s .args .count) (s .args .marks .now)) v,
+    )
 
 returns-2 : tie.Need-returns-2
 returns-2 c =
     let s = c .before .before .before .before .before .before .before .before in
-    let v = c .before .verdict .given .1 in
-    ( ap refusalOf (card-refuses (s .args .scale) (s .args .zone) (s .args .card .now) (c .before .before .before .before .read-card .ensures)
-    Verdict.Refused (λ (k : Card). checkOf k (s .args .index .now) (s .args .count) (s .args .marks .now)) v),
-    card-refuses (s .args .scale) (s .args .zone) (s .args .card .now) (c .before .before .before .before .read-card .ensures)
-    (λ (e : Refusal). s .args .marks .now) (λ (k : Card). marksOf k (s .args .index .now) (s .args .count) (s .args .marks .now)) v )
+    let v = c .before .verdict .given .1 in (
+      ap refusalOf (card-refuses (s .args .scale) (s .args .zone) (s .args .card .now) (c .before .before .before .before .read-card .ensures)
+          Verdict.Refused (λ (k : Card). checkOf k (s .args .index .now) (s .args .count) (s .args .marks .now)) v),
+      card-refuses (s .args .scale) (s .args .zone) (s .args .card .now) (c .before .before .before .before .read-card .ensures)
+          (λ (e : Refusal). s .args .marks .now) (λ (k : Card). marksOf k (s .args .index .now) (s .args .count) (s .args .marks .now)) v,
+    )
 
 pub fordcask-index-check-spec : {M : Type 1} → statement M
 fordcask-index-check-spec =

@@ -13,7 +13,9 @@ use Rattle.fordcask.proofs.indexes.fordcask_tile.Statement.{statement}
 use Rattle.fordcask.proofs.indexes.fordcask_tile.Tie as tie
 
 told : (c : tie.After-stored-number) → let s = c .before .before .before .before .before .before .before .before in
-    c .stored-number .result ≡ onCard (readOf (s .args .scale) (s .args .zone) (s .args .card .now)) NumberAnswer.Refused (λ (k : Card). numberOf k (s .args .index .now) (s .args .count) (s .args .store .now) (s .args .row) (s .args .column))
+    c .stored-number .result
+    ≡ onCard (readOf (s .args .scale) (s .args .zone) (s .args .card .now)) NumberAnswer.Refused
+    (λ (k : Card). numberOf k (s .args .index .now) (s .args .count) (s .args .store .now) (s .args .row) (s .args .column))
 told c =
     let s = c .before .before .before .before .before .before .before .before in
     c .stored-number .ensures
@@ -22,8 +24,16 @@ told c =
     NumberAnswer.Refused
     (λ (k : Card). numberOf k (s .args .index .now) (s .args .count) (s .args .store .now) (s .args .row) (s .args .column)) (c .before .enum-told .given .1)
 
-held : (c : tie.After-known-told) → let s = c .before .before .before .before .before .before .before .before .before .before .before in InStore (c .before .n .given .0 .0) (s .args .count) (s .args .store .now)
-held c = let s = c .before .before .before .before .before .before .before .before .before .before .before in number-held _ _ _ _ _ _ _ (sym (c .before .before .before .stored-number .ensures ∙ number-plain _ (s .args .index .now) (s .args .count) (s .args .store .now) (s .args .row) (s .args .column) (s .fits .row) (s .fits .column)) ∙ c .before .n .given .1)
+held : (c : tie.After-known-told)
+    → let s = c .before .before .before .before .before .before .before .before .before .before .before in
+    InStore (c .before .n .given .0 .0) (s .args .count) (s .args .store .now)
+held c =
+    let s = c .before .before .before .before .before .before .before .before .before .before .before in
+    number-held _ _ _ _ _ _ _
+    (sym (c .before .before .before .stored-number .ensures
+    ∙ number-plain _ (s .args .index .now) (s .args .count) (s .args .store .now) (s .args .row) (s .args .column)
+    (s .fits .row) (s .fits .column))
+    ∙ c .before .n .given .1)
 
 read-card-requires : tie.Need-read-card-requires
 read-card-requires c κs = search needs
@@ -60,7 +70,8 @@ no-tile-requires-2 c κs = search needs
 
 returns : tie.Need-returns
 returns c =
-    let s = c .before .before .before .before .before .before .before .before .before .before .before in ap tileParts (sym (c .before .n .given .1) ∙ told (c .before .before .before))
+    let s = c .before .before .before .before .before .before .before .before .before .before .before in
+    ap tileParts (sym (c .before .n .given .1) ∙ told (c .before .before .before))
 
 returns-2 : tie.Need-returns-2
 returns-2 c =
@@ -69,9 +80,12 @@ returns-2 c =
 returns-3 : tie.Need-returns-3
 returns-3 c =
     let s = c .before .before .before .before .before .before .before .before .before in
-    c .no-tile2 .ensures ∙ ap tileParts (card-refuses (s .args .scale) (s .args .zone) (s .args .card .now) (c .before .before .before .before .before .read-card .ensures)
+    c .no-tile2 .ensures
+    ∙ ap tileParts
+    (card-refuses (s .args .scale) (s .args .zone) (s .args .card .now) (c .before .before .before .before .before .read-card .ensures)
     NumberAnswer.Refused
-    (λ (k : Card). numberOf k (s .args .index .now) (s .args .count) (s .args .store .now) (s .args .row) (s .args .column)) (c .before .before .verdict .given .1))
+    (λ (k : Card). numberOf k (s .args .index .now) (s .args .count) (s .args .store .now) (s .args .row) (s .args .column))
+    (c .before .before .verdict .given .1))
 
 pub fordcask-tile-spec : {M : Type 1} → statement M
 fordcask-tile-spec =

@@ -36,7 +36,8 @@ returns c =
     (c .before .window .ensures
     ∙ card-answers (s .args .scale) (s .args .zone) (s .args .card .now) (c .before .before .before .before .before .read-card .ensures)
     WindowAnswer.Refused
-    (λ (k : Card). windowOf k (s .args .index .now) (s .args .count) (s .args .top) (s .args .left) (s .args .height) (s .args .width)) (c .before .before .enum-told .given .1))
+    (λ (k : Card). windowOf k (s .args .index .now) (s .args .count) (s .args .top) (s .args .left) (s .args .height) (s .args .width))
+    (c .before .before .enum-told .given .1))
 
 returns-2 : tie.Need-returns-2
 returns-2 c =
@@ -44,7 +45,8 @@ returns-2 c =
     c .into-parts2 .ensures
     ∙ ap windowReport (card-refuses (s .args .scale) (s .args .zone) (s .args .card .now) (c .before .before .before .before .before .read-card .ensures)
     WindowAnswer.Refused
-    (λ (k : Card). windowOf k (s .args .index .now) (s .args .count) (s .args .top) (s .args .left) (s .args .height) (s .args .width)) (c .before .before .verdict .given .1))
+    (λ (k : Card). windowOf k (s .args .index .now) (s .args .count) (s .args .top) (s .args .left) (s .args .height) (s .args .width))
+    (c .before .before .verdict .given .1))
 
 pub fordcask-window-spec : {M : Type 1} → statement M
 fordcask-window-spec =

@@ -17,7 +17,9 @@ into-parts-requires c κs = search needs
 returns : tie.Need-returns
 returns c =
     let s = c .before .before in
-    c .into-parts .ensures ∙ ap originReport (rw (toZ-ofZ w64 (s .args .lat) (s .fits .lat), toZ-ofZ w64 (s .args .lon) (s .fits .lon)) at (c .before .align .ensures))
+    c .into-parts .ensures
+    ∙ ap originReport
+    (rw (toZ-ofZ w64 (s .args .lat) (s .fits .lat), toZ-ofZ w64 (s .args .lon) (s .fits .lon)) at (c .before .align .ensures))
 
 pub fordcask-align-spec : {M : Type 1} → statement M
 fordcask-align-spec = tie.close (tie.spec align-requires into-parts-requires returns)

@@ -19,7 +19,8 @@ returns : tie.Need-returns
 returns c =
     let s = c .before .before .before in
     let x = c .before .before .cover .result in
-    let told : record { number = c .before .refusal .result .number; at = c .before .refusal .result .at; length = x .length; zones = x .zones } ≡ coverParts x =
+    let told : record { number = c .before .refusal .result .number; at = c .before .refusal .result .at; length = x .length; zones = x .zones }
+    ≡ coverParts x =
     ap (λ (r : Refusal). record { number = r .number; at = r .at; length = x .length; zones = x .zones }) (c .before .refusal .ensures) in
     told ∙ ap coverParts (rw (toZ-ofZ w64 (s .args .lat) (s .fits .lat)) at (c .before .before .cover .ensures))
 

@@ -17,7 +17,13 @@ into-parts-requires c κs = search needs
 returns : tie.Need-returns
 returns c =
     let s = c .before .before in
-    c .into-parts .ensures ∙ ap offsetParts (rw (toZ-ofZ w64 (s .args .lat) (s .fits .lat), toZ-ofZ w64 (s .args .lon) (s .fits .lon), toZ-ofZ w64 (s .args .clat) (s .fits .clat), toZ-ofZ w64 (s .args .clon) (s .fits .clon)) at (c .before .offset-from .ensures))
+    c .into-parts .ensures
+    ∙ ap offsetParts (rw (
+      toZ-ofZ w64 (s .args .lat) (s .fits .lat),
+      toZ-ofZ w64 (s .args .lon) (s .fits .lon),
+      toZ-ofZ w64 (s .args .clat) (s .fits .clat),
+      toZ-ofZ w64 (s .args .clon) (s .fits .clon),
+    ) at (c .before .offset-from .ensures))
 
 pub fordcask-offset-spec : {M : Type 1} → statement M
 fordcask-offset-spec = tie.close (tie.spec offset-from-requires into-parts-requires returns)

@@ -19,9 +19,12 @@ returns : tie.Need-returns
 returns c =
     let s = c .before .before .before in
     let x = c .before .before .rectangle .result in
-    let told : record { number = c .before .refusal .result .number; at = c .before .refusal .result .at; length = x .length; zones = x .zones } ≡ rectangleParts x =
+    let told : record { number = c .before .refusal .result .number; at = c .before .refusal .result .at; length = x .length; zones = x .zones }
+    ≡ rectangleParts x =
     ap (λ (r : Refusal). record { number = r .number; at = r .at; length = x .length; zones = x .zones }) (c .before .refusal .ensures) in
-    told ∙ ap rectangleParts (rw (toZ-ofZ w64 (s .args .south) (s .fits .south), toZ-ofZ w64 (s .args .north) (s .fits .north)) at (c .before .before .rectangle .ensures))
+    told
+    ∙ ap rectangleParts
+    (rw (toZ-ofZ w64 (s .args .south) (s .fits .south), toZ-ofZ w64 (s .args .north) (s .fits .north)) at (c .before .before .rectangle .ensures))
 
 pub fordcask-rectangle-spec : {M : Type 1} → statement M
 fordcask-rectangle-spec = tie.close (tie.spec rectangle-requires refusal-requires returns)

@@ -27,7 +27,11 @@ mul-t9 c = search needs
 
 sub-t10 : tie.Need-sub-t10
 sub-t10 c =
-    omega (arith, known-laid _ (c .before .before .before .before .before .before .pre), east-high _ (known-laid _ (c .before .before .before .before .before .before .pre)))
+    omega (
+      arith,
+      known-laid _ (c .before .before .before .before .before .before .pre),
+      east-high _ (known-laid _ (c .before .before .before .before .before .before .pre)),
+    )
 
 mul-t11 : tie.Need-mul-t11
 mul-t11 c = omega (arith, known-laid _ (c .before .before .before .before .before .before .pre))

@@ -10,7 +10,9 @@ returns : tie.Need-returns
 returns c = sym (mod-eq-of-lt (omega arith))
 
 returns-2 : tie.Need-returns-2
-returns-2 c = let a = c .before .before .args in sym (ap (λ (n : ℕ). n % a .a) (omega arith) ∙ add-mod-right (a .v - a .a) (a .a) ∙ mod-eq-of-lt (omega arith))
+returns-2 c =
+    let a = c .before .before .args in
+    sym (ap (λ (n : ℕ). n % a .a) (omega arith) ∙ add-mod-right (a .v - a .a) (a .a) ∙ mod-eq-of-lt (omega arith))
 
 returns-3 : tie.Need-returns-3
 returns-3 c = let a = c .before .before .args in sym (ap (λ (n : ℕ). n % a .a) (omega arith) ∙ mul-mod-left 2 (a .a))

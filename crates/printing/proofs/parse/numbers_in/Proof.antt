@@ -55,7 +55,8 @@ returns-3 : tie.Need-returns-3
 returns-3 c =
     let t = c .before in
     let u = t .before .before .before .before .before in
-    bad-parts (u .before .before .args .s .now) (u .until .result) (u .until .ensures .0) (t .before .is-number .ensures) (t .is-number2 .ensures) (c .if2 .left)
+    bad-parts (u .before .before .args .s .now) (u .until .result) (u .until .ensures .0) (t .before .is-number .ensures)
+    (t .is-number2 .ensures) (c .if2 .left)
 
 pub numbers-in-spec : {M : Type 1} → statement M
 numbers-in-spec =

@@ -74,7 +74,8 @@ returns-3 c =
     let v = p .before .before .before .before in
     let u = v .before .before in
     let s = u .before .before .before .before .args .input .now in
-    rw (← opened-two s (u .until .result) (u .until .ensures .0) (omega arith) (v .until2 .result) (omega arith) (v .until2 .ensures .0)) (p .two-lines .ensures)
+    rw (← opened-two s (u .until .result) (u .until .ensures .0) (omega arith) (v .until2 .result) (omega arith) (v .until2 .ensures .0))
+    (p .two-lines .ensures)
 
 pub opening-of-spec : {M : Type 1} → statement M
 opening-of-spec =

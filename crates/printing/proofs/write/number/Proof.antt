@@ -42,8 +42,11 @@ loop-again : tie.Need-loop-again Inv-loop μ-loop
 loop-again c =
     let a = c .before .before .before .before in
     let g = c .before .before .loop in
-    let l = length-digits (a .args .w) (a .args .v) in
-    (omega arith, partly-next (g .inv .1) _ (omega arith) (omega arith) (digit-at (a .args .w) (a .args .v) (g .j) (c .before .loop-test .taken) ∙ sym (c .digit .ensures)))
+    let l = length-digits (a .args .w) (a .args .v) in (
+      omega arith,
+      partly-next (g .inv .1) _ (omega arith) (omega arith)
+          (digit-at (a .args .w) (a .args .v) (g .j) (c .before .loop-test .taken) ∙ sym (c .digit .ensures)),
+    )
 
 add-result : tie.Need-add-result Inv-loop μ-loop
 add-result c = omega arith

@@ -38,8 +38,12 @@ loop-again c =
 
 returns : tie.Need-returns Inv-loop μ-loop
 returns c =
-    let g = c .before .before .loop in
-    (sym (g .inv .2) ∙ trim-stop (c .before .before .before .args .v) (c .before .digit .result) (g .w) (g .inv .0) (c .before .digit .ensures) (c .if1 .left), g .inv .1)
+    let g = c .before .before .loop in (
+      sym (g .inv .2)
+          ∙ trim-stop (c .before .before .before .args .v) (c .before .digit .result) (g .w) (g .inv .0) (c .before .digit .ensures)
+          (c .if1 .left),
+      g .inv .1,
+    )
 
 pub width-spec : {M : Type 1} → statement M
 width-spec =

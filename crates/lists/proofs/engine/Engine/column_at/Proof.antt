@@ -17,7 +17,13 @@ below : (c : tie.After-reduced) → c .reduced .result < 80076801
 below c =
     let s = c .before .before .before in
     let l = laid (s .args .self) (s .pre .0) in
-    omega (arith, l .columns .most, c .reduced .ensures, mod-lt ((s .args .self .across * s .args .east + s .args .self .left) / 506250) {m = s .args .self .card .a} (omega (arith, l .columns .some)))
+    omega (
+      arith,
+      l .columns .most,
+      c .reduced .ensures,
+      mod-lt ((s .args .self .across * s .args .east + s .args .self .left) / 506250) {m = s .args .self .card .a}
+          (omega (arith, l .columns .some)),
+    )
 
 mul-reduced : tie.Need-mul-reduced
 mul-reduced c = let s = c .before in record { fits = omega (arith, column-product _ (s .pre .0) _ (s .pre .1)) }

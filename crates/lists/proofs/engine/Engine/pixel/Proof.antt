@@ -14,7 +14,8 @@ use Rattle.lists.proofs.engine.Engine.pixel.Statement.{statement}
 use Rattle.lists.proofs.engine.Engine.pixel.Tie as tie
 
 counts : (c : tie.After-known-told)
-    → Counts (c .before .before .before .before .args .lat) (c .before .before .before .before .args .lon) (c .before .north .given .0 .0) (c .before .north .given .0 .1 .0)
+    → Counts (c .before .before .before .before .args .lat) (c .before .before .before .before .args .lon)
+    (c .before .north .given .0 .0) (c .before .north .given .0 .1 .0)
 counts c =
     let s = c .before .before .before .before in
     ranged-at (s .args .lat) (s .args .lon) (s .fits .lat) (s .fits .lon) (c .before .before .before .count-position .ensures) (c .before .north .given .1)
@@ -84,7 +85,8 @@ returns-2 c =
     let r = d .before .row-at .result in
     let v = d .column-at .result in
     rw (i .rows .test, i .columns .test)
-    (judged-refused (d .before .before .before .before .before .before .args .self .card) r v (f .row-fits) (f .column-fits) (c .before .before .before .judge-pixel .ensures)
+    (judged-refused (d .before .before .before .before .before .before .args .self .card) r v (f .row-fits) (f .column-fits)
+    (c .before .before .before .judge-pixel .ensures)
     PixelAnswer.Refused (PixelAnswer.At r v) (c .before .r .given .1)
     ∙ f .same)
 

@@ -19,14 +19,19 @@ use Rattle.lists.proofs.engine.Engine.position.Statement.{statement}
 use Rattle.lists.proofs.engine.Engine.position.Tie as tie
 
 -- what the verdict tells where it accepts
-tests : (c : tie.After-enum-told) → (inTiles (c .before .before .before .before .args .self .card) (c .before .before .before .before .args .row) (c .before .before .before .before .args .column) ≡ true)
-    × (inChart (c .before .before .before .before .args .self .card) (c .before .before .before .before .args .row) (c .before .before .before .before .args .column) ≡ true)
+tests : (c : tie.After-enum-told)
+    → (inTiles (c .before .before .before .before .args .self .card) (c .before .before .before .before .args .row)
+    (c .before .before .before .before .args .column) ≡ true)
+    × (inChart (c .before .before .before .before .args .self .card) (c .before .before .before .before .args .row)
+    (c .before .before .before .before .args .column) ≡ true)
 tests c =
     let s = c .before .before .before .before in
-    judged-accepted (s .args .self .card) (s .args .row) (s .args .column) (s .fits .row) (s .fits .column) (c .before .before .judge-pixel .ensures) (c .enum-told .given .1)
+    judged-accepted (s .args .self .card) (s .args .row) (s .args .column) (s .fits .row) (s .fits .column)
+    (c .before .before .judge-pixel .ensures) (c .enum-told .given .1)
 
 inside : (c : tie.After-enum-told)
-    → Inside (c .before .before .before .before .args .self .card) (c .before .before .before .before .args .row) (c .before .before .before .before .args .column)
+    → Inside (c .before .before .before .before .args .self .card) (c .before .before .before .before .args .row)
+    (c .before .before .before .before .args .column)
 inside c = tiles-inside _ _ _ (tests c .0)
 
 judge-pixel-requires : tie.Need-judge-pixel-requires
@@ -49,7 +54,12 @@ cast-difference c =
     let s = c .before .before .before .before .before in
     let e = s .args .self in
     let r = cast-below _ (s .args .row) (s .fits .row) (inside (c .before) .row) in
-    omega (arith, latitude-high (e .card) (laid e (s .pre)) (e .card .north - natAbs (toZ w64 (ofZ w64 (s .args .row)))) (omega (arith, north-high (e .card) (laid e (s .pre)))), c .north-of .ensures)
+    omega (
+      arith,
+      latitude-high (e .card) (laid e (s .pre)) (e .card .north - natAbs (toZ w64 (ofZ w64 (s .args .row))))
+          (omega (arith, north-high (e .card) (laid e (s .pre)))),
+      c .north-of .ensures,
+    )
 
 difference-requires : tie.Need-difference-requires
 difference-requires c κs = search needs

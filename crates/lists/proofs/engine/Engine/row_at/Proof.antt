@@ -25,7 +25,8 @@ cast-difference c =
     let s = c .before .before .before in
     let e = s .args .self in
     record {
-      fits = omega (arith, row-count e (s .pre .0) (s .args .north) (s .pre .1), row-high (e .card) (laid e (s .pre .0)) (s .args .north), laid e (s .pre .0)) }
+      fits = omega (arith, row-count e (s .pre .0) (s .args .north) (s .pre .1), row-high (e .card) (laid e (s .pre .0)) (s .args .north), laid e (s .pre .0));
+    }
 
 cast-difference-2 : tie.Need-cast-difference-2
 cast-difference-2 c = omega (arith, laid _ (c .before .before .before .pre .0))
