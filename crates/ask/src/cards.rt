@@ -1,5 +1,6 @@
 // Questions on a card (01, "The image card, 98 bytes", "Origins and the zone grid").
 use crate::buffer;
+use crate::lent;
 use crate::print;
 use crate::word;
 use arc::Refusal;
@@ -7,7 +8,7 @@ use arc::Verdict;
 
 // Whether the line is one of these questions, well formed; then it is answered.
 pub fn asked(name: &[u8], line: &[u8], at: usize) -> bool {
-    let mut bytes = [0u8; 65_536];
+    let mut bytes = lent::bytes();
     let k = buffer::card(line, at, &mut bytes);
     let n = k.length;
     if word::ended(k.next) {

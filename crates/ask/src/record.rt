@@ -1,5 +1,6 @@
 // The writing of a record (01, "The image card, 98 bytes").
 use crate::buffer;
+use crate::lent;
 use crate::print;
 use crate::word;
 use fordcask::RecordParts;
@@ -22,7 +23,11 @@ struct NameWord {
 fn name(line: &[u8], at: usize) -> NameWord {
     let mut value = [0u8; 12];
     let filled = buffer::bytes(line, at, &mut value);
-    let next = if filled.length == 12 { filled.next } else { word::BAD };
+    let next = if filled.length == 12 {
+        filled.next
+    } else {
+        word::BAD
+    };
     NameWord { value, next }
 }
 
@@ -84,7 +89,7 @@ pub fn write_card(line: &[u8], at: usize) -> bool {
         return false;
     }
     let n = length.value as usize;
-    let mut out = [42u8; 65_536];
+    let mut out = lent::bytes();
     written(r, &mut out[..n]);
     true
 }

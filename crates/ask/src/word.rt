@@ -5,6 +5,7 @@ ghost use Prim.Native.Nat.{_≤_};
 const END: usize = 18_446_744_073_709_551_615;
 // The word is not of its kind.
 pub const BAD: usize = 18_446_744_073_709_551_614;
+
 pub const BLANK: u8 = 32;
 
 // A number, and where the next word starts.
@@ -100,7 +101,11 @@ pub fn fits(x: Number) -> bool {
 // A number with its sign; 0 where it does not fit.
 pub fn with_sign(x: Number) -> i64 {
     if 9_223_372_036_854_775_808 <= x.size {
-        return if x.minus { -9_223_372_036_854_775_808 } else { 0 };
+        return if x.minus {
+            -9_223_372_036_854_775_808
+        } else {
+            0
+        };
     }
     let size = x.size as i64;
     if x.minus { 0 - size } else { size }

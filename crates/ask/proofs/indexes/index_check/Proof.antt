@@ -18,6 +18,9 @@ returns c = search needs
 returns-2 : tie.Need-returns-2
 returns-2 c = search needs
 
+bytes-requires : tie.Need-bytes-requires
+bytes-requires c κs = search needs
+
 array-borrow-prefix-marks : tie.Need-array-borrow-prefix-marks
 array-borrow-prefix-marks c = search needs
 
@@ -38,6 +41,7 @@ index-check-spec =
     ended-requires
     returns
     returns-2
+    bytes-requires
     array-borrow-prefix-marks
     slice-aggregate-checked
     checked-requires

@@ -6,6 +6,12 @@ use borrow.Author.Needs.{needs}
 use Rattle.ask.proofs.pairs.asked.Statement.{statement}
 use Rattle.ask.proofs.pairs.asked.Tie as tie
 
+bytes-requires : tie.Need-bytes-requires
+bytes-requires c κs = search needs
+
+values-requires : tie.Need-values-requires
+values-requires c κs = search needs
+
 slice-aggregate-card : tie.Need-slice-aggregate-card
 slice-aggregate-card c = search needs
 
@@ -36,14 +42,20 @@ returns-2 c = search needs
 returns-3 : tie.Need-returns-3
 returns-3 c = search needs
 
+values-requires-2 : tie.Need-values-requires-2
+values-requires-2 c κs = search needs
+
+numbers-requires : tie.Need-numbers-requires
+numbers-requires c κs = search needs
+
 array-share-prefix-bytes : tie.Need-array-share-prefix-bytes
 array-share-prefix-bytes c = search needs
 
 slice-aggregate-answered : tie.Need-slice-aggregate-answered
 slice-aggregate-answered c = search needs
 
-array-share-prefix-list : tie.Need-array-share-prefix-list
-array-share-prefix-list c = search needs
+array-share-prefix-given : tie.Need-array-share-prefix-given
+array-share-prefix-given c = search needs
 
 slice-aggregate-answered-2 : tie.Need-slice-aggregate-answered-2
 slice-aggregate-answered-2 c = search needs
@@ -70,6 +82,8 @@ pub asked-spec : {M : Type 1} → statement M
 asked-spec =
     tie.close
     (tie.spec
+    bytes-requires
+    values-requires
     slice-aggregate-card
     card-requires
     slice-aggregate-list
@@ -80,9 +94,11 @@ asked-spec =
     returns
     returns-2
     returns-3
+    values-requires-2
+    numbers-requires
     array-share-prefix-bytes
     slice-aggregate-answered
-    array-share-prefix-list
+    array-share-prefix-given
     slice-aggregate-answered-2
     array-borrow-prefix-lent-values
     slice-aggregate-answered-3

@@ -21,6 +21,9 @@ returns c = search needs
 returns-2 : tie.Need-returns-2
 returns-2 c = search needs
 
+bytes-requires : tie.Need-bytes-requires
+bytes-requires c κs = search needs
+
 array-borrow-prefix-out : tie.Need-array-borrow-prefix-out
 array-borrow-prefix-out c = search needs
 
@@ -42,6 +45,7 @@ write-card-spec =
     ended-requires
     returns
     returns-2
+    bytes-requires
     array-borrow-prefix-out
     slice-aggregate-written
     written-requires

@@ -1,0 +1,24 @@
+// Buffers that are lent, each of 65,536. The contracts give only the length, which lending a part needs.
+ghost use mathlib.Core.Path.{_≡_};
+ghost use lib.ListN.{length};
+
+// Bytes that are `*` (42).
+pub fn bytes() -> [u8; 65_536]
+    ensures { λ r. ⌜ 65536 ≡ length r ⌝ }
+{
+    [42; 65_536]
+}
+
+// Numbers that are 7.
+pub fn numbers() -> [u32; 65_536]
+    ensures { λ r. ⌜ 65536 ≡ length r ⌝ }
+{
+    [7; 65_536]
+}
+
+// Signed numbers that are 7.
+pub fn values() -> [i64; 65_536]
+    ensures { λ r. ⌜ 65536 ≡ length r ⌝ }
+{
+    [7; 65_536]
+}
