@@ -1,9 +1,5 @@
-// Puts the questions of standard input to the library, a line each, and prints the answers (README, "Asking").
-// A line is a question's name and its arguments, one space between two: numbers; bytes as their characters, with \xHH for a blank and for
-// what does not print; a list of numbers as [1,0,2]. The answer is the refusal's number and place, the values in the order of the C header,
-// in a refusal too, then what a lent buffer holds. A line that starts with # is printed as it stands, an empty line stays empty, and any
-// other line prints "bad line".
-// Taken: 1 MiB of input; bytes and lists, lent or read, of up to 65,536, so that the largest index served has 65,536 entries; a store of up to 1 MiB.
+// Puts the questions of standard input to the library, a line each, and prints the answers (docs/ASKING.md).
+// Taken: 1 MiB of input; bytes and lists, lent or read, of up to 65,536, so that the largest index has 65,536 entries; a store of up to 1 MiB.
 // Lent bytes are `*`, lent numbers 7. In the store's k-th tile each red byte is k, each green byte its row, each blue byte 128 + its column.
 use libc::STDIN_FILENO;
 ghost use mathlib.Core.Path.{_≡_};
@@ -22,6 +18,7 @@ mod print;
 mod record;
 mod word;
 
+// A band of a tile: 128 rows of 128 (01, "Tiles").
 const BAND: usize = 16_384;
 
 // A byte of the store.
