@@ -36,15 +36,18 @@ fn on_card(name: &[u8], scale: u64, zone: u64, card: &[u8]) -> bool {
 
 fn on_pair(name: &[u8], scale: u64, zone: u64, card: &[u8], x: i64, y: i64) -> bool {
     if check::same(name, b"place") {
-        place(scale, zone, card, x, y);
+        let r = fordcask::fordcask_place(scale, zone, card, x, y);
+        print::pair(r.number, r.at, r.row, r.column);
         return true;
     }
     if check::same(name, b"position") {
-        position(scale, zone, card, x, y);
+        let r = fordcask::fordcask_position(scale, zone, card, x, y);
+        print::pair(r.number, r.at, r.lat, r.lon);
         return true;
     }
     if check::same(name, b"pixel") {
-        pixel(scale, zone, card, x, y);
+        let r = fordcask::fordcask_pixel(scale, zone, card, x, y);
+        print::pair(r.number, r.at, r.row, r.column);
         return true;
     }
     if check::same(name, b"judge_pixel") {
@@ -60,16 +63,10 @@ fn read_card(scale: u64, zone: u64, card: &[u8]) {
     let k = fordcask::fordcask_read_card(scale, zone, card);
     let bad = k.bad;
     print::refusal(k.number, k.at);
-    print::natural(k.a);
-    print::natural(k.b);
+    print::naturals(&[k.a, k.b]);
     print::signed(k.n);
     print::signed(k.m);
-    print::natural(k.nul);
-    print::natural(k.nus);
-    print::natural(k.nll);
-    print::natural(k.nls);
-    print::natural(k.nfl);
-    print::natural(k.nfc);
+    print::naturals(&[k.nul, k.nus, k.nll, k.nls, k.nfl, k.nfc]);
     print::name(&bad);
     print::natural(k.tif as u64);
     print::end_line();
@@ -81,38 +78,7 @@ fn extents(scale: u64, zone: u64, card: &[u8]) {
     let k = reading.card;
     let r = verdict.refusal();
     let e = k.extents();
-    print::refusal(r.number, r.at);
-    print::natural(e.nul);
-    print::natural(e.nus);
-    print::natural(e.nll);
-    print::natural(e.nls);
-    print::natural(e.nfl);
-    print::natural(e.nfc);
-    print::end_line();
-}
-
-fn place(scale: u64, zone: u64, card: &[u8], row: i64, column: i64) {
-    let r = fordcask::fordcask_place(scale, zone, card, row, column);
-    print::refusal(r.number, r.at);
-    print::signed(r.row);
-    print::signed(r.column);
-    print::end_line();
-}
-
-fn position(scale: u64, zone: u64, card: &[u8], row: i64, column: i64) {
-    let r = fordcask::fordcask_position(scale, zone, card, row, column);
-    print::refusal(r.number, r.at);
-    print::signed(r.lat);
-    print::signed(r.lon);
-    print::end_line();
-}
-
-fn pixel(scale: u64, zone: u64, card: &[u8], lat: i64, lon: i64) {
-    let r = fordcask::fordcask_pixel(scale, zone, card, lat, lon);
-    print::refusal(r.number, r.at);
-    print::signed(r.row);
-    print::signed(r.column);
-    print::end_line();
+    print::answer(r.number, r.at, &[e.nul, e.nus, e.nll, e.nls, e.nfl, e.nfc]);
 }
 
 // What a pixel is refused with, after reading's own refusals.

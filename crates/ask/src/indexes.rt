@@ -16,8 +16,11 @@ pub struct Stated {
 // Whether the line is one of these questions, well formed; then it is answered.
 pub fn asked(name: &[u8], line: &[u8], at: usize, store: &[u8]) -> bool {
     let mut bytes = lent::bytes();
-    let mut entries = lent::numbers();
     let k = buffer::card(line, at, &mut bytes);
+    if line.len() <= k.next {
+        return false;
+    }
+    let mut entries = lent::numbers();
     let filled = list::index(line, k.next, &mut entries);
     let count = word::natural(line, filled.next);
     let n = k.length;
@@ -49,7 +52,7 @@ fn index_check(line: &[u8], at: usize, s: Stated, card: &[u8], index: &[u32]) ->
     if !word::ended(length.next) {
         return false;
     }
-    if 65_536 < length.value {
+    if lent::MOST < length.value {
         return false;
     }
     let n = length.value as usize;
@@ -77,9 +80,6 @@ fn window(line: &[u8], at: usize, s: Stated, card: &[u8], index: &[u32]) -> bool
         height.value,
         width.value,
     );
-    print::refusal(r.number, r.at);
-    print::natural(r.missing);
-    print::natural(r.tile);
-    print::end_line();
+    print::answer(r.number, r.at, &[r.missing, r.tile]);
     true
 }

@@ -2,6 +2,8 @@
 ghost use mathlib.Core.Path.{_≡_};
 ghost use lib.ListN.{length};
 
+pub const MOST: u64 = 65_536;
+
 // Bytes that are `*` (42).
 pub fn bytes() -> [u8; 65_536]
     ensures { λ r. ⌜ 65536 ≡ length r ⌝ }

@@ -15,7 +15,7 @@ pub struct Item {
 }
 
 // The number at an offset, with a comma or the closing bracket after it.
-fn item_at(line: &[u8], i: usize) -> Item {
+fn item_at(line: &[u8], i: usize, signed: bool) -> Item {
     let none = Item {
         value: 0,
         next: 0,
@@ -23,7 +23,7 @@ fn item_at(line: &[u8], i: usize) -> Item {
     };
     let x = word::number_at(line, i);
     let end = x.end;
-    if (end <= i) | !word::fits(x) {
+    if (end <= i) | !word::fits(x) | (x.minus & !signed) {
         return none;
     }
     if line.len() <= end {
@@ -41,13 +41,13 @@ fn item_at(line: &[u8], i: usize) -> Item {
 }
 
 // The numbers of a list, from the place past its bracket on.
-fn numbers(line: &[u8], from: usize, out: &mut [i64]) -> Filled
+fn numbers(line: &[u8], from: usize, signed: bool, out: &mut [i64]) -> Filled
     ensures { λ r. ⌜ Fills (r .length) (now (out .exit)) ⌝ }
 {
     let mut n = 0;
     let mut i = from;
     while n < out.len() {
-        let x = item_at(line, i);
+        let x = item_at(line, i, signed);
         if x.next == 0 {
             return bad();
         }
@@ -65,8 +65,8 @@ fn numbers(line: &[u8], from: usize, out: &mut [i64]) -> Filled
     bad()
 }
 
-// A word that is a list of numbers.
-pub fn list(line: &[u8], at: usize, out: &mut [i64]) -> Filled
+// A word that is a list of numbers, with or without sign.
+pub fn list(line: &[u8], at: usize, signed: bool, out: &mut [i64]) -> Filled
     ensures { λ r. ⌜ Fills (r .length) (now (out .exit)) ⌝ }
 {
     if line.len() <= at {
@@ -84,19 +84,16 @@ pub fn list(line: &[u8], at: usize, out: &mut [i64]) -> Filled
             };
         }
     }
-    numbers(line, from, out)
+    numbers(line, from, signed, out)
 }
 
-// Whether each number of a list is an entry of an index; the entries up to the first that is not.
+// Whether each number of a list, none below 0, is an entry of an index; the entries up to the first that is not.
 fn entries(list: &[i64], out: &mut [u32]) -> bool
     requires { ⌜ length (now list) ≤ length (now out) ⌝ }
 {
     let mut i = 0;
     while i < list.len() {
         let e = list[i];
-        if e < 0 {
-            return false;
-        }
         let n = whole::size(e);
         if 4_294_967_295 < n {
             return false;
@@ -112,7 +109,7 @@ pub fn index(line: &[u8], at: usize, out: &mut [u32]) -> Filled
     ensures { λ r. ⌜ Fills (r .length) (now (out .exit)) ⌝ }
 {
     let mut values = lent::values();
-    let filled = list(line, at, &mut values);
+    let filled = list(line, at, false, &mut values);
     let n = filled.length;
     if out.len() < n {
         return bad();

@@ -67,9 +67,7 @@ fn number_of(
 
 fn stored_number(s: Stated, card: &[u8], index: &[u32], store: &[u8], row: i64, column: i64) {
     let r = number_of(s, card, index, store, row, column).into_parts();
-    print::refusal(r.number, r.at);
-    print::natural(r.stored);
-    print::end_line();
+    print::answer(r.number, r.at, &[r.stored]);
 }
 
 // The part of the store; none where reading refuses.
@@ -93,18 +91,16 @@ fn part<'a>(
 fn tile(s: Stated, card: &[u8], index: &[u32], store: &[u8], row: i64, column: i64) {
     let r = fordcask::fordcask_tile(s.scale, s.zone, card, index, s.count, store, row, column);
     print::refusal(r.number, r.at);
-    print::natural(r.stored);
-    print::natural(r.offset);
-    print::natural(r.length);
+    print::naturals(&[r.stored, r.offset, r.length]);
     print::ends(part(s, card, index, store, row, column));
     print::end_line();
 }
 
 fn bands(s: Stated, card: &[u8], index: &[u32], store: &[u8], row: i64, column: i64) {
     let r = fordcask::fordcask_bands(s.scale, s.zone, card, index, s.count, store, row, column);
-    print::refusal(r.number, r.at);
-    print::natural(r.red as u64);
-    print::natural(r.green as u64);
-    print::natural(r.blue as u64);
-    print::end_line();
+    print::answer(
+        r.number,
+        r.at,
+        &[r.red as u64, r.green as u64, r.blue as u64],
+    );
 }

@@ -35,10 +35,7 @@ fn spacing(line: &[u8], at: usize) -> bool {
         return false;
     }
     let r = fordcask::fordcask_spacing(scale.value, zone.value);
-    print::refusal(r.number, r.at);
-    print::natural(r.a);
-    print::natural(r.b);
-    print::end_line();
+    print::answer(r.number, r.at, &[r.a, r.b]);
     true
 }
 
@@ -48,9 +45,7 @@ fn b_constant(line: &[u8], at: usize) -> bool {
         return false;
     }
     let r = arc::b_constant(scale.value).into_parts();
-    print::refusal(r.number, r.at);
-    print::natural(r.pixels);
-    print::end_line();
+    print::answer(r.number, r.at, &[r.pixels]);
     true
 }
 
@@ -60,9 +55,7 @@ fn basic_zone(line: &[u8], at: usize) -> bool {
         return false;
     }
     let r = fordcask::fordcask_basic_zone(lat.value);
-    print::refusal(r.number, r.at);
-    print::natural(r.zone);
-    print::end_line();
+    print::answer(r.number, r.at, &[r.zone]);
     true
 }
 
@@ -74,10 +67,7 @@ fn cover(line: &[u8], at: usize) -> bool {
     }
     let r = fordcask::fordcask_cover(scale.value, lat.value);
     let slots = r.zones;
-    print::refusal(r.number, r.at);
-    print::natural(r.length);
-    print::zones(&slots);
-    print::end_line();
+    print::zones(r.number, r.at, r.length, &slots);
     true
 }
 
@@ -90,10 +80,7 @@ fn rectangle(line: &[u8], at: usize) -> bool {
     }
     let r = fordcask::fordcask_rectangle(scale.value, south.value, north.value);
     let slots = r.zones;
-    print::refusal(r.number, r.at);
-    print::natural(r.length);
-    print::zones(&slots);
-    print::end_line();
+    print::zones(r.number, r.at, r.length, &slots);
     true
 }
 

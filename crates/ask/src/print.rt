@@ -36,6 +36,28 @@ pub fn refusal(number: u32, at: u64) {
     natural(at);
 }
 
+// Numbers without sign.
+pub fn naturals(s: &[u64]) {
+    for i in 0..s.len() {
+        natural(s[i]);
+    }
+}
+
+// A line of number, place and values without sign.
+pub fn answer(number: u32, at: u64, values: &[u64]) {
+    refusal(number, at);
+    naturals(values);
+    end_line();
+}
+
+// A line of number, place and two signed values.
+pub fn pair(number: u32, at: u64, x: i64, y: i64) {
+    refusal(number, at);
+    signed(x);
+    signed(y);
+    end_line();
+}
+
 // A byte as a line has it.
 fn byte(b: u8) {
     if (33 <= b) & (b <= 126) & (b != 92) {
@@ -66,18 +88,20 @@ fn comma(i: usize) {
     }
 }
 
-// The zones of a list, the unused slots too.
-pub fn zones(s: &[u64]) {
+// A line of number, place and a list of zones, the unused slots too.
+pub fn zones(number: u32, at: u64, count: u64, s: &[u64]) {
+    refusal(number, at);
+    natural(count);
     text(b" [");
     for i in 0..s.len() {
         comma(i);
         size(s[i]);
     }
-    text(b"]");
+    text(b"]\n");
 }
 
 // A lent list of values.
-pub fn values(s: &[i64]) {
+fn values(s: &[i64]) {
     text(b" [");
     for i in 0..s.len() {
         comma(i);
@@ -91,7 +115,7 @@ fn number(n: u32) {
 }
 
 // A lent list of refusals' numbers.
-pub fn numbers(s: &[u32]) {
+fn numbers(s: &[u32]) {
     text(b" [");
     for i in 0..s.len() {
         comma(i);
@@ -102,6 +126,14 @@ pub fn numbers(s: &[u32]) {
 
 fn band(b: u8) {
     size(b as u64);
+}
+
+// A line of number, place and the two lists that were lent.
+pub fn lists(number: u32, at: u64, s: &[i64], told: &[u32]) {
+    refusal(number, at);
+    values(s);
+    numbers(told);
+    end_line();
 }
 
 // The first and the last byte of a part.
@@ -115,7 +147,7 @@ pub fn ends(part: &[u8]) {
     text(b"]");
 }
 
-// A double that holds a whole number.
+// A double that holds a whole number, as an offset's does.
 pub fn double(x: f64) {
     if x >= -9223372036854775808.0 {
         if x < 9223372036854775808.0 {

@@ -31,11 +31,6 @@ fn name(line: &[u8], at: usize) -> NameWord {
     NameWord { value, next }
 }
 
-// TIF, a number of 8 bits.
-fn flag(x: u64) -> u8 {
-    (x % 256) as u8
-}
-
 // The words of a record, in the order of the C header.
 fn record(line: &[u8], at: usize) -> RecordWords {
     let scale = word::natural(line, at);
@@ -49,7 +44,7 @@ fn record(line: &[u8], at: usize) -> RecordWords {
     let nfl = word::natural(line, nls.next);
     let nfc = word::natural(line, nfl.next);
     let bad = name(line, nfc.next);
-    let tif = word::natural(line, bad.next);
+    let tif = word::byte(line, bad.next);
     let value = bad.value;
     RecordWords {
         scale: scale.value,
@@ -64,9 +59,9 @@ fn record(line: &[u8], at: usize) -> RecordWords {
             nfl: nfl.value,
             nfc: nfc.value,
             bad: value,
-            tif: flag(tif.value),
+            tif: tif.value,
         },
-        next: if tif.value < 256 { tif.next } else { word::BAD },
+        next: tif.next,
     }
 }
 
@@ -85,7 +80,7 @@ pub fn write_card(line: &[u8], at: usize) -> bool {
     if !word::ended(length.next) {
         return false;
     }
-    if 65_536 < length.value {
+    if lent::MOST < length.value {
         return false;
     }
     let n = length.value as usize;

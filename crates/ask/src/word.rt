@@ -14,6 +14,11 @@ pub struct NaturalWord {
     pub next: usize,
 }
 
+pub struct ByteWord {
+    pub value: u8,
+    pub next: usize,
+}
+
 pub struct SignedWord {
     pub value: i64,
     pub next: usize,
@@ -89,7 +94,7 @@ pub fn number_at(line: &[u8], at: usize) -> Number {
     }
 }
 
-// The signed number of a size, where 64 bits hold it.
+// Whether 64 bits hold a number with its sign.
 pub fn fits(x: Number) -> bool {
     if x.minus {
         x.size <= 9_223_372_036_854_775_808
@@ -123,6 +128,21 @@ pub fn natural(line: &[u8], at: usize) -> NaturalWord {
     NaturalWord {
         value: x.size,
         next: after(line, x.end),
+    }
+}
+
+// A word that is a number of 8 bits.
+pub fn byte(line: &[u8], at: usize) -> ByteWord {
+    let x = natural(line, at);
+    if x.value < 256 {
+        return ByteWord {
+            value: x.value as u8,
+            next: x.next,
+        };
+    }
+    ByteWord {
+        value: 0,
+        next: BAD,
     }
 }
 

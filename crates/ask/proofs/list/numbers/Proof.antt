@@ -9,10 +9,10 @@ use Rattle.ask.proofs.list.numbers.Statement.{statement}
 use Rattle.ask.proofs.list.numbers.Tie as tie
 
 abbrev Inv-loop : tie.InvT-loop
-Inv-loop line from out₀ n₀ i₀ out n i = (n ≤ length out) × (length out ≡ length out₀)
+Inv-loop line from signed out₀ n₀ i₀ out n i = (n ≤ length out) × (length out ≡ length out₀)
 
 abbrev μ-loop : tie.MeasureT-loop
-μ-loop line from out₀ n₀ i₀ out n i = length out - n
+μ-loop line from signed out₀ n₀ i₀ out n i = length out - n
 
 loop-holds : tie.Need-loop-holds Inv-loop μ-loop
 loop-holds c = search needs

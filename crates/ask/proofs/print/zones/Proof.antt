@@ -7,10 +7,16 @@ use Rattle.ask.proofs.print.zones.Statement.{statement}
 use Rattle.ask.proofs.print.zones.Tie as tie
 
 abbrev Inv-loop : tie.InvT-loop
-Inv-loop s i₀ t4 i-end i = (i ≤ i-end) × (i-end ≡ length s)
+Inv-loop number at count s i₀ t7 i-end i = (i ≤ i-end) × (i-end ≡ length s)
 
 abbrev μ-loop : tie.MeasureT-loop
-μ-loop s i₀ t4 i-end i = i-end - i
+μ-loop number at count s i₀ t7 i-end i = i-end - i
+
+refusal-requires : tie.Need-refusal-requires Inv-loop μ-loop
+refusal-requires c κs = search needs
+
+natural-requires : tie.Need-natural-requires Inv-loop μ-loop
+natural-requires c κs = search needs
 
 slice-aggregate-text : tie.Need-slice-aggregate-text Inv-loop μ-loop
 slice-aggregate-text c = search needs
@@ -57,6 +63,8 @@ zones-spec =
     (tie.spec
     Inv-loop
     μ-loop
+    refusal-requires
+    natural-requires
     slice-aggregate-text
     text-requires
     loop-holds

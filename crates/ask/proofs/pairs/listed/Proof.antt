@@ -1,10 +1,10 @@
--- The lengths that are lent are tested. Assumes nothing.
+-- The length that is lent is tested. Assumes nothing.
 use mathlib.Core.Path.{sym}
 use native.Mathlib.Omega.{arith}
 use lib.Seq.{length-take-le}
 use borrow.Author.Needs.{needs}
-use Rattle.ask.proofs.pairs.asked.Statement.{statement}
-use Rattle.ask.proofs.pairs.asked.Tie as tie
+use Rattle.ask.proofs.pairs.listed.Statement.{statement}
+use Rattle.ask.proofs.pairs.listed.Tie as tie
 
 bytes-requires : tie.Need-bytes-requires
 bytes-requires c κs = search needs
@@ -51,35 +51,35 @@ numbers-requires c κs = search needs
 array-share-prefix-bytes : tie.Need-array-share-prefix-bytes
 array-share-prefix-bytes c = search needs
 
-slice-aggregate-answered : tie.Need-slice-aggregate-answered
-slice-aggregate-answered c = search needs
+slice-aggregate-answer : tie.Need-slice-aggregate-answer
+slice-aggregate-answer c = search needs
 
 array-share-prefix-given : tie.Need-array-share-prefix-given
 array-share-prefix-given c = search needs
 
-slice-aggregate-answered-2 : tie.Need-slice-aggregate-answered-2
-slice-aggregate-answered-2 c = search needs
+slice-aggregate-answer-2 : tie.Need-slice-aggregate-answer-2
+slice-aggregate-answer-2 c = search needs
 
-array-borrow-prefix-lent-values : tie.Need-array-borrow-prefix-lent-values
-array-borrow-prefix-lent-values c = search needs
+array-borrow-prefix-left : tie.Need-array-borrow-prefix-left
+array-borrow-prefix-left c = search needs
 
-slice-aggregate-answered-3 : tie.Need-slice-aggregate-answered-3
-slice-aggregate-answered-3 c = sym (length-take-le _ _ (omega arith))
+slice-aggregate-answer-3 : tie.Need-slice-aggregate-answer-3
+slice-aggregate-answer-3 c = sym (length-take-le _ _ (omega arith))
 
-array-borrow-prefix-lent-numbers : tie.Need-array-borrow-prefix-lent-numbers
-array-borrow-prefix-lent-numbers c = search needs
+array-borrow-prefix-told : tie.Need-array-borrow-prefix-told
+array-borrow-prefix-told c = search needs
 
-slice-aggregate-answered-4 : tie.Need-slice-aggregate-answered-4
-slice-aggregate-answered-4 c = sym (length-take-le _ _ (omega arith))
+slice-aggregate-answer-4 : tie.Need-slice-aggregate-answer-4
+slice-aggregate-answer-4 c = sym (length-take-le _ _ (omega arith))
 
-answered-requires : tie.Need-answered-requires
-answered-requires c κs = search needs
+answer-requires : tie.Need-answer-requires
+answer-requires c κs = search needs
 
 returns-4 : tie.Need-returns-4
 returns-4 c = search needs
 
-pub asked-spec : {M : Type 1} → statement M
-asked-spec =
+pub listed-spec : {M : Type 1} → statement M
+listed-spec =
     tie.close
     (tie.spec
     bytes-requires
@@ -97,12 +97,12 @@ asked-spec =
     values-requires-2
     numbers-requires
     array-share-prefix-bytes
-    slice-aggregate-answered
+    slice-aggregate-answer
     array-share-prefix-given
-    slice-aggregate-answered-2
-    array-borrow-prefix-lent-values
-    slice-aggregate-answered-3
-    array-borrow-prefix-lent-numbers
-    slice-aggregate-answered-4
-    answered-requires
+    slice-aggregate-answer-2
+    array-borrow-prefix-left
+    slice-aggregate-answer-3
+    array-borrow-prefix-told
+    slice-aggregate-answer-4
+    answer-requires
     returns-4)
