@@ -2,7 +2,6 @@
 use crate::word;
 ghost use mathlib.Core.Path.{_≡_};
 ghost use Prim.Native.Nat.{_≤_};
-ghost use lib.ListN.{length};
 ghost use Rattle.ask.specs.Fill.{Fills};
 
 // How much of a buffer a word fills, and where the next word starts.
