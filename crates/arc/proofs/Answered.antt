@@ -10,7 +10,7 @@ use lib.Dec.{leb}
 use Rattle.arc.specs.declared.ConstantAnswer.{ConstantAnswer}
 use Rattle.arc.specs.declared.SpacingAnswer.{SpacingAnswer}
 use Rattle.arc.specs.Refusals.{refusal}
-use Rattle.arc.specs.Zones.{Row, table, hasZone, rowIn, rowOf}
+use Rattle.arc.specs.Zones.{Row, table, hasZone, rowIn, tableRow}
 use Rattle.arc.specs.Spacing.{isScale, spacingAt, rowUnit, columnsIn, rowsOf, withRows, spacingOf, Scale, SpacingUnit, GridsIs}
 use Rattle.arc.proofs.Spaced.{scale-in, grid}
 
@@ -39,14 +39,14 @@ unit-in (r ∷ rs) zone e =
 pub record From (s zone a b : ℕ) : Type 0 where
   pub scale : Scale s
   pub of-row : Row
-  pub is-row : rowOf zone ≡ some of-row
+  pub is-row : tableRow zone ≡ some of-row
   pub is-a : a ≡ spacingAt (of-row .unit) s
   pub is-b : b ≡ spacingAt rowUnit s
 
 pub answered-from : (s zone a b : ℕ) → spacingOf s zone ≡ SpacingAnswer.Constants a b → From s zone a b
-answered-from s zone a b e = go (isScale s) (rowOf zone) refl refl e
+answered-from s zone a b e = go (isScale s) (tableRow zone) refl refl e
   where
-    go : (t : Bool) (o : Option Row) → isScale s ≡ t → rowOf zone ≡ o
+    go : (t : Bool) (o : Option Row) → isScale s ≡ t → tableRow zone ≡ o
         → cond t (withRows s (columnsIn s o)) (SpacingAnswer.Refused (refusal 1)) ≡ SpacingAnswer.Constants a b → From s zone a b
     go true (some r) p q k = record { scale = scale-in s p; of-row = r; is-row = q; is-a = cc; is-b = cc }
     go true none p q k = let z : _≡_ {A = ℕ} 0 1 = cc in absurd (omega arith)

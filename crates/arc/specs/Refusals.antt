@@ -4,8 +4,10 @@
 --     refusalOf v        what `Verdict::refusal` answers: number and place 0 where accepted
 --     answered vs        a report that refuses nothing, with the value parts vs
 --     refusedWith r k    the report of a refusal, its k value parts 0
+--     reportIn v n l     the report of a verdict with a length and slots
+--     onVerdict v f x    f of the refusal, else x
 use Prim.Native.Nat.{ℕ}
-use mathlib.Core.List.{List}
+use mathlib.Core.List.{List, _∷_, map}
 use lib.ListN.{replicate}
 use lib.IntN.{ℤ, pos}
 use Rattle.arc.specs.declared.Refusal.{Refusal}
@@ -34,3 +36,12 @@ answered vs = record { number = 0; place = 0; values = vs }
 -- value parts are 0 in a refusal
 abbrev pub refusedWith : Refusal → ℕ → Report
 refusedWith r k = record { number = r .number; place = r .at; values = replicate k (pos 0) }
+
+-- a length and the slots are the values
+abbrev pub reportIn : Verdict → ℕ → List ℕ → Report
+reportIn v n l = record { number = refusalOf v .number; place = refusalOf v .at; values = map pos (n ∷ l) }
+
+-- what was refused before comes first
+abbrev pub onVerdict : {A : Type 0} → Verdict → (Refusal → A) → A → A
+onVerdict Verdict.Accepted f x = x
+onVerdict (Verdict.Refused r) f x = f r

@@ -21,7 +21,7 @@ use Rattle.arc.specs.declared.SpacingAnswer.{SpacingAnswer}
 use Rattle.arc.specs.declared.parts.ConstantParts.{ConstantParts}
 use Rattle.arc.specs.declared.parts.SpacingParts.{SpacingParts}
 use Rattle.arc.specs.Refusals.{refusal, Report, answered, refusedWith}
-use Rattle.arc.specs.Zones.{circle, Row, rowOf}
+use Rattle.arc.specs.Zones.{circle, Row, tableRow}
 
 abbrev pub isScale : ℕ → Bool
 isScale s = leb 5000 s && leb s 20000000
@@ -39,7 +39,7 @@ columnsIn s (some r) = ConstantAnswer.Pixels (spacingAt (r .unit) s)
 columnsIn s none = ConstantAnswer.Refused (refusal 2)
 
 abbrev pub columnsOf : ℕ → ℕ → ConstantAnswer
-columnsOf s zone = columnsIn s (rowOf zone)
+columnsOf s zone = columnsIn s (tableRow zone)
 
 abbrev pub rowsOf : ℕ → ConstantAnswer
 rowsOf s = cond (isScale s) (ConstantAnswer.Pixels (spacingAt rowUnit s)) (ConstantAnswer.Refused (refusal 1))

@@ -5,7 +5,7 @@
 --     tile               128 pixels, the side of a tile
 --     Row                a row of the table: its two zones, its limits in degrees, and A / 512 at 1:1,000,000
 --     table              the rows
---     rowOf zone         the row of a zone, none where the number is no zone's
+--     tableRow zone      the row of a zone, none where the number is no zone's
 --     isPolar zone       zone 9 or 18
 --     from r, to r       a row's equatorward and poleward limit, in hundredths of an arc-second
 --     rowAt i            the row at place i, 0 to 8
@@ -63,8 +63,8 @@ abbrev pub rowIn : List Row → ℕ → Option Row
 rowIn [] zone = none
 rowIn (r ∷ rs) zone = cond (hasZone r zone) (some r) (rowIn rs zone)
 
-abbrev pub rowOf : ℕ → Option Row
-rowOf zone = rowIn table zone
+abbrev pub tableRow : ℕ → Option Row
+tableRow zone = rowIn table zone
 
 abbrev pub isPolar : ℕ → Bool
 isPolar zone = eqb zone 9 || eqb zone 18

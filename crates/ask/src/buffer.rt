@@ -2,7 +2,7 @@
 use crate::word;
 ghost use mathlib.Core.Path.{_≡_};
 ghost use Prim.Native.Nat.{_≤_};
-ghost use Rattle.ask.specs.Fill.{Fills};
+ghost use Rattle.ask.specs.Steps.{Fills};
 
 // How much of a buffer a word fills, and where the next word starts.
 pub struct Filled {

@@ -5,7 +5,7 @@ use crate::lent;
 use crate::word;
 ghost use Prim.Native.Nat.{_≤_};
 ghost use lib.ListN.{length};
-ghost use Rattle.ask.specs.Fill.{Fills};
+ghost use Rattle.ask.specs.Steps.{Fills};
 
 // A number of a list, where the next one is, 0 where this is none, and whether it is the last.
 pub struct Item {

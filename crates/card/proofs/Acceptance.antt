@@ -17,10 +17,10 @@ use Rattle.arc.specs.Spacing.{spacingOf}
 use Rattle.arc.proofs.Answered.{answered-grids}
 use Rattle.card.specs.declared.Card.{Card}
 use Rattle.card.specs.declared.Reading.{Reading}
-use Rattle.card.specs.Text.{angleOf}
+use Rattle.text.specs.Text.{angleOf}
 use Rattle.card.specs.Layout.{ARV, BRV, LSO, PSO, NUL, NUS, NLL, NLS, NFL, NFC, layout, bytesOf, walk}
 use Rattle.card.specs.Extents.{extentsHold}
-use Rattle.card.specs.Read.{tileOf, numberIn, cardOf, accepted, refused, withOrigin, withValues, afterWalk, readIn, readOf, Accepted}
+use Rattle.card.specs.Read.{tileStoring, numberIn, cardOf, acceptedCard, refusedCard, withOrigin, withValues, afterWalk, readIn, readOf, Accepted}
 use Rattle.card.proofs.Found.{Stores, stores-tile}
 
 -- the tests on the bytes
@@ -28,10 +28,10 @@ abbrev pub constantsIn : ℕ → ℕ → List ℕ → Bool
 constantsIn a b s = eqb (numberIn ARV s) a && eqb (numberIn BRV s) b
 
 abbrev pub rowTile : ℕ → List ℕ → Option ℤ
-rowTile b s = tileOf b (b / 512) (angleOf 2 (bytesOf PSO s))
+rowTile b s = tileStoring b (b / 512) (angleOf 2 (bytesOf PSO s))
 
 abbrev pub columnTile : ℕ → List ℕ → Option ℤ
-columnTile a s = tileOf a (a / 256) (angleOf 3 (bytesOf LSO s))
+columnTile a s = tileStoring a (a / 256) (angleOf 3 (bytesOf LSO s))
 
 abbrev pub extentsIn : ℕ → ℕ → ℤ → List ℕ → Bool
 extentsIn a b n s =
@@ -54,7 +54,7 @@ pub record ReadTo (scale zone : ℕ) (s : List ℕ) (k : Card) : Type 0 where
   pub card : cardOf scale zone a b n m s ≡ k
 
 -- a refusal accepts no card
-never : {A : Type 0} (r : Refusal) (k : Card) → refused r ≡ accepted k → A
+never : {A : Type 0} (r : Refusal) (k : Card) → refusedCard r ≡ acceptedCard k → A
 never r k e =
     let v : _≡_ {A = Verdict} (Verdict.Refused r) Verdict.Accepted = ap (λ (x : Reading). x .verdict) e in
     let x : _≡_ {A = ℕ} 0 1 = cc in absurd (omega arith)
@@ -64,14 +64,14 @@ module _ (scale zone : ℕ) (s : List ℕ) (k : Card) where
   by-origin : (a b : ℕ) → spacingOf scale zone ≡ SpacingAnswer.Constants a b → isPolar zone ≡ false → eqb (length s) 98 ≡ true
       → walk layout s ≡ Verdict.Accepted → constantsIn a b s ≡ true
       → (n m : Option ℤ) → rowTile b s ≡ n → columnTile a s ≡ m
-      → withOrigin scale zone a b s n m ≡ accepted k → ReadTo scale zone s k
+      → withOrigin scale zone a b s n m ≡ acceptedCard k → ReadTo scale zone s k
   unfolding cardOf
   by-origin a b sp po wh ju co none m f g e = never (refusal 10) k e
   by-origin a b sp po wh ju co (some n) none f g e = never (refusal 10) k e
   by-origin a b sp po wh ju co (some n) (some m) f g e = go (extentsIn a b n s) refl e
     where
       go : (t : Bool) → extentsIn a b n s ≡ t
-          → cond t (accepted (cardOf scale zone a b n m s)) (refused (refusal 11)) ≡ accepted k → ReadTo scale zone s k
+          → cond t (acceptedCard (cardOf scale zone a b n m s)) (refusedCard (refusal 11)) ≡ acceptedCard k → ReadTo scale zone s k
       go false t e = never (refusal 11) k e
       go true t e =
           record {
@@ -93,9 +93,9 @@ module _ (scale zone : ℕ) (s : List ℕ) (k : Card) where
   by-tests : (a b : ℕ) → spacingOf scale zone ≡ SpacingAnswer.Constants a b → (p w c : Bool) (v : Verdict)
       → isPolar zone ≡ p → eqb (length s) 98 ≡ w
       → walk layout s ≡ v → constantsIn a b s ≡ c
-      → cond p (refused (refusal 3))
-      (cond w (afterWalk v (cond c (withOrigin scale zone a b s (rowTile b s) (columnTile a s)) (refused (refusal 9)))) (refused (refusal 6)))
-      ≡ accepted k
+      → cond p (refusedCard (refusal 3))
+      (cond w (afterWalk v (cond c (withOrigin scale zone a b s (rowTile b s) (columnTile a s)) (refusedCard (refusal 9)))) (refusedCard (refusal 6)))
+      ≡ acceptedCard k
       → ReadTo scale zone s k
   by-tests a b sp true w c v po wh ju co e = never (refusal 3) k e
   by-tests a b sp false false c v po wh ju co e = never (refusal 6) k e
@@ -103,17 +103,17 @@ module _ (scale zone : ℕ) (s : List ℕ) (k : Card) where
   by-tests a b sp false true false Verdict.Accepted po wh ju co e = never (refusal 9) k e
   by-tests a b sp false true true Verdict.Accepted po wh ju co e = by-origin a b sp po wh ju co _ _ refl refl e
 
-  pub read-to : readOf scale zone s ≡ accepted k → ReadTo scale zone s k
+  pub read-to : readOf scale zone s ≡ acceptedCard k → ReadTo scale zone s k
   unfolding readIn withValues
   read-to e = go (spacingOf scale zone) refl e
     where
-      go : (x : SpacingAnswer) → spacingOf scale zone ≡ x → readIn scale zone x s ≡ accepted k → ReadTo scale zone s k
+      go : (x : SpacingAnswer) → spacingOf scale zone ≡ x → readIn scale zone x s ≡ acceptedCard k → ReadTo scale zone s k
       go (SpacingAnswer.Refused r) sp e = never r k e
       go (SpacingAnswer.Constants a b) sp e = by-tests a b sp (isPolar zone) (eqb (length s) 98) (constantsIn a b s) (walk layout s) refl refl refl refl e
 
-  pub to-read : ReadTo scale zone s k → readOf scale zone s ≡ accepted k
+  pub to-read : ReadTo scale zone s k → readOf scale zone s ≡ acceptedCard k
   unfolding readIn withValues cardOf
-  to-read r = rw (r .spacing, r .not-polar, r .whole, r .judged, r .constants, r .n-found, r .m-found, r .extents) (ap accepted (r .card))
+  to-read r = rw (r .spacing, r .not-polar, r .whole, r .judged, r .constants, r .n-found, r .m-found, r .extents) (ap acceptedCard (r .card))
 
 -- bytes whose tests pass one by one are an accepted card; n and m are those that store the angles
 module _ (scale zone a b : ℕ) (n m : ℤ) (s : List ℕ) where

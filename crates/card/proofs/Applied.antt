@@ -11,15 +11,15 @@ use lib.IntN.{ℤ, pos, negsuc}
 use Rattle.whole.specs.Whole.{floorDiv, ceilDiv, nearest, modulo}
 use Rattle.arc.specs.Refusals.{refusal}
 use Rattle.arc.specs.Spacing.{spacingAt}
-use Rattle.origin.specs.Origin.{stored}
+use Rattle.origin.specs.Origin.{storedAngle}
 use Rattle.card.specs.declared.Card.{Card}
 use Rattle.card.specs.declared.PositionAnswer.{PositionAnswer}
-use Rattle.card.specs.Text.{number, angleLaid, degrees, minutes, seconds, hundredths, angleSize, angleOf, angleValid, nameLaid}
+use Rattle.text.specs.Text.{number, angleLaid, degrees, minutes, seconds, hundredths, angleSize, angleOf, angleValid, nameLaid}
 use Rattle.card.specs.Layout.{layout, judgeField}
 use Rattle.card.specs.Extents.{extentsHold}
 use Rattle.card.specs.Read.{cardOf, Accepted}
 use Rattle.card.specs.Grid.{latitudeOf, longitudeOf, rowOf, columnOf, positionOf, pixelOf}
-use Rattle.card.specs.NoDrift.{Visit, gave, refused, walk, Walked}
+use Rattle.card.specs.NoDrift.{Visit, gave, refused, visits, NoDriftFrom}
 use Rattle.card.proofs.Acceptance.{bytes-accepted}
 use Rattle.card.proofs.Chain.{no-drift}
 
@@ -55,7 +55,7 @@ abbrev townBesideCard : Card
 townBesideCard = cardOf 5000 1 73932800 80076800 (pos 101) (negsuc 20) townBeside
 
 pub all-accepted : (Accepted 1000000 1 paperCard × Accepted 1000000 1 besideCard) × (Accepted 5000 1 townCard × Accepted 5000 1 townBesideCard)
-unfolding spacingAt ceilDiv floorDiv nearest stored number angleLaid degrees minutes seconds hundredths angleSize angleOf angleValid
+unfolding spacingAt ceilDiv floorDiv nearest storedAngle number angleLaid degrees minutes seconds hundredths angleSize angleOf angleValid
     nameLaid layout judgeField extentsHold
 all-accepted = (
   (
@@ -78,20 +78,20 @@ all-accepted = (
 
 -- ---- the demand, from each card's pixels over the other and back
 
-pub paper-walked : Walked paperCard (besideCard ∷ᴸ paperCard ∷ᴸ []ᴸ) (pos 0) (pos 0)
-    × Walked paperCard (besideCard ∷ᴸ paperCard ∷ᴸ []ᴸ) (pos 200) (pos 100)
+pub paper-walked : NoDriftFrom paperCard (besideCard ∷ᴸ paperCard ∷ᴸ []ᴸ) (pos 0) (pos 0)
+    × NoDriftFrom paperCard (besideCard ∷ᴸ paperCard ∷ᴸ []ᴸ) (pos 200) (pos 100)
 unfolding cardOf number
 paper-walked =
     let go = no-drift 1000000 1 paperCard (besideCard ∷ᴸ paperCard ∷ᴸ []ᴸ) (all-accepted .0 .0, (all-accepted .0 .1, (all-accepted .0 .0, tt))) in
     (go (pos 0) (pos 0) refl, go (pos 200) (pos 100) refl)
 
-pub beside-walked : Walked besideCard (paperCard ∷ᴸ besideCard ∷ᴸ []ᴸ) (pos 64) (pos 64)
+pub beside-walked : NoDriftFrom besideCard (paperCard ∷ᴸ besideCard ∷ᴸ []ᴸ) (pos 64) (pos 64)
 unfolding cardOf number
 beside-walked =
     no-drift 1000000 1 besideCard (paperCard ∷ᴸ besideCard ∷ᴸ []ᴸ)
     (all-accepted .0 .1, (all-accepted .0 .0, (all-accepted .0 .1, tt))) (pos 64) (pos 64) refl
 
-pub town-walked : Walked townCard (townBesideCard ∷ᴸ townCard ∷ᴸ []ᴸ) (pos 1) (pos 1)
+pub town-walked : NoDriftFrom townCard (townBesideCard ∷ᴸ townCard ∷ᴸ []ᴸ) (pos 1) (pos 1)
 unfolding cardOf number
 town-walked =
     no-drift 5000 1 townCard (townBesideCard ∷ᴸ townCard ∷ᴸ []ᴸ)
@@ -102,13 +102,13 @@ town-walked =
 abbrev gives : ℤ → ℤ → ℤ → ℤ → Visit
 gives r c lat lon = gave r c (PositionAnswer.At lat lon)
 
-pub visits : (walk (pos 4143223) (negsuc 897506) (besideCard ∷ᴸ paperCard ∷ᴸ []ᴸ)
+pub visited : (visits (pos 4143223) (negsuc 897506) (besideCard ∷ᴸ paperCard ∷ᴸ []ᴸ)
     ≡ gives (pos 128) (pos 128) (pos 4143223) (negsuc 897506) ∷ᴸ gives (pos 0) (pos 0) (pos 4143223) (negsuc 897506) ∷ᴸ []ᴸ)
-    × (walk (pos 4078485) (negsuc 862447) (besideCard ∷ᴸ paperCard ∷ᴸ []ᴸ)
+    × (visits (pos 4078485) (negsuc 862447) (besideCard ∷ᴸ paperCard ∷ᴸ []ᴸ)
     ≡ refused (refusal 13) ∷ᴸ gives (pos 200) (pos 100) (pos 4078485) (negsuc 862447) ∷ᴸ []ᴸ)
-    × (walk (pos 4163939) (negsuc 919944) (paperCard ∷ᴸ besideCard ∷ᴸ []ᴸ)
+    × (visits (pos 4163939) (negsuc 919944) (paperCard ∷ᴸ besideCard ∷ᴸ []ᴸ)
     ≡ refused (refusal 12) ∷ᴸ gives (pos 64) (pos 64) (pos 4163939) (negsuc 919944) ∷ᴸ []ᴸ)
-    × (walk (pos 20714) (negsuc 4485) (townBesideCard ∷ᴸ townCard ∷ᴸ []ᴸ)
+    × (visits (pos 20714) (negsuc 4485) (townBesideCard ∷ᴸ townCard ∷ᴸ []ᴸ)
     ≡ gives (pos 129) (pos 129) (pos 20714) (negsuc 4485) ∷ᴸ gives (pos 1) (pos 1) (pos 20714) (negsuc 4485) ∷ᴸ []ᴸ)
 unfolding cardOf number floorDiv nearest modulo latitudeOf longitudeOf rowOf columnOf positionOf pixelOf
-visits = (refl, refl, refl, refl)
+visited = (refl, refl, refl, refl)

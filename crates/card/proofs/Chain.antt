@@ -21,7 +21,7 @@ use Rattle.card.specs.declared.PixelAnswer.{PixelAnswer}
 use Rattle.card.specs.Read.{Accepted}
 use Rattle.card.specs.Grid.{placeRow, placeColumn, inTiles, inChart, latitudeOf, longitudeOf, rowOf, columnOf, positionOf, pixelOf}
 use Rattle.card.specs.NoDrift.{HasPlace, TilesHave, ChartHas, Close, Visit, gave, refused, visitWith, visit, latitudeAfter}
-use Rattle.card.specs.NoDrift.{longitudeAfter, walk, Right, Each, Every, Walked, NoDrift}
+use Rattle.card.specs.NoDrift.{longitudeAfter, visits, Right, Each, Every, NoDriftFrom, NoDrift}
 use Rattle.card.proofs.Laid.{Laid, accepted-laid, same-spacing}
 use Rattle.card.proofs.Line.{Line, rows-line, angle-is, angle-close}
 use Rattle.card.proofs.Axes.{north-is, north-high, east-high, down-high, row-is, column-place, latitude-is, longitude-is, row-back, column-back}
@@ -247,13 +247,13 @@ module _ (a b : ℕ) (u w lat lon : ℤ) (t : Thread a b u w lat lon) where
   Of : Card → Type 0
   Of k = Laid k × (k .a ≡ a) × (k .b ≡ b)
 
-  down : (ks : List Card) → Every Of ks → Each (Right u w lat lon) ks (walk lat lon ks)
+  down : (ks : List Card) → Every Of ks → Each (Right u w lat lon) ks (visits lat lon ks)
   unfolding Of
   down [] h = tt
   down (k ∷ ks) h =
       let s = step u w lat lon k (h .0 .0) (subst₂ (λ (x y : ℕ). Thread x y u w lat lon) (sym (h .0 .1)) (sym (h .0 .2)) t) in (
         subst⁻¹ (Right u w lat lon k) (s .visited) (s .right),
-        subst₂ (λ (p q : ℤ). Each (Right u w lat lon) ks (walk p q ks))
+        subst₂ (λ (p q : ℤ). Each (Right u w lat lon) ks (visits p q ks))
             (sym (ap (latitudeAfter lat) (s .visited) ∙ s .latitude-kept)) (sym (ap (longitudeAfter lon) (s .visited) ∙ s .longitude-kept))
             (down ks (h .1)),
       )
@@ -283,7 +283,7 @@ module _ (k : Card) (l : Laid k) (r c : ℕ) (h : r ≤ k .north) where
       }
 
   walked : (rest : List Card) → inTiles k (pos r) (pos c) ≡ true → inChart k (pos r) (pos c) ≡ true
-      → Every (Of (k .a) (k .b) _ _ _ _ thread) rest → Walked k rest (pos r) (pos c)
+      → Every (Of (k .a) (k .b) _ _ _ _ thread) rest → NoDriftFrom k rest (pos r) (pos c)
   unfolding positionOf
   walked rest i e all =
       record {
@@ -300,7 +300,7 @@ no-drift scale zone first rest all r c e =
     let i = chart-tiles first r c l e in
     let n = tiles-inside first r c i in
     let h : n .row .at ≤ first .north = omega (arith, n .row .below, down-high first l) in
-    subst₂ (Walked first rest) (sym (n .row .same)) (sym (n .column .same))
+    subst₂ (NoDriftFrom first rest) (sym (n .row .same)) (sym (n .column .same))
     (walked first l (n .row .at) (n .column .at) h rest
     (ap₂ (inTiles first) (sym (n .row .same)) (sym (n .column .same)) ∙ i)
     (ap₂ (inChart first) (sym (n .row .same)) (sym (n .column .same)) ∙ e)

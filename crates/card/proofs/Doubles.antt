@@ -12,7 +12,8 @@ use Rattle.whole.proofs.Signed.{Is, is-same, is-minus, is-size, is-raise, raise
 use Rattle.arc.specs.Refusals.{refusal}
 use Rattle.arc.specs.Zones.{circle, half, quarter}
 use Rattle.card.specs.declared.OffsetAnswer.{OffsetAnswer}
-use Rattle.card.specs.Offset.{shortWay, Exactly, difference, offsetOf, Whole, Exact}
+use Rattle.card.specs.Grid.{intoRange}
+use Rattle.card.specs.Offset.{Exactly, difference, offsetOf, Whole, Exact}
 use Rattle.card.proofs.Line.{range-is}
 
 pub in-float : (z : ℤ) → natAbs z ≤ 129600000 → T (inFloat binary64 z)
@@ -25,11 +26,11 @@ exactly (pos n) h = record { nearest = refl; back = positive-back binary64 63 n 
 exactly (negsuc n) h = record { nearest = refl; back = negative-back binary64 63 n (in-float (negsuc n) h) (omega arith) .1 }
 
 -- the short way between two longitudes counted from one place
-pub short-is : (z : ℤ) (e c : ℕ) → c ≤ circle → Is z e c → Is (shortWay z) ((e + 194400000 - c) % circle) half
+pub short-is : (z : ℤ) (e c : ℕ) → c ≤ circle → Is z e c → Is (intoRange z) ((e + 194400000 - c) % circle) half
 short-is z e c h i = range-is z (e + 194400000 - c) 1 (is-same z e c (e + 194400000 - c) (half + 1 * circle) i (omega arith))
 
-pub short-size : (z : ℤ) (e c : ℕ) → c ≤ circle → Is z e c → natAbs (shortWay z) ≤ 129600000
-short-size z e c h i = omega (arith, is-size (shortWay z) ((e + 194400000 - c) % circle) half (short-is z e c h i))
+pub short-size : (z : ℤ) (e c : ℕ) → c ≤ circle → Is z e c → natAbs (intoRange z) ≤ 129600000
+short-size z e c h i = omega (arith, is-size (intoRange z) ((e + 194400000 - c) % circle) half (short-is z e c h i))
 
 -- two numbers within k of 0, as a difference
 module _ (k : ℕ) (x y : ℤ) (p : outside k x ≡ false) (q : outside k y ≡ false) where
@@ -59,6 +60,6 @@ exact lat lon clat clon o e = go (outside quarter lat) (outside half lon) (outsi
           lat-exact =
               exactly (lat -ℤ clat) (omega (arith, is-size (lat -ℤ clat) (raise quarter lat) (raise quarter clat) (apart quarter lat clat es eu)));
           lon-exact =
-              exactly (shortWay (lon -ℤ clon))
+              exactly (intoRange (lon -ℤ clon))
               (short-size (lon -ℤ clon) (raise half lon) (raise half clon) (raise-high half clon ev) (apart half lon clon et ev));
         })

@@ -9,9 +9,10 @@ use borrow.Author.Tests.{eqb-true, eq-eqb}
 use lib.IntN.{ℤ, pos, negsuc, negℤ, sucℤ}
 use Rattle.whole.proofs.Signed.{Is, is-same, is-equal, is-nat, is-neg}
 use Rattle.arc.specs.Spacing.{Grid}
-use Rattle.origin.specs.Origin.{stored}
+use Rattle.origin.specs.Origin.{storedAngle}
 use Rattle.origin.proofs.Stored.{stored-unique}
-use Rattle.card.specs.Read.{equalℤ, firstFrom, tileOf}
+use Rattle.card.specs.Read.{equalℤ, tileStoring}
+use Rattle.whole.specs.Lists.{firstFrom}
 
 is-suc : (z : ℤ) (p q : ℕ) → Is z p q → Is (sucℤ z) (suc p) q
 is-suc (pos n) p q e = omega arith
@@ -27,8 +28,8 @@ pub record First (f : ℤ → Bool) (p q n : ℕ) (k : ℤ) : Type 0 where
 
 module _ (f : ℤ → Bool) where
   -- one step, the rest being known
-  step-sound : (n : ℕ) (z k : ℤ) (p q : ℕ) (b : Bool) → Is z p q → f z ≡ b → (firstFrom f (sucℤ z) n ≡ some k → First f (suc p) q n k)
-      → cond b (some z) (firstFrom f (sucℤ z) n) ≡ some k → First f p q (suc n) k
+  step-sound : (n : ℕ) (z k : ℤ) (p q : ℕ) (b : Bool) → Is z p q → f z ≡ b → (firstFrom sucℤ f (sucℤ z) n ≡ some k → First f (suc p) q n k)
+      → cond b (some z) (firstFrom sucℤ f (sucℤ z) n) ≡ some k → First f p q (suc n) k
   step-sound n z k p q true e h rest t =
       let same : z ≡ k = cc in
       record {
@@ -46,7 +47,7 @@ module _ (f : ℤ → Bool) where
         holds = r .holds;
       }
 
-  pub first-sound : (n : ℕ) (z k : ℤ) (p q : ℕ) → Is z p q → firstFrom f z n ≡ some k → First f p q n k
+  pub first-sound : (n : ℕ) (z k : ℤ) (p q : ℕ) → Is z p q → firstFrom sucℤ f z n ≡ some k → First f p q n k
   unfolding firstFrom
   first-sound zero z k p q e t = let x : _≡_ {A = ℕ} 0 1 = cc in absurd (omega arith)
   first-sound (suc n) z k p q e t =
@@ -55,14 +56,14 @@ module _ (f : ℤ → Bool) where
   -- f holds of k alone
   module _ (k : ℤ) (q : ℕ) (h : f k ≡ true) (only : (i : ℤ) → f i ≡ true → i ≡ k) where
     step-complete : (n : ℕ) (z : ℤ) (p j : ℕ) (b : Bool) → Is z p q → Is k (p + j) q → j < suc n → f z ≡ b
-        → ((i : ℕ) → Is k (suc p + i) q → i < n → firstFrom f (sucℤ z) n ≡ some k) → cond b (some z) (firstFrom f (sucℤ z) n) ≡ some k
+        → ((i : ℕ) → Is k (suc p + i) q → i < n → firstFrom sucℤ f (sucℤ z) n ≡ some k) → cond b (some z) (firstFrom sucℤ f (sucℤ z) n) ≡ some k
     step-complete n z p j true e g l t rest = ap some (only z t)
     step-complete n z p zero false e g l t rest =
         let same : k ≡ z = is-equal k z (p + 0) q p q g e (omega arith) in
         let x : _≡_ {A = ℕ} 0 1 = cc in absurd (omega arith)
     step-complete n z p (suc j) false e g l t rest = rest j (is-same k (p + suc j) q (suc p + j) q g (omega arith)) (omega arith)
 
-    pub first-complete : (n : ℕ) (z : ℤ) (p j : ℕ) → Is z p q → Is k (p + j) q → j < n → firstFrom f z n ≡ some k
+    pub first-complete : (n : ℕ) (z : ℤ) (p j : ℕ) → Is z p q → Is k (p + j) q → j < n → firstFrom sucℤ f z n ≡ some k
     unfolding firstFrom
     first-complete zero z p j e g l = absurd (omega arith)
     first-complete (suc n) z p j e g l =
@@ -87,24 +88,24 @@ pub record Stores (x t : ℕ) (angle k : ℤ) : Type 0 where
   pub count : ℕ
   pub is-count : Is k count t
   pub high : count ≤ 2 * t
-  pub same : stored x k ≡ angle
+  pub same : storedAngle x k ≡ angle
 
 lowest : (t : ℕ) → Is (negℤ (pos t)) 0 t
 lowest t = is-neg (pos t) t 0 (is-nat t)
 
 module _ (x t : ℕ) (angle k : ℤ) where
-  pub tile-stores : tileOf x t angle ≡ some k → Stores x t angle k
+  pub tile-stores : tileStoring x t angle ≡ some k → Stores x t angle k
   tile-stores e =
-      let r = first-sound (λ j. equalℤ (stored x j) angle) (2 * t + 1) (negℤ (pos t)) k 0 t (lowest t) e in
+      let r = first-sound (λ j. equalℤ (storedAngle x j) angle) (2 * t + 1) (negℤ (pos t)) k 0 t (lowest t) e in
       record {
         count = r .steps;
         is-count = is-same k (0 + r .steps) t (r .steps) t (r .at) (omega arith);
         high = omega (arith, r .few);
-        same = equal-true (stored x k) angle (r .holds);
+        same = equal-true (storedAngle x k) angle (r .holds);
       }
 
-  pub stores-tile : Grid x → Stores x t angle k → tileOf x t angle ≡ some k
+  pub stores-tile : Grid x → Stores x t angle k → tileStoring x t angle ≡ some k
   stores-tile g s =
-      first-complete (λ j. equalℤ (stored x j) angle) k t (ap (λ (z : ℤ). equalℤ z angle) (s .same) ∙ true-equal angle)
-      (λ i h. stored-unique x g i k (equal-true (stored x i) angle h ∙ sym (s .same)))
+      first-complete (λ j. equalℤ (storedAngle x j) angle) k t (ap (λ (z : ℤ). equalℤ z angle) (s .same) ∙ true-equal angle)
+      (λ i h. stored-unique x g i k (equal-true (storedAngle x i) angle h ∙ sym (s .same)))
       (2 * t + 1) (negℤ (pos t)) 0 (s .count) (lowest t) (is-same k (s .count) t (0 + s .count) t (s .is-count) (omega arith)) (omega (arith, s .high))

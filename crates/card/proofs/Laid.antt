@@ -19,7 +19,7 @@ use Rattle.arc.proofs.Answered.{answered-grids}
 use Rattle.card.specs.declared.Card.{Card}
 use Rattle.card.specs.declared.Kind.the-variants.{Number}
 use Rattle.card.specs.declared.Subfield.{Subfield}
-use Rattle.card.specs.Text.{isDigit, all, number, part, angleOf}
+use Rattle.text.specs.Text.{isDigit, all, number, part, angleOf}
 use Rattle.card.specs.Layout.{STR, LSO, PSO, NUL, NUS, NLL, NLS, NFL, NFC, layout, bytesOf, sub, judge, judgeField, orElse, walk}
 use Rattle.card.specs.Extents.{extentsHold}
 use Rattle.card.specs.Read.{numberIn, cardOf, Accepted, Known}

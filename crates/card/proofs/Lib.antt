@@ -10,3 +10,4 @@ pub mod Ranges
 pub mod Doubles
 pub mod Applied
 pub mod Answered
+pub mod Questions

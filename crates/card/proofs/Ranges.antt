@@ -14,7 +14,7 @@ use Rattle.arc.specs.declared.Refusal.{Refusal}
 use Rattle.arc.specs.Refusals.{refusal}
 use Rattle.arc.specs.Zones.{half, quarter}
 use Rattle.card.specs.declared.range.Ranged.{Ranged}
-use Rattle.card.specs.Ranged.{rangedOf}
+use Rattle.card.specs.Steps.{rangedOf}
 use Rattle.card.proofs.Laid.{raise-is}
 
 inside-is : {k : ℕ} {z : ℤ} {n : ℕ} → Inside k z n → Is z n k

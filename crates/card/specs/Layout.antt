@@ -14,7 +14,7 @@ use Rattle.arc.specs.Refusals.{refusalAt}
 use Rattle.card.specs.declared.Kind.{Kind}
 use Rattle.card.specs.declared.Kind.the-variants.{Number, Angle, Name, Flag}
 use Rattle.card.specs.declared.Subfield.{Subfield}
-use Rattle.card.specs.Text.{part, isDigit, all, number, angleLaid, angleValid, nameLaid, isFlag}
+use Rattle.text.specs.Text.{part, isDigit, all, number, angleLaid, angleValid, nameLaid, isFlag}
 
 abbrev pub sub : ℕ → ℕ → Kind → Subfield
 sub o w k = record { at = o; width = w; kind = k }

@@ -1,4 +1,3 @@
-pub mod Text
 pub mod Layout
 pub mod Extents
 pub mod Read
@@ -8,4 +7,4 @@ pub mod NoDrift
 pub mod Ranges
 pub mod Offset
 pub mod RoundTrips
-pub mod Ranged
+pub mod Steps

@@ -4,7 +4,7 @@
 --     TilesHave, ChartHas        a pixel of the card's tiles, of its chart rectangle, has the place
 --     Close a b u v lat lon      the position is within half a hundredth of the exact place
 --     Visit, visit               what one later card does
---     walk lat lon ks            the visits down the list, each with the position last answered
+--     visits lat lon ks          the visits down the list, each with the position last answered
 --     NoDrift                    the demand
 use mathlib.Core.Path.{_≡_}
 use mathlib.Core.Bool.{Bool, true}
@@ -67,10 +67,10 @@ longitudeAfter lon (gave r c (PositionAnswer.At lat′ lon′)) = lon′
 longitudeAfter lon (gave r c (PositionAnswer.Refused e)) = lon
 longitudeAfter lon (refused e) = lon
 
-abbrev pub walk : ℤ → ℤ → List Card → List Visit
-walk lat lon [] = []
-walk lat lon (k ∷ ks) =
-    visit k lat lon ∷ walk (latitudeAfter lat (visit k lat lon)) (longitudeAfter lon (visit k lat lon)) ks
+abbrev pub visits : ℤ → ℤ → List Card → List Visit
+visits lat lon [] = []
+visits lat lon (k ∷ ks) =
+    visit k lat lon ∷ visits (latitudeAfter lat (visit k lat lon)) (longitudeAfter lon (visit k lat lon)) ks
 
 -- what holds of a visit, (u, v) being the first pixel's place and (lat, lon) its position: a pixel is given only in the chart, at that
 -- same place, and its position is the same two numbers; else the chart does not have the place, and the refusal is 12 where no pixel of
@@ -93,15 +93,15 @@ Every P [] = Unit {0}
 Every P (k ∷ ks) = P k × Every P ks
 
 -- the first card answers the pixel's position, close to the exact place, and so it goes down the whole list
-pub record Walked (first : Card) (rest : List Card) (r c : ℤ) : Type 0 where
+pub record NoDriftFrom (first : Card) (rest : List Card) (r c : ℤ) : Type 0 where
   pub lat : ℤ
   pub lon : ℤ
   pub answered : positionOf first r c ≡ PositionAnswer.At lat lon
   pub close : Close (first .a) (first .b) (placeRow first r) (placeColumn first c) lat lon
-  pub each : Each (Right (placeRow first r) (placeColumn first c) lat lon) rest (walk lat lon rest)
+  pub each : Each (Right (placeRow first r) (placeColumn first c) lat lon) rest (visits lat lon rest)
 
 -- any list of one or more accepted cards of one scale and one zone, and any pixel in the first card's chart rectangle
 abbrev pub NoDrift : Type 0
 NoDrift =
     (scale zone : ℕ) (first : Card) (rest : List Card) → Every (Accepted scale zone) (first ∷ rest)
-    → (r c : ℤ) → inChart first r c ≡ true → Walked first rest r c
+    → (r c : ℤ) → inChart first r c ≡ true → NoDriftFrom first rest r c

@@ -1,5 +1,4 @@
 -- The offset of a position from a centre (01, "Origins and the zone grid"). Definitions only.
---     shortWay d             a longitude difference from −64,800,000 up to but not including 64,800,000
 --     Exactly x z            the double x is the whole number z, nothing lost
 --     offsetOf ..            what `offset_from` answers: 4, 5 of the position, then 4, 5 of the centre
 --     offsetParts a          the paper's number, place and values of an answer, the values doubles
@@ -15,17 +14,14 @@ use Rattle.card.specs.declared.OffsetAnswer.{OffsetAnswer}
 use Rattle.card.specs.declared.parts.OffsetParts.{OffsetParts}
 use Rattle.card.specs.Grid.{intoRange}
 
-abbrev pub shortWay : ℤ → ℤ
-shortWay d = intoRange d
-
 -- it is the nearest double to z, and taken back as a whole number it is z
 pub record Exactly (x : Float) (z : ℤ) : Type 0 where
   pub nearest : x ≡ ofInt binary64 z
   pub back : toSigned 63 x ≡ z
 
--- position minus centre
+-- position minus centre, the longitude difference from −64,800,000 up to but not including 64,800,000
 abbrev pub difference : ℤ → ℤ → ℤ → ℤ → Offset
-difference lat lon clat clon = record { lat = ofInt binary64 (lat -ℤ clat); lon = ofInt binary64 (shortWay (lon -ℤ clon)) }
+difference lat lon clat clon = record { lat = ofInt binary64 (lat -ℤ clat); lon = ofInt binary64 (intoRange (lon -ℤ clon)) }
 
 unfoldable pub offsetOf : ℤ → ℤ → ℤ → ℤ → OffsetAnswer
 offsetOf lat lon clat clon =
@@ -44,7 +40,7 @@ offsetParts (OffsetAnswer.Refused r) =
 -- both doubles hold whole hundredths, exactly
 pub record Whole (lat lon clat clon : ℤ) (o : Offset) : Type 0 where
   pub lat-exact : Exactly (o .lat) (lat -ℤ clat)
-  pub lon-exact : Exactly (o .lon) (shortWay (lon -ℤ clon))
+  pub lon-exact : Exactly (o .lon) (intoRange (lon -ℤ clon))
 
 -- what the answer is held to
 abbrev pub Exact : Type 0

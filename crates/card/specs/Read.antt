@@ -1,11 +1,12 @@
 -- Reading a card: 1, 2, 3, 6, the subfields left to right with 7 before 8 in each, 9, 10, 11 (01, "Numbers given in refusal").
 -- Definitions only.
---     tileOf x t angle       the whole number from −t to t whose stored angle this is; the angle fixes it
+--     tileStoring x t angle  the whole number from −t to t whose stored angle this is; the angle fixes it
 --     cardOf ..              the value of a card that is not refused
 --     readOf S zone s        what reading answers
 --     Accepted, Known        some bytes are read to this card
+--     onCard x f g           a question on a card as it was read: reading's refusal first, then the question's own answer
 use mathlib.Core.Path.{_≡_}
-use Prim.Native.Nat.{ℕ, zero, suc, _+_, _*_, _/_}
+use Prim.Native.Nat.{ℕ, _+_, _*_, _/_}
 use mathlib.Core.List.{List, []}
 use mathlib.Core.Bool.{Bool, false, cond, _&&_}
 use mathlib.Core.Option.{Option, some, none}
@@ -13,17 +14,18 @@ use lib.Dec.{eqb}
 use lib.ListN.{length, getD, replicate}
 use lib.IntN.{ℤ, pos, negsuc, negℤ, sucℤ}
 use Rattle.whole.specs.Whole.{raise}
+use Rattle.whole.specs.Lists.{firstFrom}
 use Rattle.arc.specs.declared.Refusal.{Refusal}
 use Rattle.arc.specs.declared.Verdict.{Verdict}
 use Rattle.arc.specs.declared.SpacingAnswer.{SpacingAnswer}
-use Rattle.arc.specs.Refusals.{refusal}
+use Rattle.arc.specs.Refusals.{refusal, onVerdict}
 use Rattle.arc.specs.Zones.{isPolar}
 use Rattle.arc.specs.Spacing.{spacingOf}
-use Rattle.origin.specs.Origin.{stored}
+use Rattle.origin.specs.Origin.{storedAngle}
 use Rattle.card.specs.declared.Card.{Card}
 use Rattle.card.specs.declared.Reading.{Reading}
 use Rattle.card.specs.declared.Subfield.{Subfield}
-use Rattle.card.specs.Text.{number, angleOf}
+use Rattle.text.specs.Text.{number, angleOf}
 use Rattle.card.specs.Layout.{ARV, BRV, LSO, PSO, NUL, NUS, NLL, NLS, NFL, NFC, BAD, TIF, layout, bytesOf, walk}
 use Rattle.card.specs.Extents.{extentsHold}
 
@@ -33,13 +35,8 @@ equalℤ (pos m) (negsuc n) = false
 equalℤ (negsuc m) (pos n) = false
 equalℤ (negsuc m) (negsuc n) = eqb m n
 
--- the first of z, z + 1, .., n of them, of which f holds
-unfoldable pub firstFrom : (ℤ → Bool) → ℤ → ℕ → Option ℤ
-firstFrom f z zero = none
-firstFrom f z (suc n) = cond (f z) (some z) (firstFrom f (sucℤ z) n)
-
-abbrev pub tileOf : ℕ → ℕ → ℤ → Option ℤ
-tileOf x t angle = firstFrom (λ k. equalℤ (stored x k) angle) (negℤ (pos t)) (2 * t + 1)
+abbrev pub tileStoring : ℕ → ℕ → ℤ → Option ℤ
+tileStoring x t angle = firstFrom sucℤ (λ k. equalℤ (storedAngle x k) angle) (negℤ (pos t)) (2 * t + 1)
 
 -- the values of the subfields
 abbrev pub numberIn : Subfield → List ℕ → ℕ
@@ -89,41 +86,41 @@ noCard =
       east = 0;
     }
 
-abbrev pub accepted : Card → Reading
-accepted k = record { verdict = Verdict.Accepted; card = k }
+abbrev pub acceptedCard : Card → Reading
+acceptedCard k = record { verdict = Verdict.Accepted; card = k }
 
-abbrev pub refused : Refusal → Reading
-refused r = record { verdict = Verdict.Refused r; card = noCard }
+abbrev pub refusedCard : Refusal → Reading
+refusedCard r = record { verdict = Verdict.Refused r; card = noCard }
 
 -- 11
 abbrev pub withExtents : Card → Reading
 withExtents k =
-    cond (extentsHold (k .a) (k .b) (k .n) (k .nul) (k .nus) (k .nll) (k .nls) (k .nfl) (k .nfc)) (accepted k) (refused (refusal 11))
+    cond (extentsHold (k .a) (k .b) (k .n) (k .nul) (k .nus) (k .nll) (k .nls) (k .nfl) (k .nfc)) (acceptedCard k) (refusedCard (refusal 11))
 
 -- 10, 11
 abbrev pub withOrigin : ℕ → ℕ → ℕ → ℕ → List ℕ → Option ℤ → Option ℤ → Reading
 withOrigin scale zone a b s (some n) (some m) = withExtents (cardOf scale zone a b n m s)
-withOrigin scale zone a b s (some n) none = refused (refusal 10)
-withOrigin scale zone a b s none m = refused (refusal 10)
+withOrigin scale zone a b s (some n) none = refusedCard (refusal 10)
+withOrigin scale zone a b s none m = refusedCard (refusal 10)
 
 -- 9, 10, 11
 unfoldable pub withValues : ℕ → ℕ → ℕ → ℕ → List ℕ → Reading
 withValues scale zone a b s =
     cond (eqb (numberIn ARV s) a && eqb (numberIn BRV s) b)
-    (withOrigin scale zone a b s (tileOf b (b / 512) (angleOf 2 (bytesOf PSO s))) (tileOf a (a / 256) (angleOf 3 (bytesOf LSO s))))
-    (refused (refusal 9))
+    (withOrigin scale zone a b s (tileStoring b (b / 512) (angleOf 2 (bytesOf PSO s))) (tileStoring a (a / 256) (angleOf 3 (bytesOf LSO s))))
+    (refusedCard (refusal 9))
 
 -- 7, 8, then these
 abbrev pub afterWalk : Verdict → Reading → Reading
 afterWalk Verdict.Accepted r = r
-afterWalk (Verdict.Refused e) r = refused e
+afterWalk (Verdict.Refused e) r = refusedCard e
 
 -- 3, 6, then these
 unfoldable pub readIn : ℕ → ℕ → SpacingAnswer → List ℕ → Reading
 readIn scale zone (SpacingAnswer.Constants a b) s =
-    cond (isPolar zone) (refused (refusal 3))
-    (cond (eqb (length s) 98) (afterWalk (walk layout s) (withValues scale zone a b s)) (refused (refusal 6)))
-readIn scale zone (SpacingAnswer.Refused r) s = refused r
+    cond (isPolar zone) (refusedCard (refusal 3))
+    (cond (eqb (length s) 98) (afterWalk (walk layout s) (withValues scale zone a b s)) (refusedCard (refusal 6)))
+readIn scale zone (SpacingAnswer.Refused r) s = refusedCard r
 
 -- 1, 2, then these
 abbrev pub readOf : ℕ → ℕ → List ℕ → Reading
@@ -132,10 +129,14 @@ readOf scale zone s = readIn scale zone (spacingOf scale zone) s
 -- a card is accepted when reading does not refuse it (01, "Origins and the zone grid")
 pub record Accepted (scale zone : ℕ) (k : Card) : Type 0 where
   pub bytes : List ℕ
-  pub read : readOf scale zone bytes ≡ accepted k
+  pub read : readOf scale zone bytes ≡ acceptedCard k
 
 -- some accepted card gives the value
 pub record Known (k : Card) : Type 0 where
   pub scale : ℕ
   pub zone : ℕ
   pub is-read : Accepted scale zone k
+
+-- a question on a card as it was read: reading's refusal first, then the question's own answer
+abbrev pub onCard : {A : Type 0} → Reading → (Refusal → A) → (Card → A) → A
+onCard x f g = onVerdict (x .verdict) f (g (x .card))

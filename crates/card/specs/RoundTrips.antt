@@ -10,7 +10,7 @@ use Rattle.arc.specs.declared.Verdict.{Verdict}
 use Rattle.card.specs.declared.Card.{Card}
 use Rattle.card.specs.declared.Reading.{Reading}
 use Rattle.card.specs.declared.Record.{Record}
-use Rattle.card.specs.Read.{readOf, accepted}
+use Rattle.card.specs.Read.{readOf, acceptedCard}
 use Rattle.card.specs.Write.{writeOf, outOf}
 
 abbrev pub recordOf : Card → Record
@@ -31,7 +31,7 @@ recordOf k =
 -- the card read from what was written: accepted, of this scale and zone, and with this record
 pub record ReadBack (scale zone : ℕ) (r : Record) (s : List ℕ) : Type 0 where
   pub card : Card
-  pub read : readOf scale zone s ≡ accepted card
+  pub read : readOf scale zone s ≡ acceptedCard card
   pub of-scale : card .scale ≡ scale
   pub of-zone : card .zone ≡ zone
   pub same : recordOf card ≡ r
@@ -49,5 +49,5 @@ pub record WrittenBack (scale zone : ℕ) (k : Card) (s out : List ℕ) : Type 0
 
 abbrev pub WritesBack : Type 0
 WritesBack =
-    (scale zone : ℕ) (s : List ℕ) (k : Card) (out : List ℕ) → readOf scale zone s ≡ accepted k → 98 ≤ length out
+    (scale zone : ℕ) (s : List ℕ) (k : Card) (out : List ℕ) → readOf scale zone s ≡ acceptedCard k → 98 ≤ length out
     → WrittenBack scale zone k s out

@@ -1,40 +1,27 @@
 -- Writing a card: 1, 2, 3, 6, then NFL, NFC (8), BAD (7), then 10, 11 (01, "Numbers given in refusal"). Definitions only.
---     digits w v             the w digits of v, zero-filled
---     angleText d z          ±DDDMMSS.SS or ±DDMMSS.SS; zero carries a plus
 --     Value                  what a subfield holds
 --     valuesOf a b r         the record's values in the layout's order
 --     cardText a b r         the 98 bytes
 --     writeOf S zone r out   what writing answers
 --     outOf S zone r out     what the output then holds
-use Prim.Native.Nat.{ℕ, zero, suc, _+_, _/_, _%_, _^_}
+use Prim.Native.Nat.{ℕ}
 use mathlib.Core.List.{List, [], _∷_, _++_}
 use mathlib.Core.Bool.{Bool, cond, _&&_}
 use lib.Dec.{leb}
-use lib.ListN.{length, drop}
-use lib.IntN.{ℤ, pos, natAbs}
-use lib.Signed.{ltZ}
+use lib.ListN.{length}
+use lib.IntN.{ℤ}
+use Rattle.whole.specs.Lists.{over}
+use Rattle.text.specs.Text.{nameLaid, digits, angleText}
 use Rattle.arc.specs.declared.Verdict.{Verdict}
 use Rattle.arc.specs.declared.SpacingAnswer.{SpacingAnswer}
 use Rattle.arc.specs.Refusals.{refusal, refusalAt}
 use Rattle.arc.specs.Zones.{isPolar}
 use Rattle.arc.specs.Spacing.{spacingOf}
-use Rattle.origin.specs.Origin.{stored}
+use Rattle.origin.specs.Origin.{storedAngle}
 use Rattle.card.specs.declared.Subfield.{Subfield}
 use Rattle.card.specs.declared.Record.{Record}
-use Rattle.card.specs.Text.{nameLaid}
 use Rattle.card.specs.Layout.{NFL, NFC, BAD, layout, orElse}
 use Rattle.card.specs.Extents.{onGrid, extentsHold}
-
-abbrev pub digits : ℕ → ℕ → List ℕ
-digits zero v = []
-digits (suc w) v = (48 + v / 10 ^ w % 10) ∷ digits w v
-
--- the degrees, the minutes, the seconds, the dot and the hundredths of a size z
-abbrev pub sizeText : ℕ → ℕ → List ℕ
-sizeText d z = digits d (z / 360000) ++ digits 2 (z / 6000 % 60) ++ digits 2 (z / 100 % 60) ++ (46 ∷ []) ++ digits 2 (z % 100)
-
-unfoldable pub angleText : ℕ → ℤ → List ℕ
-angleText d z = cond (ltZ z (pos 0)) 45 43 ∷ sizeText d (natAbs z)
 
 pub data Value : Type 0 where
   counted : ℕ → Value
@@ -58,7 +45,7 @@ written (f ∷ fs) (v ∷ vs) = textOf (f .width) v ++ written fs vs
 -- STR ARV BRV LSO PSO NUL NUS NLL NLS NFL NFC PNC PNL COD ROD POR PCB PVB BAD TIF
 unfoldable pub valuesOf : ℕ → ℕ → Record → List Value
 valuesOf a b r =
-    counted 3 ∷ counted a ∷ counted b ∷ angle 3 (stored a (r .m)) ∷ angle 2 (stored b (r .n)) ∷
+    counted 3 ∷ counted a ∷ counted b ∷ angle 3 (storedAngle a (r .m)) ∷ angle 2 (storedAngle b (r .n)) ∷
     counted (r .nul) ∷ counted (r .nus) ∷ counted (r .nll) ∷ counted (r .nls) ∷ counted (r .nfl) ∷ counted (r .nfc) ∷
     counted 128 ∷ counted 128 ∷ counted 0 ∷ counted 1 ∷ counted 0 ∷ counted 0 ∷ counted 8 ∷ named (r .bad) ∷ flagged (r .tif) ∷ []
 
@@ -93,10 +80,6 @@ writeIn zone (SpacingAnswer.Refused e) r n = Verdict.Refused e
 -- 1, 2, then these
 unfoldable pub writeOf : ℕ → ℕ → Record → List ℕ → Verdict
 writeOf scale zone r out = writeIn zone (spacingOf scale zone) r (length out)
-
--- what is written over the start of a list, and the rest as it was
-abbrev pub over : {A : Type 0} → List A → List A → List A
-over xs out = xs ++ drop (length xs) out
 
 abbrev pub textFor : SpacingAnswer → Record → List ℕ
 textFor (SpacingAnswer.Constants a b) r = cardText a b r

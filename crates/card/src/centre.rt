@@ -7,12 +7,13 @@ use arc::Circle;
 ghost use mathlib.Core.Path.{_≡_};
 ghost use Prim.Native.Nat.{_≤_};
 ghost use lib.IntN.{pos, _-ℤ_};
-ghost use Rattle.card.specs.Offset.{shortWay, difference, offsetOf};
+ghost use Rattle.card.specs.Grid.{intoRange};
+ghost use Rattle.card.specs.Offset.{difference, offsetOf};
 
 // The longitude difference the short way, both counted from 180° west.
 fn short_way(east: u64, centre: u64) -> i64
     requires { ⌜ east ≤ 129600000 ⌝ ∗ ⌜ centre ≤ 129600000 ⌝ }
-    ensures { λ r. ⌜ r ≡ shortWay (pos east -ℤ pos centre) ⌝ }
+    ensures { λ r. ⌜ r ≡ intoRange (pos east -ℤ pos centre) ⌝ }
 {
     whole::difference(
         ((east + 194_400_000 - centre) % Circle::H) as u32,

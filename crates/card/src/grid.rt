@@ -14,9 +14,8 @@ ghost use Prim.Native.Nat.{_+_, _-_, _*_, _%_, _≤_, _<_};
 ghost use lib.IntN.{pos, _-ℤ_};
 ghost use Rattle.whole.specs.Whole.{near};
 ghost use Rattle.card.specs.Read.{Known};
-ghost use Rattle.card.specs.Grid.{placeRow, placeColumn, inTiles, inChart, latitudeOf, longitudeOf};
+ghost use Rattle.card.specs.Grid.{placeRow, placeColumn, inTiles, inChart, latitudeOf, longitudeOf, extentsOf, verdictOf};
 ghost use Rattle.card.specs.Grid.{rowOf, columnOf, placeOf, positionOf, pixelAt, pixelOf};
-ghost use Rattle.card.specs.Grid.{extentsOf, verdictOf};
 
 // The nearest whole number to x / d.
 fn nearest(x: u64, d: u64) -> u64

@@ -2,7 +2,7 @@
 use arc::Refusal;
 use whole::Counted;
 ghost use mathlib.Core.Path.{_≡_};
-ghost use Rattle.card.specs.Ranged.{rangedOf, rangedReport, rangedTold};
+ghost use Rattle.card.specs.Steps.{rangedOf, rangedReport, rangedTold};
 
 // A position counted from the South Pole and from 180° west.
 pub enum Ranged {

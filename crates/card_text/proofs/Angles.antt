@@ -10,9 +10,9 @@ use lib.ListN.{getD}
 use lib.IntN.{pos, negℤ}
 use Rattle.arc.specs.declared.Verdict.{Verdict}
 use Rattle.whole.proofs.Signed.{Is, is-same, is-nat, is-neg}
-use Rattle.card.specs.Text.{part, isDigit, all, isSign, minus, angleLaid, degrees, minutes, seconds, hundredths, angleSize, angleOf, angleValid}
+use Rattle.text.specs.Text.{part, isDigit, all, isSign, minus, angleLaid, degrees, minutes, seconds, hundredths, angleSize, angleOf, angleValid}
 use Rattle.card.specs.Layout.{LSO, PSO, layout, bytesOf, walk}
-use Rattle.card_text.specs.Judged.{DigitsOf, shifted, valueIn}
+use Rattle.card_text.specs.StepsFields.{DigitsOf, shifted, valueIn}
 use Rattle.card_text.specs.declared.digits.Digits.{Digits}
 use Rattle.card_text.proofs.Runs.{all-groups, and-l, and-r}
 use Rattle.card_text.proofs.Table.{right-value}

@@ -14,17 +14,17 @@ use Rattle.whole.specs.Whole.{near}
 use Rattle.whole.proofs.Signed.{Is, is-unique, equal-is, is-difference}
 use Rattle.whole.proofs.Near.{near-le, round-trip}
 use Rattle.arc.specs.Spacing.{Grid}
-use Rattle.origin.specs.Origin.{stored}
+use Rattle.origin.specs.Origin.{storedAngle}
 use Rattle.origin.proofs.Axis.{Axis, stored-is}
-use Rattle.card.specs.Read.{tileOf}
+use Rattle.card.specs.Read.{tileStoring}
 use Rattle.card.proofs.Found.{tile-stores, stores-tile}
-use Rattle.card_text.specs.Found.{tileAngle, foundAt, tileAt}
+use Rattle.card_text.specs.StepsRead.{tileAngle, foundAt, tileAt}
 
 -- ---- one axis: z is an angle, counted from −l
 module _ {x t l : ℕ} (axis : Axis x t l) (g : Grid x) (z : ℤ) (angle : ℕ) (e : Is z angle l) where
   -- a tile that has the angle
-  has : (y : ℤ) (j : ℕ) → Is y j t → stored x y ≡ z → near (j * tileAngle) x ≡ angle
-  has y j p s = let q = equal-is (stored x y) z (near (j * tileAngle) x) l angle l (stored-is axis y j p) e s in omega arith
+  has : (y : ℤ) (j : ℕ) → Is y j t → storedAngle x y ≡ z → near (j * tileAngle) x ≡ angle
+  has y j p s = let q = equal-is (storedAngle x y) z (near (j * tileAngle) x) l angle l (stored-is axis y j p) e s in omega arith
 
   -- is the one that division finds
   only : (j : ℕ) → near (j * tileAngle) x ≡ angle → j ≡ near (angle * x) tileAngle
@@ -43,21 +43,21 @@ module _ {x t l : ℕ} (axis : Axis x t l) (g : Grid x) (z : ℤ) (angle : ℕ) 
       go true c = let k : near (angle * x) tileAngle ≡ n = cc in omega (arith, high h)
       go false c = let k : _≡_ {A = ℕ} 0 1 = cc in absurd (omega arith)
 
-  pub found-is : angle ≤ 2 * l → tileOf x t z ≡ tileAt t (foundAt x angle)
+  pub found-is : angle ≤ 2 * l → tileStoring x t z ≡ tileAt t (foundAt x angle)
   unfolding foundAt
   found-is h = go (eqb (near (near (angle * x) tileAngle * tileAngle) x) angle) refl
     where
       go : (b : Bool) → eqb (near (near (angle * x) tileAngle * tileAngle) x) angle ≡ b
-          → tileOf x t z ≡ tileAt t (cond b (Counted.From (near (angle * x) tileAngle)) Counted.Outside)
+          → tileStoring x t z ≡ tileAt t (cond b (Counted.From (near (angle * x) tileAngle)) Counted.Outside)
       go true b =
           let n : ℕ = near (angle * x) tileAngle in
           let y : ℤ = pos n -ℤ pos t in
           let p : Is y n t = is-difference n t in
-          let q : Is (stored x y) angle l = rw (eqb-true (near (n * tileAngle) x) angle b) at (stored-is axis y n p) in
-          stores-tile x t z y g (record { count = n; is-count = p; high = high h; same = is-unique (stored x y) z angle l q e })
-      go false b = none-of (tileOf x t z) refl
+          let q : Is (storedAngle x y) angle l = rw (eqb-true (near (n * tileAngle) x) angle b) at (stored-is axis y n p) in
+          stores-tile x t z y g (record { count = n; is-count = p; high = high h; same = is-unique (storedAngle x y) z angle l q e })
+      go false b = none-of (tileStoring x t z) refl
         where
-          none-of : (o : Option ℤ) → tileOf x t z ≡ o → o ≡ none
+          none-of : (o : Option ℤ) → tileStoring x t z ≡ o → o ≡ none
           none-of none w = refl
           none-of (some k) w =
               let r = tile-stores x t z k w in

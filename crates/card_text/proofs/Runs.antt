@@ -8,7 +8,7 @@ use native.Mathlib.Nat.{pow-suc, pow-le-pow-right, not-suc-le-zero, le-of-suc-le
 use native.Mathlib.Omega.{arith}
 use lib.ListN.{length, getD, take, drop, set}
 use lib.Seq.{drop-cons, take-suc, take-suc-set, take-add, take-take, drop-drop, getD-take, getD-drop}
-use Rattle.card.specs.Text.{part, all, onward}
+use Rattle.text.specs.Text.{part, all, onward}
 
 pub drop-next {ℓ} : {A : Type ℓ} (l : List A) (i : ℕ) (d : A) → i < length l → drop i l ≡ getD l i d ∷ drop (i + 1) l
 drop-next l i d h = rw add-one (drop-cons l i d h)

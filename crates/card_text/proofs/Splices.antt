@@ -7,8 +7,9 @@ use native.Mathlib.Numerals.{add-one}
 use native.Mathlib.Omega.{arith}
 use lib.ListN.{length, getD, take, drop, set, length-append, length-take, length-drop, take-append-drop}
 use lib.Seq.{set-split, take-at, drop-append-add, drop-drop, take-suc, length-take-le}
-use Rattle.card.specs.Write.{digits, over}
-use Rattle.card_text.specs.Spliced.{splice}
+use Rattle.text.specs.Text.{digits}
+use Rattle.whole.specs.Lists.{over}
+use Rattle.text.specs.Steps.{splice}
 
 pub splice-nil : (o : ℕ) (s : List ℕ) → splice o [] s ≡ s
 unfolding splice

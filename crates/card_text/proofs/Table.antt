@@ -11,7 +11,7 @@ use Rattle.arc.specs.declared.Verdict.{Verdict}
 use Rattle.card.specs.declared.Kind.the-variants.{Number}
 use Rattle.card.specs.declared.Subfield.{Subfield}
 use Rattle.card.specs.Layout.{sub, layout, bytesOf, rightKind, rightValue, judge, judgeField, orElse, walk}
-use Rattle.card_text.specs.Judged.{valueOf, valueIn, valuesIn, fieldOf, FieldAt}
+use Rattle.card_text.specs.StepsFields.{valueOf, valueIn, valuesIn, fieldOf, FieldAt}
 use Rattle.card_text.specs.declared.fields.Field.{Field}
 
 -- ---- the first of several that refuses

@@ -15,12 +15,12 @@ use Rattle.arc.specs.declared.Refusal.{Refusal}
 use Rattle.arc.specs.declared.Verdict.{Verdict}
 use Rattle.arc.specs.Refusals.{refusal}
 use Rattle.card.specs.declared.Record.{Record}
-use Rattle.card.specs.Text.{nameLaid}
+use Rattle.text.specs.Text.{nameLaid}
 use Rattle.card.specs.Layout.{orElse}
 use Rattle.card.specs.Extents.{onGrid, extentsHold}
 use Rattle.card.specs.Write.{test, first, recordTests}
-use Rattle.card_text.specs.Found.{extentsAt}
-use Rattle.card_text.specs.Spliced.{Narrow, countTests}
+use Rattle.card_text.specs.StepsRead.{extentsAt}
+use Rattle.card_text.specs.StepsWrite.{Narrow, countTests}
 use Rattle.card_text.proofs.Runs.{and-l, and-r}
 use Rattle.card_text.proofs.Table.{orElse-assoc, orElse-both}
 use Rattle.card_text.proofs.Tiled.{extents-at}

@@ -9,7 +9,7 @@ use lib.IntN.{ℤ, pos, negsuc, negℤ, _-ℤ_}
 use lib.Signed.{leZ, ltZ}
 use Rattle.whole.proofs.Signed.{Is, is-nat, is-neg, is-minus, is-ltZ}
 use Rattle.card.specs.Extents.{extentsHold}
-use Rattle.card_text.specs.Found.{extentsAt}
+use Rattle.card_text.specs.StepsRead.{extentsAt}
 
 -- a pixel edge is within k tiles
 pub in-tiles : (x k : ℕ) → ltb (x / 128) k ≡ ltb x (128 * k)

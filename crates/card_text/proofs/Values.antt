@@ -13,11 +13,11 @@ use Rattle.arc.specs.Refusals.{refusal}
 use Rattle.arc.specs.Spacing.{Grid}
 use Rattle.origin.proofs.Axis.{latitudes, longitudes}
 use Rattle.card.specs.declared.Record.{Record}
-use Rattle.card.specs.Text.{angleOf}
+use Rattle.text.specs.Text.{angleOf}
 use Rattle.card.specs.Layout.{ARV, BRV, LSO, PSO, NUL, NUS, NLL, NLS, NFL, NFC, TIF, layout, bytesOf}
-use Rattle.card.specs.Read.{numberIn, cardOf, accepted, refused, withOrigin, withValues}
-use Rattle.card_text.specs.Judged.{valueIn, valuesIn}
-use Rattle.card_text.specs.Found.{foundAt, tileAt, extentsAt, recordIn, cardFrom, Walked}
+use Rattle.card.specs.Read.{numberIn, cardOf, acceptedCard, refusedCard, withOrigin, withValues}
+use Rattle.card_text.specs.StepsFields.{valueIn, valuesIn}
+use Rattle.card_text.specs.StepsRead.{foundAt, tileAt, extentsAt, recordIn, cardFrom, Walked}
 use Rattle.card_text.proofs.Angles.{lso-is, pso-is, lso-high, pso-high, flag-is}
 use Rattle.card_text.proofs.Axes.{found-high, found-is}
 use Rattle.card.proofs.Laid.{raise-is}
@@ -81,7 +81,7 @@ module _ {a b : ℕ} (ga : Grid a) (gb : Grid b) {s values : List ℕ} (w : Walk
   pub values-are : (scale zone : ℕ) → withValues scale zone a b s
       ≡ cond (eqb (getD values 1 0) a && eqb (getD values 2 0) b)
       (withOrigin scale zone a b s (tileAt (b / 512) (foundAt b (getD values 4 0))) (tileAt (a / 256) (foundAt a (getD values 3 0))))
-      (refused (refusal 9))
+      (refusedCard (refusal 9))
   unfolding withValues
   values-are scale zone =
       let n = found-is (latitudes b gb) gb (angleOf 2 (bytesOf PSO s)) (getD values 4 0) pso-value pso-kept in
@@ -93,7 +93,7 @@ module _ (scale zone a b north east : ℕ) (s : List ℕ) (r : Record) (ok : Boo
   pub extents-are : r ≡ recordIn (pos north -ℤ pos (b / 512)) (pos east -ℤ pos (a / 256)) s
       → ok ≡ extentsAt a north (r .nul) (r .nus) (r .nll) (r .nls) (r .nfl) (r .nfc)
       → withOrigin scale zone a b s (tileAt (b / 512) (Counted.From north)) (tileAt (a / 256) (Counted.From east))
-      ≡ cond ok (accepted (cardFrom scale zone a b north east r)) (refused (refusal 11))
+      ≡ cond ok (acceptedCard (cardFrom scale zone a b north east r)) (refusedCard (refusal 11))
   unfolding cardOf
   extents-are er eo =
       let n : ℤ = pos north -ℤ pos (b / 512) in

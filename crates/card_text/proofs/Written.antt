@@ -14,14 +14,16 @@ use lib.Signed.{ltZ}
 use Rattle.whole.specs.Whole.{near}
 use Rattle.whole.proofs.Signed.{Is, is-nat, is-difference, is-unique, is-ltZ, is-size}
 use Rattle.arc.specs.Spacing.{Grid}
-use Rattle.origin.specs.Origin.{stored}
+use Rattle.origin.specs.Origin.{storedAngle}
 use Rattle.origin.proofs.Axis.{latitudes, longitudes, stored-is}
 use Rattle.card.specs.declared.Record.{Record}
 use Rattle.card.specs.declared.Subfield.{Subfield}
 use Rattle.card.specs.Layout.{layout}
-use Rattle.card.specs.Write.{Value, counted, angle, named, flagged, angleText, textOf, written, valuesOf, cardText}
-use Rattle.card_text.specs.Found.{tileAngle}
-use Rattle.card_text.specs.Spliced.{splice, Put, end, _▸_, heldBy}
+use Rattle.card.specs.Write.{Value, counted, angle, named, flagged, textOf, written, valuesOf, cardText}
+use Rattle.text.specs.Text.{angleText}
+use Rattle.card_text.specs.StepsRead.{tileAngle}
+use Rattle.text.specs.Steps.{splice}
+use Rattle.card_text.specs.StepsWrite.{FieldsPut, end, _▸_, heldBy}
 use Rattle.card_text.proofs.Runs.{and-l, and-r}
 use Rattle.card_text.proofs.Splices.{splice-nil, length-splice, run-next, length-digits}
 
@@ -57,11 +59,11 @@ length-text w (flagged t) e = eqb-true 1 w e
 
 -- ---- subfields put one after the other
 
-pub put-append : {fs gs : List Subfield} {vs ws : List Value} {s t u : List ℕ} → Put fs vs s t → Put gs ws t u → Put (fs ++ gs) (vs ++ ws) s u
+pub put-append : {fs gs : List Subfield} {vs ws : List Value} {s t u : List ℕ} → FieldsPut fs vs s t → FieldsPut gs ws t u → FieldsPut (fs ++ gs) (vs ++ ws) s u
 put-append end q = q
 put-append (e ▸ p) q = e ▸ put-append p q
 
-pub put-all : {fs : List Subfield} {vs : List Value} {s u : List ℕ} → Put fs vs s u → (o : ℕ) → contiguous o fs vs ≡ true → 98 ≤ length s
+pub put-all : {fs : List Subfield} {vs : List Value} {s u : List ℕ} → FieldsPut fs vs s u → (o : ℕ) → contiguous o fs vs ≡ true → 98 ≤ length s
     → u ≡ splice o (written fs vs) s
 put-all (end {s}) o c h = sym (splice-nil o s)
 put-all (_▸_ {f} {fs} {v} {vs} {s} {t} {u} e p) o c h =
@@ -85,8 +87,8 @@ unfolding heldBy valuesOf cardText
 held-are a b north east r ga gb en em =
     let x : ℕ = near (east * tileAngle) a in
     let y : ℕ = near (north * tileAngle) b in
-    let ex : pos x -ℤ pos 64800000 ≡ stored a (r .m) =
-    is-unique (pos x -ℤ pos 64800000) (stored a (r .m)) x 64800000 (is-difference x 64800000) (stored-is (longitudes a ga) (r .m) east em) in
-    let ey : pos y -ℤ pos 32400000 ≡ stored b (r .n) =
-    is-unique (pos y -ℤ pos 32400000) (stored b (r .n)) y 32400000 (is-difference y 32400000) (stored-is (latitudes b gb) (r .n) north en) in
+    let ex : pos x -ℤ pos 64800000 ≡ storedAngle a (r .m) =
+    is-unique (pos x -ℤ pos 64800000) (storedAngle a (r .m)) x 64800000 (is-difference x 64800000) (stored-is (longitudes a ga) (r .m) east em) in
+    let ey : pos y -ℤ pos 32400000 ≡ storedAngle b (r .n) =
+    is-unique (pos y -ℤ pos 32400000) (storedAngle b (r .n)) y 32400000 (is-difference y 32400000) (stored-is (latitudes b gb) (r .n) north en) in
     rw (ex, ey)

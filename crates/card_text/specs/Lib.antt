@@ -1,3 +1,3 @@
-pub mod Judged
-pub mod Found
-pub mod Spliced
+pub mod StepsFields
+pub mod StepsRead
+pub mod StepsWrite

@@ -3,8 +3,8 @@ ghost use mathlib.Core.Path.{_≡_};
 ghost use mathlib.Core.Bool.{true};
 ghost use Prim.Native.Nat.{_+_, _-_, _≤_, _<_};
 ghost use lib.ListN.{length};
-ghost use Rattle.card.specs.Text.{part, isDigit, isNameByte, all, nameLaid};
-ghost use Rattle.card_text.specs.Judged.{DigitsOf};
+ghost use Rattle.text.specs.Text.{part, isDigit, isNameByte, all, nameLaid};
+ghost use Rattle.card_text.specs.StepsFields.{DigitsOf};
 
 // A run of digits: whether each byte is a digit, and then its number.
 pub struct Digits {

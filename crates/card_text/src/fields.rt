@@ -6,9 +6,9 @@ ghost use mathlib.Core.Path.{_≡_};
 ghost use Prim.Native.Nat.{_+_, _<_, _≤_};
 ghost use lib.ListN.{length};
 ghost use Rattle.card.specs.declared.Kind.{Kind};
-ghost use Rattle.card.specs.Text.{part};
+ghost use Rattle.text.specs.Text.{part};
 ghost use Rattle.card.specs.Layout.{sub, judge, orElse};
-ghost use Rattle.card_text.specs.Judged.{shifted, DigitsOf, fieldOf, FieldAt, FieldsOf};
+ghost use Rattle.card_text.specs.StepsFields.{shifted, DigitsOf, fieldOf, FieldAt, FieldsOf};
 
 // Any number of at most eight digits.
 const ANY: u64 = 99_999_999;

@@ -5,8 +5,8 @@ ghost use mathlib.Core.List.{[], _∷_};
 ghost use Prim.Native.Nat.{_+_, _^_, _<_, _≤_};
 ghost use lib.IntN.{pos, natAbs, _-ℤ_};
 ghost use lib.ListN.{length};
-ghost use Rattle.card.specs.Write.{digits, angleText};
-ghost use Rattle.card_text.specs.Spliced.{splice};
+ghost use Rattle.text.specs.Text.{digits, angleText};
+ghost use Rattle.text.specs.Steps.{splice};
 
 // Powers of ten, for at most eight digits.
 const POWERS: [u32; 8] = [1, 10, 100, 1_000, 10_000, 100_000, 1_000_000, 10_000_000];

@@ -11,8 +11,8 @@ ghost use Prim.Native.Nat.{_≤_};
 ghost use lib.ListN.{length};
 ghost use Rattle.arc.specs.Spacing.{Grid};
 ghost use Rattle.card.specs.Layout.{BAD, bytesOf};
-ghost use Rattle.card.specs.Read.{refused, withValues};
-ghost use Rattle.card_text.specs.Found.{extentsAt, recordIn, cardFrom, Walked};
+ghost use Rattle.card.specs.Read.{refusedCard, withValues};
+ghost use Rattle.card_text.specs.StepsRead.{extentsAt, recordIn, cardFrom, Walked};
 
 // The values' places in the layout.
 const ARV: usize = 1;
@@ -39,7 +39,7 @@ const TIF: usize = 19;
 
 // A refusal of a card, its value all 0.
 pub fn refused_with(r: Refusal) -> Reading
-    ensures { λ x. ⌜ x ≡ refused r ⌝ }
+    ensures { λ x. ⌜ x ≡ refusedCard r ⌝ }
 {
     Reading {
         verdict: Verdict::Refused(r),

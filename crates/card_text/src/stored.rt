@@ -6,7 +6,7 @@ ghost use mathlib.Core.Path.{_≡_};
 ghost use Prim.Native.Nat.{_*_, _<_, _≤_};
 ghost use Rattle.whole.specs.Whole.{near};
 ghost use Rattle.arc.specs.Spacing.{Grid};
-ghost use Rattle.card_text.specs.Found.{foundAt};
+ghost use Rattle.card_text.specs.StepsRead.{foundAt};
 
 // 128 × H: a tile in hundredths of an arc-second, times the pixels of the circle.
 const TILE_ANGLE: u64 = Tile::SIDE * Circle::H;

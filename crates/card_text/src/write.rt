@@ -13,10 +13,11 @@ ghost use Prim.Native.Nat.{_*_, _≤_};
 ghost use lib.ListN.{length, take, drop};
 ghost use Rattle.arc.specs.declared.SpacingAnswer.{SpacingAnswer};
 ghost use Rattle.arc.specs.Spacing.{Grid};
-ghost use Rattle.card.specs.Text.{nameLaid};
+ghost use Rattle.text.specs.Text.{nameLaid};
 ghost use Rattle.card.specs.Layout.{layout};
 ghost use Rattle.card.specs.Write.{written, test, first, writeIn};
-ghost use Rattle.card_text.specs.Spliced.{splice, Put, leadOf, extentsOf, fixed, heldBy, Narrow, countTests, outIn};
+ghost use Rattle.text.specs.Steps.{splice};
+ghost use Rattle.card_text.specs.StepsWrite.{FieldsPut, leadOf, extentValues, fixed, heldBy, Narrow, countTests, outIn};
 
 // A refusal where the test fails (01, "Numbers given in refusal").
 fn tested(ok: bool, number: u32, at: u64) -> Verdict
@@ -49,7 +50,7 @@ fn judge_counts(r: Record) -> Verdict
 // STR ARV BRV LSO PSO.
 fn put_lead(out: &mut [u8], a: u64, b: u64, lon: u64, lat: u64)
     requires { ⌜ 98 ≤ length (now out) ⌝ ∗ ⌜ Grid a ⌝ ∗ ⌜ Grid b ⌝ ∗ ⌜ lon ≤ 129600000 ⌝ ∗ ⌜ lat ≤ 129600000 ⌝ }
-    ensures { λ _. ⌜ Put (take 5 layout) (leadOf a b lon lat) (now (out .entry)) (now (out .exit)) ⌝ }
+    ensures { λ _. ⌜ FieldsPut (take 5 layout) (leadOf a b lon lat) (now (out .entry)) (now (out .exit)) ⌝ }
 {
     put::put_number(out, 0, 1, 3);
     put::put_number(out, 1, 8, a);
@@ -61,7 +62,7 @@ fn put_lead(out: &mut [u8], a: u64, b: u64, lon: u64, lat: u64)
 // NUL NUS NLL NLS NFL NFC.
 fn put_extents(out: &mut [u8], r: Record)
     requires { ⌜ 98 ≤ length (now out) ⌝ ∗ ⌜ Narrow r ⌝ }
-    ensures { λ _. ⌜ Put (take 6 (drop 5 layout)) (extentsOf r) (now (out .entry)) (now (out .exit)) ⌝ }
+    ensures { λ _. ⌜ FieldsPut (take 6 (drop 5 layout)) (extentValues r) (now (out .entry)) (now (out .exit)) ⌝ }
 {
     put::put_number(out, 38, 6, r.nul);
     put::put_number(out, 44, 6, r.nus);
@@ -74,7 +75,7 @@ fn put_extents(out: &mut [u8], r: Record)
 // PNC PNL COD ROD POR PCB PVB, the same on every card.
 fn put_fixed(out: &mut [u8])
     requires { ⌜ 98 ≤ length (now out) ⌝ }
-    ensures { λ _. ⌜ Put (take 7 (drop 11 layout)) fixed (now (out .entry)) (now (out .exit)) ⌝ }
+    ensures { λ _. ⌜ FieldsPut (take 7 (drop 11 layout)) fixed (now (out .entry)) (now (out .exit)) ⌝ }
 {
     put::put_number(out, 68, 6, 128);
     put::put_number(out, 74, 6, 128);

@@ -1,5 +1,4 @@
 -- The library for C: what each block of numbers tells. Definitions, and what they are held to.
---     onCard x f g           a question on a card as it was read: reading's refusal first, then the question's own answer
 --     coverParts, rectangleParts    number, place, and the zones: the first `length` slots, the others 0
 --     cardParts              number, place, and what the card holds; all 0 in a refusal
 --     recordFrom               the record to be written; TIF is Y where its number is not 0
@@ -11,8 +10,6 @@ use mathlib.Core.Bool.{cond, not}
 use lib.Dec.{eqb}
 use lib.ListN.{take, drop}
 use lib.IntN.{ℤ}
-use Rattle.arc.specs.declared.Refusal.{Refusal}
-use Rattle.arc.specs.declared.Verdict.{Verdict}
 use Rattle.arc.specs.Refusals.{refusalOf}
 use Rattle.zones.specs.declared.CoverAnswer.{CoverAnswer}
 use Rattle.rectangle.specs.declared.RectangleAnswer.{RectangleAnswer}
@@ -26,13 +23,6 @@ use Rattle.fordcask.specs.declared.parts.RectangleParts.{RectangleParts}
 use Rattle.fordcask.specs.declared.parts.CardParts.{CardParts}
 use Rattle.fordcask.specs.declared.parts.RecordParts.{RecordParts}
 use Rattle.fordcask.specs.declared.parts.TileParts.{TileParts}
-
-abbrev pub onVerdict : {A : Type 0} → Verdict → (Refusal → A) → A → A
-onVerdict Verdict.Accepted f x = x
-onVerdict (Verdict.Refused r) f x = f r
-
-abbrev pub onCard : {A : Type 0} → Reading → (Refusal → A) → (Card → A) → A
-onCard x f g = onVerdict (x .verdict) f (g (x .card))
 
 abbrev pub coverParts : CoverAnswer → CoverParts
 coverParts c =

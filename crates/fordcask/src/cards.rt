@@ -17,12 +17,11 @@ ghost use Rattle.arc.specs.Refusals.{refusalOf};
 ghost use Rattle.card.specs.declared.PlaceAnswer.{PlaceAnswer};
 ghost use Rattle.card.specs.declared.PositionAnswer.{PositionAnswer};
 ghost use Rattle.card.specs.declared.PixelAnswer.{PixelAnswer};
-ghost use Rattle.card.specs.Read.{readOf};
+ghost use Rattle.card.specs.Read.{readOf, onCard};
 ghost use Rattle.card.specs.Write.{writeOf, outOf};
-ghost use Rattle.card.specs.Grid.{placeOf, placeReport, placeTold, positionOf, positionReport, positionTold};
-ghost use Rattle.card.specs.Grid.{pixelOf, pixelReport, pixelTold};
+ghost use Rattle.card.specs.Grid.{placeOf, placeReport, placeTold, positionOf, positionReport, positionTold, pixelOf, pixelReport, pixelTold};
 ghost use Rattle.lists.specs.Lists.{listsVerdict, positionReportAt, pixelReportAt, valuesLeft, numbersLeft};
-ghost use Rattle.fordcask.specs.Entry.{onCard, cardParts, recordFrom};
+ghost use Rattle.fordcask.specs.Entry.{cardParts, recordFrom};
 
 // Reads a card. Refuses 1, 2, 3, 6, the subfields' 7 and 8, 9, 10, 11.
 #[no_mangle]

@@ -11,7 +11,7 @@ use tiles::WindowParts;
 ghost use mathlib.Core.Path.{_≡_};
 ghost use Rattle.arc.specs.declared.Verdict.{Verdict};
 ghost use Rattle.arc.specs.Refusals.{refusalOf};
-ghost use Rattle.card.specs.Read.{readOf};
+ghost use Rattle.card.specs.Read.{readOf, onCard};
 ghost use Rattle.tiles.specs.declared.NumberAnswer.{NumberAnswer};
 ghost use Rattle.tiles.specs.declared.BandsAnswer.{BandsAnswer};
 ghost use Rattle.tiles.specs.declared.WindowAnswer.{WindowAnswer};
@@ -19,7 +19,7 @@ ghost use Rattle.tiles.specs.Check.{checkOf, marksOf};
 ghost use Rattle.tiles.specs.LookUp.{numberOf, bandsOf, bandsReport};
 ghost use Rattle.tiles.specs.Window.{windowOf, windowReport};
 ghost use Rattle.tiles.specs.Parts.{bandsTold, windowTold};
-ghost use Rattle.fordcask.specs.Entry.{onCard, tileParts};
+ghost use Rattle.fordcask.specs.Entry.{tileParts};
 
 // Whether each number 1 to count occurs exactly once. Refuses reading's numbers, then 6, 15; on those and 6 the marks stay.
 #[no_mangle]

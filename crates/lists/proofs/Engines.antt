@@ -13,7 +13,7 @@ use Rattle.card.proofs.Laid.{Laid, known-laid}
 use Rattle.card.proofs.Axes.{north-high, down-high, east-high, row-fits}
 use Rattle.lists.specs.declared.engine.Axis.{Axis}
 use Rattle.lists.specs.declared.engine.Engine.{Engine}
-use Rattle.lists.specs.Engine.{scaleUp, rowsOf, columnsOf, engineOf, Made}
+use Rattle.lists.specs.Steps.{scaleUp, rowAxis, columnAxis, engineOf, Made}
 use Rattle.lists.proofs.Fixed.{scale-high, fixed}
 use Rattle.lists.proofs.Units.{angle-unit, pixel-unit, quotient-under, quotient-down}
 
@@ -60,11 +60,11 @@ module _ (e : Engine) (made : Made e) where
   pub laid : Laid (e .card)
   laid = known-laid k (made .known)
 
-  rows-are : e .rows ≡ rowsOf k
+  rows-are : e .rows ≡ rowAxis k
   unfolding engineOf
   rows-are = ap (λ (x : Engine). x .rows) (made .same)
 
-  columns-are : e .columns ≡ columnsOf k
+  columns-are : e .columns ≡ columnAxis k
   unfolding engineOf
   columns-are = ap (λ (x : Engine). x .columns) (made .same)
 

@@ -17,10 +17,10 @@ use mir.ValLaws.{toZ-ofZ}
 use Rattle.arc.specs.Refusals.{Report}
 use Rattle.card.specs.declared.PositionAnswer.{PositionAnswer}
 use Rattle.card.specs.declared.PixelAnswer.{PixelAnswer}
-use Rattle.card.specs.Write.{over}
+use Rattle.whole.specs.Lists.{over, each}
 use Rattle.card.specs.Grid.{positionReport, pixelReport}
 use Rattle.card.proofs.Laid.{both}
-use Rattle.lists.specs.Lists.{each, valuesOf, numbersOf, pairs, listsFit}
+use Rattle.lists.specs.Lists.{reportValues, reportNumbers, pairs, listsFit}
 
 module _ {A : Type 0} where
   pub length-over : (xs out : List A) → length xs ≤ length out → length (over xs out) ≡ length out
@@ -47,14 +47,14 @@ lists-fit p o n e =
 -- after i turns of n
 pub record Filled (f : ℕ → Report) (n : ℕ) (out : List ℤ) (num : List ℕ) (i : ℕ) (now : List ℤ) (nums : List ℕ) : Type 0 where
   pub upto : i ≤ n
-  pub values : now ≡ over (valuesOf i f) out
-  pub numbers : nums ≡ over (numbersOf i f) num
+  pub values : now ≡ over (reportValues i f) out
+  pub numbers : nums ≡ over (reportNumbers i f) num
 
 module _ (f : ℕ → Report) where
-  values-length : ((i : ℕ) → length (f i .values) ≡ 2) → (i : ℕ) → length (valuesOf i f) ≡ i * 2
+  values-length : ((i : ℕ) → length (f i .values) ≡ 2) → (i : ℕ) → length (reportValues i f) ≡ i * 2
   values-length two i = length-each 2 i (λ (j : ℕ). f j .values) two
 
-  numbers-length : (i : ℕ) → length (numbersOf i f) ≡ i * 1
+  numbers-length : (i : ℕ) → length (reportNumbers i f) ≡ i * 1
   numbers-length i = length-each 1 i (λ (j : ℕ). f j .number ∷ []) (λ j. refl)
 
   module _ (two : (i : ℕ) → length (f i .values) ≡ 2) (p : ℕ) {out : List ℤ} {num : List ℕ}
@@ -62,12 +62,12 @@ module _ (f : ℕ → Report) where
     pub filled-length : {i : ℕ} {now : List ℤ} {nums : List ℕ} → Filled f (pairs p) out num i now nums → length now ≡ length out
     filled-length {i} t =
         ap length (t .values)
-        ∙ length-over (valuesOf i f) out (omega (arith, t .upto, lists-fit p (length out) (length num) fit, values-length two i))
+        ∙ length-over (reportValues i f) out (omega (arith, t .upto, lists-fit p (length out) (length num) fit, values-length two i))
 
     pub filled-numbers : {i : ℕ} {now : List ℤ} {nums : List ℕ} → Filled f (pairs p) out num i now nums → length nums ≡ length num
     filled-numbers {i} t =
         ap length (t .numbers)
-        ∙ length-over (numbersOf i f) num (omega (arith, t .upto, lists-fit p (length out) (length num) fit, numbers-length i))
+        ∙ length-over (reportNumbers i f) num (omega (arith, t .upto, lists-fit p (length out) (length num) fit, numbers-length i))
 
     -- room for one pair more
     pub filled-room : {i : ℕ} {now : List ℤ} {nums : List ℕ} → Filled f (pairs p) out num i now nums → i < pairs p
@@ -83,7 +83,7 @@ module _ (f : ℕ → Report) where
         → f i .values ≡ x ∷ y ∷ [] → f i .number ≡ z
         → Filled f (pairs p) out num (i + 1) (set (set now (2 * i) (toZ w64 (ofZ w64 x))) (2 * i + 1) (toZ w64 (ofZ w64 y))) (set nums i z)
     filled-next {i} {now} t h x y z fx fy ev en =
-        let vs : List ℤ = valuesOf i f in
+        let vs : List ℤ = reportValues i f in
         let first : set (over vs out) (2 * i) x ≡ over (vs ++ x ∷ []) out =
         over-next vs out (2 * i) x (pos 0) (omega (arith, values-length two i)) (omega (arith, lists-fit p (length out) (length num) fit)) in
         let second : set (over (vs ++ x ∷ []) out) (2 * i + 1) y ≡ over ((vs ++ x ∷ []) ++ y ∷ []) out =
@@ -97,12 +97,12 @@ module _ (f : ℕ → Report) where
               ∙ ap (λ (s : List ℤ). set s (2 * i + 1) y) first
               ∙ second
               ∙ ap (λ (s : List ℤ). over s out)
-              (append-assoc vs (x ∷ []) (y ∷ []) ∙ ap (λ (s : List ℤ). vs ++ s) (sym ev) ∙ ap (λ (k : ℕ). valuesOf k f) (sym (add-one i)));
+              (append-assoc vs (x ∷ []) (y ∷ []) ∙ ap (λ (s : List ℤ). vs ++ s) (sym ev) ∙ ap (λ (k : ℕ). reportValues k f) (sym (add-one i)));
           numbers =
               ap (λ (s : List ℕ). set s i z) (t .numbers)
-              ∙ over-next (numbersOf i f) num i z 0 (omega (arith, numbers-length i)) (omega (arith, lists-fit p (length out) (length num) fit))
+              ∙ over-next (reportNumbers i f) num i z 0 (omega (arith, numbers-length i)) (omega (arith, lists-fit p (length out) (length num) fit))
               ∙ ap (λ (s : List ℕ). over s num)
-              (ap (λ (k : ℕ). numbersOf i f ++ k ∷ []) (sym en) ∙ ap (λ (k : ℕ). numbersOf k f) (sym (add-one i)));
+              (ap (λ (k : ℕ). reportNumbers i f ++ k ∷ []) (sym en) ∙ ap (λ (k : ℕ). reportNumbers k f) (sym (add-one i)));
         }
 
 -- ---- two value parts, in a refusal too

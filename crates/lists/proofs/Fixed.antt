@@ -5,7 +5,7 @@ use Prim.Native.Nat.{ℕ, _+_, _-_, _*_, _/_, _≤_, _<_}
 use native.Mathlib.Nat.{mul-le-mul-left, mul-assoc, mul-add, add-mul, mul-one, mul-right-comm, div-eq-of-lt-le, div-mul-le-self}
 use native.Mathlib.Nat.{lt-div-mul-add, le-of-mul-le-mul-right, lt-of-mul-lt-mul-right}
 use native.Mathlib.Omega.{arith}
-use Rattle.lists.specs.Engine.{scaleUp}
+use Rattle.lists.specs.Steps.{scaleUp}
 
 module _ (d : ℕ) (hd : 0 < d) where
   pub scale-low : (x : ℕ) → x * 68719476736 ≤ scaleUp x d * d

@@ -1,29 +1,24 @@
 -- Lists of pixels and of positions of one card (01, "Origins and the zone grid"). Definitions only.
---     each n f               f 0, f 1, .., f (n − 1), one after the other
 --     pairs p                the pairs in a list of length p
 --     listsFit p o n         the length p handed in is even, the list to fill, of length o, is no shorter, and there is a number for each pair
 --     listsVerdict p o n     6 where they do not fit
 --     pairAt ps i            pair i of a list: its first number stands at 2i, its second at 2i + 1
 --     positionReportAt k ps i      the report of pixel i of the list, a pair of row and column
 --     pixelReportAt k qs i     the report of position i of the list, a pair of latitude and longitude
---     valuesOf, numbersOf    the value parts, and the numbers, of the first n reports
+--     reportValues, reportNumbers  the value parts, and the numbers, of the first n reports
 --     valuesLeft, numbersLeft    what the list to fill and the numbers hold at the end
-use Prim.Native.Nat.{ℕ, zero, suc, _+_, _*_, _/_, _%_}
-use mathlib.Core.List.{List, [], _∷_, _++_}
+use Prim.Native.Nat.{ℕ, _+_, _*_, _/_, _%_}
+use mathlib.Core.List.{List, [], _∷_}
 use mathlib.Core.Bool.{Bool, cond, _&&_}
 use lib.Dec.{leb, eqb}
 use lib.ListN.{length, getD}
 use lib.IntN.{ℤ, pos}
+use Rattle.whole.specs.Lists.{each, over}
 use Rattle.arc.specs.declared.Verdict.{Verdict}
 use Rattle.arc.specs.Refusals.{refusal, Report}
 use Rattle.card.specs.declared.Card.{Card}
 use Rattle.lists.specs.declared.Pair.{Pair}
-use Rattle.card.specs.Write.{over}
 use Rattle.card.specs.Grid.{positionOf, pixelOf, positionReport, pixelReport}
-
-abbrev pub each : {A : Type 0} → ℕ → (ℕ → List A) → List A
-each zero f = []
-each (suc n) f = each n f ++ f n
 
 abbrev pub pairs : ℕ → ℕ
 pairs p = p / 2
@@ -43,15 +38,15 @@ positionReportAt k ps i = positionReport (positionOf k (pairAt ps i .first) (pai
 abbrev pub pixelReportAt : Card → List ℤ → ℕ → Report
 pixelReportAt k qs i = pixelReport (pixelOf k (pairAt qs i .first) (pairAt qs i .second))
 
-abbrev pub valuesOf : ℕ → (ℕ → Report) → List ℤ
-valuesOf n f = each n (λ i. f i .values)
+abbrev pub reportValues : ℕ → (ℕ → Report) → List ℤ
+reportValues n f = each n (λ i. f i .values)
 
-abbrev pub numbersOf : ℕ → (ℕ → Report) → List ℕ
-numbersOf n f = each n (λ i. f i .number ∷ [])
+abbrev pub reportNumbers : ℕ → (ℕ → Report) → List ℕ
+reportNumbers n f = each n (λ i. f i .number ∷ [])
 
 -- what is left in the list to fill, and in the numbers, f being the reports of the pairs handed in: as they were on a refusal
 abbrev pub valuesLeft : (List ℤ → ℕ → Report) → List ℤ → List ℤ → List ℕ → List ℤ
-valuesLeft f ps out nums = cond (listsFit (length ps) (length out) (length nums)) (over (valuesOf (pairs (length ps)) (f ps)) out) out
+valuesLeft f ps out nums = cond (listsFit (length ps) (length out) (length nums)) (over (reportValues (pairs (length ps)) (f ps)) out) out
 
 abbrev pub numbersLeft : (List ℤ → ℕ → Report) → List ℤ → List ℤ → List ℕ → List ℕ
-numbersLeft f ps out nums = cond (listsFit (length ps) (length out) (length nums)) (over (numbersOf (pairs (length ps)) (f ps)) nums) nums
+numbersLeft f ps out nums = cond (listsFit (length ps) (length out) (length nums)) (over (reportNumbers (pairs (length ps)) (f ps)) nums) nums

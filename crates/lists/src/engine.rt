@@ -12,7 +12,7 @@ ghost use Rattle.whole.specs.Whole.{near};
 ghost use Rattle.arc.specs.Zones.{circle};
 ghost use Rattle.card.specs.Read.{Known};
 ghost use Rattle.card.specs.Grid.{rowOf, columnOf, positionOf, pixelOf};
-ghost use Rattle.lists.specs.Engine.{scaleUp, rowsOf, columnsOf, engineOf, Made};
+ghost use Rattle.lists.specs.Steps.{scaleUp, rowAxis, columnAxis, engineOf, Made};
 
 // 2H / 512.
 const STEP: u64 = 506_250;
@@ -63,7 +63,7 @@ fn reduced(v: u64, a: u64) -> u64
 // The axis of the rows, whose hundredths are taken off.
 fn rows_of(k: Card) -> Axis
     requires { ⌜ Known k ⌝ }
-    ensures { λ r. ⌜ r ≡ rowsOf k ⌝ }
+    ensures { λ r. ⌜ r ≡ rowAxis k ⌝ }
 {
     let unit = k.b / 512;
     let d = 2 * unit;
@@ -77,7 +77,7 @@ fn rows_of(k: Card) -> Axis
 // The axis of the columns, whose hundredths are added.
 fn columns_of(k: Card) -> Axis
     requires { ⌜ Known k ⌝ }
-    ensures { λ r. ⌜ r ≡ columnsOf k ⌝ }
+    ensures { λ r. ⌜ r ≡ columnAxis k ⌝ }
 {
     let unit = k.a / 512;
     let d = 2 * unit;

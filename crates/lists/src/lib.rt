@@ -7,9 +7,8 @@ ghost use mathlib.Core.Bool.{true};
 ghost use Prim.Native.Nat.{_+_, _*_, _<_};
 ghost use lib.ListN.{length, set};
 ghost use Rattle.card.specs.Read.{Known};
-ghost use Rattle.lists.specs.Engine.{Made};
-ghost use Rattle.lists.specs.Lists.{listsFit, listsVerdict, pairAt, positionReportAt, pixelReportAt};
-ghost use Rattle.lists.specs.Lists.{valuesLeft, numbersLeft};
+ghost use Rattle.lists.specs.Steps.{Made};
+ghost use Rattle.lists.specs.Lists.{listsFit, listsVerdict, pairAt, positionReportAt, pixelReportAt, valuesLeft, numbersLeft};
 
 mod engine;
 

@@ -13,8 +13,8 @@ use Rattle.arc.specs.Refusals.{Report}
 use Rattle.arc.specs.Spacing.{spacingOf, spacingReport, rowsOf, constantReport}
 use Rattle.zones.specs.Basic.{basicZoneOf, zoneReport}
 use Rattle.zones.specs.Cover.{coverOf, coverReport}
-use Rattle.origin.specs.Origin.{stored}
-use Rattle.card.specs.Text.{bytes}
+use Rattle.origin.specs.Origin.{storedAngle}
+use Rattle.text.specs.Text.{bytes}
 use Rattle.card.specs.Read.{readOf}
 use Rattle.card.specs.Grid.{positionOf, positionReport}
 
@@ -49,11 +49,11 @@ bOf scale = constantReport (rowsOf scale) .values
 
 -- the stored angles of n and of m
 abbrev pub storedRow : SpacingAnswer → ℤ → List ℤ
-storedRow (SpacingAnswer.Constants a b) n = stored b n ∷ []
+storedRow (SpacingAnswer.Constants a b) n = storedAngle b n ∷ []
 storedRow (SpacingAnswer.Refused r) n = []
 
 abbrev pub storedColumn : SpacingAnswer → ℤ → List ℤ
-storedColumn (SpacingAnswer.Constants a b) m = stored a m ∷ []
+storedColumn (SpacingAnswer.Constants a b) m = storedAngle a m ∷ []
 storedColumn (SpacingAnswer.Refused r) m = []
 
 abbrev pub cases : List Case

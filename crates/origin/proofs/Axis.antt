@@ -10,7 +10,7 @@ use Rattle.whole.proofs.Signed.{Is, is-same, is-mul, is-lmul, is-floor, is-ceil
 use Rattle.whole.proofs.Near.{near-le, is-nearest}
 use Rattle.arc.specs.Zones.{circle, half, quarter, tile}
 use Rattle.arc.specs.Spacing.{Grid}
-use Rattle.origin.specs.Origin.{rowTiles, columnTiles, stored}
+use Rattle.origin.specs.Origin.{rowTiles, columnTiles, storedAngle}
 
 -- 128 × H
 abbrev pub tileAngle : ℕ
@@ -45,8 +45,8 @@ module _ {x t l : ℕ} (axis : Axis x t l) where
   pub column-is : (z : ℤ) (p : ℕ) → Is z p l → Is (columnTiles x z) (p * x / tileAngle) t
   column-is z p e = is-floor (z *ℤ pos x) tileAngle (p * x) t (omega arith) (scaled z p e)
 
-  pub stored-is : (k : ℤ) (n : ℕ) → Is k n t → Is (stored x k) (near (n * tileAngle) x) l
-  unfolding stored
+  pub stored-is : (k : ℤ) (n : ℕ) → Is k n t → Is (storedAngle x k) (near (n * tileAngle) x) l
+  unfolding storedAngle
   stored-is k n e =
       is-nearest x (axis .some) (pos tile *ℤ k *ℤ pos circle) (n * tileAngle) l
       (is-same (pos tile *ℤ k *ℤ pos circle) (n * tileAngle) (t * tileAngle) (n * tileAngle) (l * x) (is-tiles k n t e) (omega arith))

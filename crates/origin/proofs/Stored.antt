@@ -10,7 +10,7 @@ use Rattle.whole.proofs.Signed.{Is, is-nat, is-same, is-equal, equal-is, is-par
 use Rattle.whole.proofs.Near.{near-low, near-high, near-is}
 use Rattle.arc.specs.Zones.{half}
 use Rattle.arc.specs.Spacing.{Grid}
-use Rattle.origin.specs.Origin.{stored, StoredFixes, DateLineKept}
+use Rattle.origin.specs.Origin.{storedAngle, StoredFixes, DateLineKept}
 use Rattle.origin.proofs.Axis.{Axis, tileAngle, longitudes, stored-is}
 
 module _ (x : ℕ) (g : Grid x) where
@@ -40,13 +40,13 @@ module _ (x : ℕ) (g : Grid x) where
         g .most,
       )
 
-  fixes : (k j : ℤ) → stored x k ≡ stored x j → k ≡ j
+  fixes : (k j : ℤ) → storedAngle x k ≡ storedAngle x j → k ≡ j
   fixes k j e =
       let s : ℕ = under k + under j in
       let p = counted-is s k (omega arith) in
       let q = counted-is s j (omega arith) in
       let same =
-      equal-is (stored x k) (stored x j) _ (s * tileAngle) _ (s * tileAngle) (stored-is (axis s) k (counted s k) p)
+      equal-is (storedAngle x k) (storedAngle x j) _ (s * tileAngle) _ (s * tileAngle) (stored-is (axis s) k (counted s k) p)
       (stored-is (axis s) j (counted s j) q) e in
       is-equal k j (counted s k) (s * x) (counted s j) (s * x) p q (ap (λ (n : ℕ). n + s * x) (near-fixes (counted s k) (counted s j) (omega arith)))
 
@@ -61,4 +61,4 @@ date-line a g =
     let two : Is (pos t) (2 * t) t = omega arith in
     let e : near (2 * t * tileAngle) a ≡ 2 * half =
     near-is a (axis .some) (2 * t * tileAngle) (2 * half) (omega (arith, axis .exact)) (omega (arith, axis .exact, axis .some)) in
-    is-equal (stored a (pos t)) (pos half) (near (2 * t * tileAngle) a) half half 0 (stored-is axis (pos t) (2 * t) two) (is-nat half) (omega arith)
+    is-equal (storedAngle a (pos t)) (pos half) (near (2 * t * tileAngle) a) half half 0 (stored-is axis (pos t) (2 * t) two) (is-nat half) (omega arith)

@@ -4,7 +4,7 @@
 --     (φ0, λ0)   | pso, lso    the origin's two angles, as a card stores them (002: PSO, LSO)
 --     rowTiles b lat     n, the smallest whole number with 128 × n × H ≥ lat × B
 --     columnTiles a lon  m, the greatest whole number with 128 × m × H ≤ lon × A
---     stored x k         the nearest hundredth to 128 × k × H / x, x being A or B
+--     storedAngle x k    the nearest hundredth to 128 × k × H / x, x being A or B
 --     originOf a b lat lon     the origin of an upper left point
 --     alignOf S zone lat lon   what `align` answers: refusals 1, 2, 3, 4, 5
 use mathlib.Core.Path.{_≡_}
@@ -28,16 +28,16 @@ rowTiles b lat = ceilDiv (lat *ℤ pos b) (tile * circle)
 abbrev pub columnTiles : ℕ → ℤ → ℤ
 columnTiles a lon = floorDiv (lon *ℤ pos a) (tile * circle)
 
-unfoldable pub stored : ℕ → ℤ → ℤ
-stored x k = nearest (pos tile *ℤ k *ℤ pos circle) x
+unfoldable pub storedAngle : ℕ → ℤ → ℤ
+storedAngle x k = nearest (pos tile *ℤ k *ℤ pos circle) x
 
 unfoldable pub originOf : ℕ → ℕ → ℤ → ℤ → Origin
 originOf a b lat lon =
     record {
       n = rowTiles b lat;
       m = columnTiles a lon;
-      pso = stored b (rowTiles b lat);
-      lso = stored a (columnTiles a lon);
+      pso = storedAngle b (rowTiles b lat);
+      lso = storedAngle a (columnTiles a lon);
     }
 
 -- 3, 4, 5
@@ -68,8 +68,8 @@ originTold p = record { number = p .number; place = p .at; values = p .n ∷ p .
 pub record Aligned (a b : ℕ) (lat lon : ℤ) (o : Origin) : Type 0 where
   pub n-smallest : Smallest (λ k. (lat *ℤ pos b) ≤ℤ (pos tile *ℤ k *ℤ pos circle)) (o .n)
   pub m-greatest : Greatest (λ k. (pos tile *ℤ k *ℤ pos circle) ≤ℤ (lon *ℤ pos a)) (o .m)
-  pub pso-stored : o .pso ≡ stored b (o .n)
-  pub lso-stored : o .lso ≡ stored a (o .m)
+  pub pso-stored : o .pso ≡ storedAngle b (o .n)
+  pub lso-stored : o .lso ≡ storedAngle a (o .m)
 
 abbrev pub AlignedIs : Type 0
 AlignedIs = (a b : ℕ) (lat lon : ℤ) → Aligned a b lat lon (originOf a b lat lon)
@@ -89,8 +89,8 @@ AlignedOnGrid =
 
 -- a stored angle fixes its tile
 abbrev pub StoredFixes : Type 0
-StoredFixes = (x : ℕ) → Grid x → (k j : ℤ) → stored x k ≡ stored x j → k ≡ j
+StoredFixes = (x : ℕ) → Grid x → (k j : ℤ) → storedAngle x k ≡ storedAngle x j → k ≡ j
 
 -- alignment keeps +180° for m = A/256 (01, "Units and the zone table")
 abbrev pub DateLineKept : Type 0
-DateLineKept = (a : ℕ) → Grid a → stored a (pos (a / 256)) ≡ pos half
+DateLineKept = (a : ℕ) → Grid a → storedAngle a (pos (a / 256)) ≡ pos half

@@ -8,7 +8,7 @@ use mathlib.Core.List.{List, [], _∷_}
 use lib.Dec.{eqb, leb, ltb}
 use lib.ListN.{length, getD}
 use borrow.Author.Tests.{eqb-false, ltb-true, lt-ltb, leb-true, leb-false}
-use Rattle.card.specs.Write.{digits}
+use Rattle.text.specs.Text.{digits}
 use Rattle.printing.specs.Printed.{trimmed, decimal}
 use Rattle.printing.proofs.Scan.{both}
 

@@ -8,12 +8,12 @@ use lib.ListN.{length, take, drop}
 use borrow.Author.Tests.{lt-ltb, le-ltb, le-leb, lt-leb}
 use mathlib.Core.Bool.{true}
 use Rattle.card.specs.declared.Card.{Card}
-use Rattle.card.specs.Write.{over}
-use Rattle.printing.specs.Put.{splice, Put}
+use Rattle.whole.specs.Lists.{over}
+use Rattle.text.specs.Steps.{splice, Put}
 use Rattle.printing.specs.Lines.{upTo, numbersOf}
 use Rattle.printing.specs.Printed.{badLine, tooLong}
 use Rattle.printing.specs.Run.{lineAt, nextAt, closed, openedCard, openingOf}
-use Rattle.printing.specs.Answers.{openingFor, openingAnswer, stopped, Opens}
+use Rattle.printing.specs.Steps.{openingFor, openingAnswer, stopped, Opens}
 use Rattle.printing.specs.declared.OpeningAnswer.{OpeningAnswer}
 use Rattle.printing.proofs.Scan.{upTo-take, line-part}
 

@@ -10,9 +10,9 @@ use lib.ListN.{length, take, drop, drop-of-length-le, length-drop}
 use lib.Seq.{take-all}
 use borrow.Author.Tests.{leb-true}
 use lib.Dec.{leb}
-use Rattle.card.specs.Text.{all, isDigit, onward, number}
+use Rattle.text.specs.Text.{all, isDigit, onward, number}
 use Rattle.printing.specs.Lines.{upTo, beforeSpace, afterSpace, isNumber, Pair, numbersOf}
-use Rattle.printing.specs.Answers.{numbersAnswer}
+use Rattle.printing.specs.Steps.{numbersAnswer}
 use Rattle.printing.specs.declared.parse.Numbers.{Numbers}
 use Rattle.printing.proofs.Scan.{both, upTo-take, space-drop, is-number}
 

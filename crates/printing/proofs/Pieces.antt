@@ -8,7 +8,7 @@ use native.Mathlib.Omega.{arith}
 use mathlib.Core.List.{List, [], _∷_, _++_, append-assoc}
 use lib.ListN.{length, take, drop, set, getD, length-append, length-take, length-drop, length-set}
 use lib.Seq.{paste, paste-zero, paste-suc, take-at, take-all, drop-append-add, drop-drop}
-use Rattle.printing.specs.Put.{splice, Put}
+use Rattle.text.specs.Steps.{splice, Put}
 
 pub length-splice : (o : ℕ) (x s : List ℕ) → o + length x ≤ length s → length (splice o x s) ≡ length s
 unfolding splice
@@ -21,9 +21,10 @@ splice-splice o x y s h =
     let p = take o s ++ x in
     let r = drop (o + length x) s in
     let hp : length p ≡ o + length x = simp (length-append, length-take) (omega arith) in
+    let e : take o s ++ (x ++ r) ≡ p ++ r = simp append-assoc in
     let t : take (o + length x) (p ++ r) ≡ p = take-at p r (o + length x) hp in
     let n : o + length x + length y ≡ length p + length y = omega arith in
-    rw (t, n, drop-append-add p r (length y), drop-drop, length-append) (simp (append-assoc, add-assoc))
+    rw (e, t, n, drop-append-add p r (length y), drop-drop, length-append) (simp (append-assoc, add-assoc))
 
 -- the buffer stays as long as it was
 pub put-length : {x s t : List ℕ} {o r : ℕ} → Put x o s t r → length t ≡ length s
@@ -59,7 +60,7 @@ module _ {x s t : List ℕ} {o j : ℕ} (p : Partly x s o t j) where
       record {
         ends = omega arith;
         fits = omega arith;
-        holds = p .so ∙ rw (e, take-all (length x) x (omega arith));
+        holds = p .so ∙ rw (e, take-all (length x) x (omega arith)) (simp append-assoc);
       }
 
 -- one byte

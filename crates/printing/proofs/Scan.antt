@@ -10,7 +10,7 @@ use lib.Dec.{eqb, leb}
 use lib.ListN.{length, getD, take, drop, drop-of-length-le}
 use lib.Seq.{drop-cons, drop-nil}
 use borrow.Author.Tests.{eq-eqb, ne-eqb, leb-true}
-use Rattle.card.specs.Text.{all, isDigit, onward}
+use Rattle.text.specs.Text.{all, isDigit, onward}
 use Rattle.printing.specs.Lines.{upTo, beforeSpace, afterSpace, isNumber}
 
 pub both : (a b : Bool) → a && b ≡ true → (a ≡ true) × (b ≡ true)

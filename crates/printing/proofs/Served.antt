@@ -8,12 +8,12 @@ use lib.Dec.{leb, ltb}
 use lib.ListN.{length, take, drop}
 use borrow.Author.Tests.{leb-true, ltb-true, le-leb, lt-ltb}
 use Rattle.card.specs.declared.Card.{Card}
-use Rattle.card.specs.Write.{over}
-use Rattle.printing.specs.Put.{Put}
+use Rattle.whole.specs.Lists.{over}
+use Rattle.text.specs.Steps.{Put}
 use Rattle.printing.specs.Lines.{upTo}
 use Rattle.printing.specs.Printed.{lineFor}
 use Rattle.printing.specs.Run.{lineAt}
-use Rattle.printing.specs.Answers.{served, textAt, lineAnswer}
+use Rattle.printing.specs.Steps.{served, textAt, lineAnswer}
 use Rattle.printing.specs.declared.LineAnswer.{LineAnswer}
 use Rattle.printing.proofs.Scan.{both, line-part}
 use Rattle.printing.proofs.Openings.{front-length, front-left}

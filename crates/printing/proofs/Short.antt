@@ -12,14 +12,13 @@ use borrow.Author.Tests.{ltb-false}
 use Rattle.arc.specs.declared.Verdict.{Verdict}
 use Rattle.card.specs.declared.Card.{Card}
 use Rattle.card.specs.declared.PositionAnswer.{PositionAnswer}
-use Rattle.card.specs.Text.{bytes}
-use Rattle.card.specs.Write.{angleText}
+use Rattle.text.specs.Text.{bytes, angleText}
 use Rattle.card.specs.Grid.{positionOf}
 use Rattle.card.specs.Read.{readOf, Accepted, Known}
 use Rattle.printing.specs.Lines.{Pair, numbersOf}
 use Rattle.printing.specs.Printed.{badLine, tooLong, answerText, lineOut, lineFor, cardOut}
 use Rattle.printing.specs.Run.{lineAt, nextAt, Opened, closed, openedWith, openedCard, openingOf}
-use Rattle.printing.specs.Answers.{openingFor, openingAnswer, served, textAt, lineAnswer}
+use Rattle.printing.specs.Steps.{openingFor, openingAnswer, served, textAt, lineAnswer}
 use Rattle.printing.specs.declared.OpeningAnswer.{OpeningAnswer}
 use Rattle.printing.specs.declared.LineAnswer.{LineAnswer}
 use Rattle.printing.proofs.Digits.{length-digits, decimal-short, decimal-most}

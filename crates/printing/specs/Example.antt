@@ -2,7 +2,7 @@
 use mathlib.Core.Path.{_≡_}
 use mathlib.Core.List.{List, _++_}
 use Prim.Native.Nat.{ℕ}
-use Rattle.card.specs.Text.{bytes}
+use Rattle.text.specs.Text.{bytes}
 use Rattle.printing.specs.Printed.{printed}
 
 abbrev pub input : List ℕ

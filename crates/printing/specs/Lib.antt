@@ -1,6 +1,5 @@
 pub mod Lines
 pub mod Printed
 pub mod Run
-pub mod Put
-pub mod Answers
+pub mod Steps
 pub mod Example

@@ -10,7 +10,7 @@ use mathlib.Core.Bool.{Bool, cond, _&&_}
 use mathlib.Core.Option.{Option, some, none}
 use lib.Dec.{leb, eqb}
 use lib.ListN.{length}
-use Rattle.card.specs.Text.{isDigit, all, number}
+use Rattle.text.specs.Text.{isDigit, all, number}
 
 -- b in front of the first line
 abbrev pub intoFirst : ℕ → List (List ℕ) → List (List ℕ)

@@ -14,8 +14,7 @@ use Rattle.arc.specs.declared.Verdict.{Verdict}
 use Rattle.card.specs.declared.Card.{Card}
 use Rattle.card.specs.declared.Reading.{Reading}
 use Rattle.card.specs.declared.PositionAnswer.{PositionAnswer}
-use Rattle.card.specs.Text.{bytes}
-use Rattle.card.specs.Write.{digits, angleText}
+use Rattle.text.specs.Text.{bytes, digits, angleText}
 use Rattle.card.specs.Read.{readOf}
 use Rattle.card.specs.Grid.{positionOf}
 use Rattle.printing.specs.Lines.{linesOf, Pair, numbersOf}

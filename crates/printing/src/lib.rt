@@ -2,7 +2,7 @@
 use card::Card;
 ghost use mathlib.Core.Path.{_≡_};
 ghost use Rattle.card.specs.Read.{Known};
-ghost use Rattle.printing.specs.Answers.{openingFor, openingAnswer, openingLeft, lineAnswer, lineLeft};
+ghost use Rattle.printing.specs.Steps.{openingFor, openingAnswer, openingLeft, lineAnswer, lineLeft};
 
 mod line;
 mod parse;

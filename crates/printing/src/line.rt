@@ -10,7 +10,7 @@ ghost use lib.IntN.{pos};
 ghost use lib.ListN.{length};
 ghost use Rattle.card.specs.Grid.{positionOf};
 ghost use Rattle.card.specs.Read.{Known};
-ghost use Rattle.printing.specs.Put.{Put};
+ghost use Rattle.text.specs.Steps.{Put};
 ghost use Rattle.printing.specs.Printed.{answerText, pixelText, lineFor};
 
 // Latitude and longitude in card form, or "refused" and the number.

@@ -3,9 +3,9 @@ ghost use mathlib.Core.Path.{_≡_};
 ghost use mathlib.Core.Bool.{true};
 ghost use Prim.Native.Nat.{_+_, _<_, _≤_};
 ghost use lib.ListN.{length, drop};
-ghost use Rattle.card.specs.Text.{all, isDigit, number};
+ghost use Rattle.text.specs.Text.{all, isDigit, number};
 ghost use Rattle.printing.specs.Lines.{upTo, isNumber, numbersOf};
-ghost use Rattle.printing.specs.Answers.{numbersAnswer};
+ghost use Rattle.printing.specs.Steps.{numbersAnswer};
 
 // What a line holds.
 pub enum Numbers {

@@ -12,11 +12,11 @@ ghost use Prim.Native.Nat.{_≤_};
 ghost use lib.ListN.{length};
 ghost use Rattle.arc.specs.declared.Verdict.{Verdict};
 ghost use Rattle.card.specs.Read.{noCard};
-ghost use Rattle.printing.specs.Put.{Put};
+ghost use Rattle.text.specs.Steps.{Put};
 ghost use Rattle.printing.specs.Lines.{numbersOf};
 ghost use Rattle.printing.specs.Printed.{cardOut};
 ghost use Rattle.printing.specs.Run.{closed, openedWith, openedCard, openingOf};
-ghost use Rattle.printing.specs.Answers.{stopped, Opens};
+ghost use Rattle.printing.specs.Steps.{stopped, Opens};
 
 // A refused card: the number and the place.
 fn put_refusal(out: &mut [u8], e: Refusal) -> usize

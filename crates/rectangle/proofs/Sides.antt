@@ -13,12 +13,12 @@ use Rattle.whole.proofs.Signed.{is-nat, is-difference, is-le, le-is}
 use Rattle.arc.specs.Zones.{circle, quarter, isPolar, Row, from, to, rowAt}
 use Rattle.zones.specs.Basic.{holds}
 use Rattle.zones.specs.Cover.{overlaps, coversIn, covers}
-use Rattle.zones.specs.Stretch.{reaches}
+use Rattle.zones.specs.Steps.{reaches}
 use Rattle.zones.proofs.Holding.{both}
 use Rattle.zones.proofs.Rows.{from-to, northern-at, southern-at, row-north, row-south, to-least}
 use Rattle.zones.proofs.Covering.{covers-is}
 use Rattle.rectangle.specs.Rectangle.{coversSome, Covered}
-use Rattle.rectangle.specs.Stretch.{meets}
+use Rattle.rectangle.specs.Steps.{meets}
 use Rattle.rectangle.proofs.Some.{somes}
 
 same : (x y : Bool) → (x ≡ true → y ≡ true) → (y ≡ true → x ≡ true) → x ≡ y

@@ -5,7 +5,7 @@ use Prim.Native.Nat.{ℕ, zero, suc, _+_, _-_, _≤_, _<_}
 use native.Mathlib.Omega.{arith}
 use lib.IntN.{ℤ, pos, natAbs, sucℤ, _+ℤ_, _-ℤ_, +ℤ-idr, sucℤ-+ℤ, +ℤ-sucℤ}
 use Rattle.whole.proofs.Signed.{Is, over, under, is-parts, is-nat, is-add, is-minus, is-equal, is-le, le-is, is-size}
-use Rattle.zones.specs.Lists.{someFrom}
+use Rattle.whole.specs.Lists.{someFrom}
 use Rattle.zones.specs.Cover.{covers}
 use Rattle.rectangle.specs.Rectangle.{SomeIs}
 

@@ -7,7 +7,7 @@ use native.Mathlib.Omega.{arith}
 use lib.ListN.{replicate, set}
 use lib.IntN.{pos, _-ℤ_}
 use Rattle.arc.specs.Zones.{quarter}
-use Rattle.zones.specs.Lists.{upFrom}
+use Rattle.whole.specs.Lists.{upFrom}
 use Rattle.zones.proofs.Filled.{Sofar, taken, passed}
 use Rattle.rectangle.specs.Rectangle.{coversSome, rectangleZones}
 

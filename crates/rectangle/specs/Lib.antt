@@ -1,2 +1,2 @@
 pub mod Rectangle
-pub mod Stretch
+pub mod Steps

@@ -13,11 +13,11 @@ use Rattle.whole.specs.Whole.{outside}
 use Rattle.arc.specs.declared.Refusal.{Refusal}
 use Rattle.arc.specs.declared.Verdict.{Verdict}
 use Rattle.arc.specs.declared.ConstantAnswer.{ConstantAnswer}
-use Rattle.arc.specs.Refusals.{refusal, Report}
+use Rattle.arc.specs.Refusals.{refusal, Report, reportIn}
 use Rattle.arc.specs.Zones.{quarter}
 use Rattle.arc.specs.Spacing.{rowsOf}
 use Rattle.rectangle.specs.declared.RectangleAnswer.{RectangleAnswer}
-use Rattle.zones.specs.Lists.{those, upFrom, padded, reportIn, someFrom}
+use Rattle.whole.specs.Lists.{those, upFrom, padded, someFrom}
 use Rattle.zones.specs.Cover.{covers}
 
 -- south, south + 1, .., north: one more than their difference
@@ -28,8 +28,8 @@ unfoldable pub rectangleZones : ℕ → ℤ → ℤ → List ℕ
 rectangleZones b south north = those (coversSome b south north) (upFrom 1 18)
 
 -- eighteen slots, those that are not used 0; all 0 in a refusal
-abbrev pub listed : List ℕ → RectangleAnswer
-listed zs = record { verdict = Verdict.Accepted; length = length zs; zones = padded 18 zs }
+abbrev pub acceptedRectangle : List ℕ → RectangleAnswer
+acceptedRectangle zs = record { verdict = Verdict.Accepted; length = length zs; zones = padded 18 zs }
 
 abbrev pub refusedRectangle : Refusal → RectangleAnswer
 refusedRectangle r = record { verdict = Verdict.Refused r; length = 0; zones = replicate 18 0 }
@@ -39,7 +39,7 @@ rectangleAt b south north =
     cond (outside quarter south) (refusedRectangle (refusal 4))
     (cond (outside quarter north) (refusedRectangle (refusal 4))
     (cond (ltZ north south) (refusedRectangle (refusal 16))
-    (listed (rectangleZones b south north))))
+    (acceptedRectangle (rectangleZones b south north))))
 
 abbrev pub rectangleWith : ConstantAnswer → ℤ → ℤ → RectangleAnswer
 rectangleWith (ConstantAnswer.Pixels b) south north = rectangleAt b south north

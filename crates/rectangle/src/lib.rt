@@ -8,9 +8,9 @@ ghost use mathlib.Core.Path.{_≡_};
 ghost use Prim.Native.Nat.{_-_, _<_, _≤_};
 ghost use lib.IntN.{pos, _-ℤ_};
 ghost use Rattle.arc.specs.Zones.{quarter, rowAt};
-ghost use Rattle.zones.specs.Stretch.{Rows};
-ghost use Rattle.rectangle.specs.Rectangle.{coversSome, rectangleZones, listed, refusedRectangle, rectangleAt, rectangleOf};
-ghost use Rattle.rectangle.specs.Stretch.{meets, Sides};
+ghost use Rattle.zones.specs.Steps.{Rows};
+ghost use Rattle.rectangle.specs.Rectangle.{coversSome, rectangleZones, acceptedRectangle, refusedRectangle, rectangleAt, rectangleOf};
+ghost use Rattle.rectangle.specs.Steps.{meets, Sides};
 
 // The zones of a rectangle: the first `length` slots, the others 0.
 pub struct RectangleAnswer {
@@ -89,7 +89,7 @@ fn covers_some(b: u64, zone: u64, south: u64, north: u64) -> bool
 // The list, the edges counted from the South Pole.
 fn zones_of(b: u64, south: u64, north: u64) -> RectangleAnswer
     requires { ⌜ Rows b ⌝ ∗ ⌜ south ≤ north ⌝ ∗ ⌜ north ≤ 64800000 ⌝ }
-    ensures { λ a. ⌜ a ≡ listed (rectangleZones b (pos south -ℤ pos quarter) (pos north -ℤ pos quarter)) ⌝ }
+    ensures { λ a. ⌜ a ≡ acceptedRectangle (rectangleZones b (pos south -ℤ pos quarter) (pos north -ℤ pos quarter)) ⌝ }
 {
     let mut zones = [0u64; 18];
     let mut length = 0;

@@ -19,11 +19,12 @@ use Rattle.arc.specs.Spacing.{spacingOf, Grids}
 use Rattle.arc.proofs.Answered.{answered-grids}
 use Rattle.origin.specs.declared.Origin.{Origin}
 use Rattle.origin.specs.declared.OriginAnswer.{OriginAnswer}
-use Rattle.origin.specs.Origin.{originOf, alignIn, stored, Aligned, OnGrid}
+use Rattle.origin.specs.Origin.{originOf, alignIn, storedAngle, Aligned, OnGrid}
 use Rattle.origin.proofs.Aligned.{aligned, aligned-on-grid}
 use Rattle.card.specs.declared.Record.{Record}
 use Rattle.card.specs.Layout.{LSO, PSO, bytesOf}
-use Rattle.card.specs.Write.{angleText, cardText, outOf}
+use Rattle.text.specs.Text.{angleText}
+use Rattle.card.specs.Write.{cardText, outOf}
 use Rattle.card.specs.RoundTrips.{ReadBack}
 use Rattle.round_trip.specs.Aligned.{Fits, Carried, AlignedBack}
 use Rattle.round_trip.proofs.Bytes.{and-both}
@@ -85,10 +86,10 @@ module _
     reads = read-back a b r grids good (f .bad-twelve) scale zone s (n .no-pole)
 
     lso-same : bytesOf LSO (cardText a b r) ≡ angleText 3 (o .lso)
-    lso-same = lso-text a b r grids good (f .bad-twelve) ∙ ap (angleText 3) (ap (stored a) (f .at-m) ∙ sym (angles .lso-stored))
+    lso-same = lso-text a b r grids good (f .bad-twelve) ∙ ap (angleText 3) (ap (storedAngle a) (f .at-m) ∙ sym (angles .lso-stored))
 
     pso-same : bytesOf PSO (cardText a b r) ≡ angleText 2 (o .pso)
-    pso-same = pso-text a b r grids good (f .bad-twelve) ∙ ap (angleText 2) (ap (stored b) (f .at-n) ∙ sym (angles .pso-stored))
+    pso-same = pso-text a b r grids good (f .bad-twelve) ∙ ap (angleText 2) (ap (storedAngle b) (f .at-n) ∙ sym (angles .pso-stored))
 
     carried : (out : List ℕ) → 98 ≤ length out → Carried scale zone o r out (take 98 (outOf scale zone r out))
     carried out h =

@@ -10,8 +10,7 @@ use lib.IntN.{ℤ, pos, negsuc, negℤ, natAbs}
 use lib.Signed.{ltZ}
 use lib.ListN.{length, getD, length-append}
 use borrow.Author.Tests.{leb-true, ltb-true, eqb-true, le-leb, lt-ltb, le-ltb, ne-eqb}
-use Rattle.card.specs.Text.{isSign, minus, number, angleLaid, minutes, seconds, angleSize, angleOf, angleValid}
-use Rattle.card.specs.Write.{digits, angleText}
+use Rattle.text.specs.Text.{isSign, minus, number, angleLaid, minutes, seconds, angleSize, angleOf, angleValid, digits, angleText}
 use Rattle.round_trip.proofs.Bytes.{and-l, and-r}
 use Rattle.round_trip.proofs.Digits.{length-digits, number-digits, digits-number, number-below}
 use Rattle.round_trip.proofs.Runs.{Run, Runs, joined, digits-run, laid, sign-at, minutes-is, seconds-is, size-is, runs}

@@ -8,7 +8,7 @@ use native.Mathlib.Numerals.{add-one}
 use native.Mathlib.Omega.{arith}
 use lib.ListN.{length, getD, take, drop, length-take, length-drop, take-append-drop}
 use lib.Seq.{take-at, drop-at, drop-cons, drop-drop, take-take}
-use Rattle.card.specs.Text.{all, part}
+use Rattle.text.specs.Text.{all, part}
 
 -- both of two tests
 pub and-l : (a b : Bool) → a && b ≡ true → a ≡ true

@@ -11,8 +11,7 @@ use lib.Arith.{mod-mul}
 use lib.Dec.{leb}
 use lib.ListN.{length}
 use borrow.Author.Tests.{leb-true, le-leb}
-use Rattle.card.specs.Text.{all, isDigit, onward, number}
-use Rattle.card.specs.Write.{digits}
+use Rattle.text.specs.Text.{all, isDigit, onward, number, digits}
 use Rattle.round_trip.proofs.Bytes.{and-l, and-r}
 
 tens : (w : ℕ) → 0 < 10 ^ w

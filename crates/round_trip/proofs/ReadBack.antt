@@ -17,16 +17,16 @@ use Rattle.arc.specs.declared.SpacingAnswer.{SpacingAnswer}
 use Rattle.arc.specs.Zones.{half, quarter, isPolar}
 use Rattle.arc.specs.Spacing.{spacingOf, Grid, Grids}
 use Rattle.arc.proofs.Answered.{answered-grids}
-use Rattle.origin.specs.Origin.{stored}
+use Rattle.origin.specs.Origin.{storedAngle}
 use Rattle.origin.proofs.Axis.{Axis, latitudes, longitudes}
 use Rattle.card.specs.declared.Subfield.{Subfield}
 use Rattle.card.specs.declared.Card.{Card}
 use Rattle.card.specs.declared.Record.{Record}
-use Rattle.card.specs.Text.{number, angleOf}
+use Rattle.text.specs.Text.{number, angleOf, digits, angleText}
 use Rattle.card.specs.Layout.{STR, ARV, BRV, LSO, PSO, NUL, NUS, NLL, NLS, NFL, NFC, BAD, TIF, layout, bytesOf, walk}
 use Rattle.card.specs.Extents.{extentsHold}
-use Rattle.card.specs.Read.{numberIn, tileOf, cardOf, accepted, withValues, readIn}
-use Rattle.card.specs.Write.{counted, digits, angleText, valuesOf, cardText}
+use Rattle.card.specs.Read.{numberIn, tileStoring, cardOf, acceptedCard, withValues, readIn}
+use Rattle.card.specs.Write.{counted, valuesOf, cardText}
 use Rattle.card.specs.RoundTrips.{recordOf, ReadBack, ReadsBack}
 use Rattle.round_trip.proofs.Bytes.{and-both}
 use Rattle.round_trip.proofs.Digits.{number-digits}
@@ -37,18 +37,18 @@ use Rattle.round_trip.proofs.Records.{extents, Good, sizes, inverted, t
 
 -- a tile is found from the text of its stored angle
 tile-back : {x t l : ℕ} → Axis x t l → Grid x → (k : ℤ) → outside t k ≡ false → (d : ℕ) → l / 360000 < 10 ^ d
-    → (s : List ℕ) → s ≡ angleText d (stored x k) → tileOf x t (angleOf d s) ≡ some k
+    → (s : List ℕ) → s ≡ angleText d (storedAngle x k) → tileStoring x t (angleOf d s) ≡ some k
 tile-back {x} {t} {l} axis g k h d small s e =
-    rw (e, angle-of-text d (stored x k) (omega (arith, stored-within axis k h))) (tile-at x t g k h)
+    rw (e, angle-of-text d (storedAngle x k) (omega (arith, stored-within axis k h))) (tile-at x t g k h)
 
 module _ (a b : ℕ) (r : Record) (g : Grids a b) (ok : Good a b r) (twelve : length (r .bad) ≡ 12) where
   abbrev card : List ℕ
   card = cardText a b r
 
-  lon-within : natAbs (stored a (r .m)) ≤ half
+  lon-within : natAbs (storedAngle a (r .m)) ≤ half
   lon-within = stored-within (longitudes a (g .columns)) (r .m) (ok .m-on)
 
-  lat-within : natAbs (stored b (r .n)) ≤ quarter
+  lat-within : natAbs (storedAngle b (r .n)) ≤ quarter
   lat-within = stored-within (latitudes b (g .rows)) (r .n) (ok .n-on)
 
   held : Along Held layout (valuesOf a b r)
@@ -85,18 +85,18 @@ module _ (a b : ℕ) (r : Record) (g : Grids a b) (ok : Good a b r) (twelve : le
   digits-back : (f : Subfield) (v : ℕ) → bytesOf f card ≡ digits (f .width) v → v < 10 ^ f .width → numberIn f card ≡ v
   digits-back f v e h = ap number e ∙ number-digits (f .width) v h
 
-  pub lso-text : bytesOf LSO card ≡ angleText 3 (stored a (r .m))
+  pub lso-text : bytesOf LSO card ≡ angleText 3 (storedAngle a (r .m))
   unfolding layout valuesOf
   lso-text = text 3 (omega arith)
 
-  pub pso-text : bytesOf PSO card ≡ angleText 2 (stored b (r .n))
+  pub pso-text : bytesOf PSO card ≡ angleText 2 (storedAngle b (r .n))
   unfolding layout valuesOf
   pso-text = text 4 (omega arith)
 
-  lon-back : tileOf a (a / 256) (angleOf 3 (bytesOf LSO card)) ≡ some (r .m)
+  lon-back : tileStoring a (a / 256) (angleOf 3 (bytesOf LSO card)) ≡ some (r .m)
   lon-back = tile-back (longitudes a (g .columns)) (g .columns) (r .m) (ok .m-on) 3 (omega arith) (bytesOf LSO card) lso-text
 
-  lat-back : tileOf b (b / 512) (angleOf 2 (bytesOf PSO card)) ≡ some (r .n)
+  lat-back : tileStoring b (b / 512) (angleOf 2 (bytesOf PSO card)) ≡ some (r .n)
   lat-back = tile-back (latitudes b (g .rows)) (g .rows) (r .n) (ok .n-on) 2 (omega arith) (bytesOf PSO card) pso-text
 
   spacing-back : eqb (numberIn ARV card) a && eqb (numberIn BRV card) b ≡ true
@@ -132,7 +132,7 @@ module _ (a b : ℕ) (r : Record) (g : Grids a b) (ok : Good a b r) (twelve : le
     unfolding cardOf
     extents-back = ap (extents a b) same ∙ ok .extents-hold
 
-    read : isPolar zone ≡ false → readIn scale zone (SpacingAnswer.Constants a b) card ≡ accepted k
+    read : isPolar zone ≡ false → readIn scale zone (SpacingAnswer.Constants a b) card ≡ acceptedCard k
     unfolding readIn withValues
     read p = rw (p, eq-eqb (length card) 98 long, walked, spacing-back, lat-back, lon-back, extents-back)
 

@@ -13,10 +13,10 @@ use Rattle.arc.specs.declared.SpacingAnswer.{SpacingAnswer}
 use Rattle.arc.specs.Zones.{isPolar}
 use Rattle.arc.specs.Spacing.{spacingOf}
 use Rattle.card.specs.declared.Card.{Card}
-use Rattle.card.specs.Text.{angleOf}
+use Rattle.text.specs.Text.{angleOf}
 use Rattle.card.specs.Layout.{ARV, BRV, LSO, PSO, layout, bytesOf, walk}
 use Rattle.card.specs.Extents.{extentsHold}
-use Rattle.card.specs.Read.{numberIn, cardOf, accepted, readOf}
+use Rattle.card.specs.Read.{numberIn, cardOf, acceptedCard, readOf}
 use Rattle.card.proofs.Acceptance.{read-to}
 use Rattle.round_trip.proofs.Bytes.{and-l, and-r}
 use Rattle.round_trip.proofs.Tiles.{Tile, tile-of}
@@ -51,7 +51,7 @@ pub record Reads (scale zone : ℕ) (s : List ℕ) (k : Card) : Type 0 where
   pub values : Values scale zone a b s k
 
 module _ (scale zone : ℕ) (s : List ℕ) (k : Card) where
-  pub reads : readOf scale zone s ≡ accepted k → Reads scale zone s k
+  pub reads : readOf scale zone s ≡ acceptedCard k → Reads scale zone s k
   unfolding cardOf
   reads e =
       let r = read-to scale zone s k e in

@@ -18,7 +18,7 @@ use Rattle.arc.specs.Refusals.{refusal}
 use Rattle.arc.specs.Zones.{isPolar}
 use Rattle.arc.specs.Spacing.{spacingOf}
 use Rattle.card.specs.declared.Record.{Record}
-use Rattle.card.specs.Text.{nameLaid}
+use Rattle.text.specs.Text.{nameLaid}
 use Rattle.card.specs.Layout.{orElse}
 use Rattle.card.specs.Extents.{onGrid, extentsHold}
 use Rattle.card.specs.Write.{cardText, test, first, recordTests, writeIn, writeOf, outOf}

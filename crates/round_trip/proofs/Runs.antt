@@ -9,8 +9,7 @@ use lib.Dec.{eqb}
 use lib.ListN.{length, getD, drop, length-append, drop-of-length-le}
 use lib.Seq.{getD-at}
 use borrow.Author.Tests.{eqb-true, eq-eqb}
-use Rattle.card.specs.Text.{all, part, isDigit, isSign, number, angleLaid, degrees, minutes, seconds, hundredths, angleSize}
-use Rattle.card.specs.Write.{digits}
+use Rattle.text.specs.Text.{all, part, isDigit, isSign, number, angleLaid, degrees, minutes, seconds, hundredths, angleSize, digits}
 use Rattle.round_trip.proofs.Bytes.{and-l, and-r, and-both, part-at, length-part, cut, drop-next, part-part, all-append, all-part}
 use Rattle.round_trip.proofs.Digits.{length-digits, all-digits}
 

@@ -13,7 +13,7 @@ use borrow.Author.Tests.{le-leb, eqb-true}
 use Rattle.arc.specs.declared.Verdict.{Verdict}
 use Rattle.card.specs.declared.Kind.{Kind}
 use Rattle.card.specs.declared.Subfield.{Subfield}
-use Rattle.card.specs.Text.{isFlag, nameLaid, part}
+use Rattle.text.specs.Text.{isFlag, nameLaid, part}
 use Rattle.card.specs.Layout.{STR, bytesOf, rightKind, rightValue, judge, judgeField, orElse, walk}
 use Rattle.card.specs.Write.{Value, counted, angle, named, flagged, textOf, written}
 use Rattle.round_trip.proofs.Bytes.{and-l, and-r, part-at, cut}

@@ -11,10 +11,10 @@ use borrow.Author.Tests.{leb-true, eqb-true}
 use Rattle.arc.specs.Zones.{half, quarter}
 use Rattle.card.specs.declared.Subfield.{Subfield}
 use Rattle.card.specs.declared.Card.{Card}
-use Rattle.card.specs.Text.{all, isDigit, isFlag, angleLaid, angleValid, angleOf}
+use Rattle.text.specs.Text.{all, isDigit, isFlag, angleLaid, angleValid, angleOf, digits, angleText}
 use Rattle.card.specs.Layout.{STR, ARV, BRV, LSO, PSO, NUL, NUS, NLL, NLS, NFL, NFC, PNC, PNL, COD, ROD, POR, PCB, PVB, TIF, layout, bytesOf}
 use Rattle.card.specs.Read.{numberIn, cardOf}
-use Rattle.card.specs.Write.{digits, angleText, valuesOf, cardText}
+use Rattle.card.specs.Write.{valuesOf, cardText}
 use Rattle.card.specs.RoundTrips.{recordOf, WrittenBack, WritesBack}
 use Rattle.round_trip.proofs.Bytes.{and-l, and-r, length-part, drop-next}
 use Rattle.round_trip.proofs.Digits.{digits-number}

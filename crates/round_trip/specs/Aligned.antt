@@ -16,10 +16,10 @@ use Rattle.origin.specs.declared.Origin.{Origin}
 use Rattle.origin.specs.declared.OriginAnswer.{OriginAnswer}
 use Rattle.origin.specs.Origin.{alignOf}
 use Rattle.card.specs.declared.Record.{Record}
-use Rattle.card.specs.Text.{nameLaid}
+use Rattle.text.specs.Text.{nameLaid, angleText}
 use Rattle.card.specs.Layout.{LSO, PSO, bytesOf}
 use Rattle.card.specs.Extents.{extentsHold}
-use Rattle.card.specs.Write.{angleText, writeOf, outOf}
+use Rattle.card.specs.Write.{writeOf, outOf}
 use Rattle.card.specs.RoundTrips.{ReadBack}
 
 pub record Fits (a b : ℕ) (o : Origin) (r : Record) : Type 0 where

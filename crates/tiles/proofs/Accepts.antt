@@ -13,19 +13,20 @@ use lib.Seq.{getD-take, length-take-le}
 use Rattle.arc.specs.declared.Verdict.{Verdict}
 use Rattle.card.specs.declared.Card.{Card}
 use Rattle.tiles.specs.Index.{tiles, indexWrong, stored, said, saidOf}
-use Rattle.tiles.specs.Check.{occurs, badAt, firstOf, firstBad, named, judged, checkOf, EachPlaced, NoneAbove, OnceAccepted}
+use Rattle.tiles.specs.Check.{occurs, badAt, firstBad, allNamed, judged, checkOf, EachPlaced, NoneAbove, OnceAccepted}
+use Rattle.whole.specs.Lists.{firstFrom, oneMore}
 use Rattle.tiles.proofs.Entry.{index-long, said-above, said-stored, said-in}
 use Rattle.tiles.proofs.Pass.{good-none, good-new}
 use Rattle.tiles.proofs.Once.{occurs-at, place, entry-of}
 
-none-from : (f : ℕ → Bool) (i n : ℕ) → ((j : ℕ) → i ≤ j → j < i + n → f j ≡ false) → firstOf f i n ≡ none
-unfolding firstOf
+none-from : (f : ℕ → Bool) (i n : ℕ) → ((j : ℕ) → i ≤ j → j < i + n → f j ≡ false) → firstFrom oneMore f i n ≡ none
+unfolding firstFrom
 none-from f i zero h = refl
 none-from f i (suc n) h =
     rw (h i (omega arith) (omega arith)) (none-from f (i + 1) n (λ j p q. h j (omega arith) (omega arith)))
 
 each-named : (index : List ℕ) (count : ℕ) → ((n : ℕ) → 1 ≤ n → n ≤ count → occurs n index ≡ true)
-    → named count index ≡ true
+    → allNamed count index ≡ true
 each-named index zero h = refl
 each-named index (suc m) h =
     rw (h (suc m) (omega arith) (omega arith)) (each-named index m (λ n p q. h n p (omega arith)))

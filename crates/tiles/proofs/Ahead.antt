@@ -10,10 +10,11 @@ use Rattle.card.specs.declared.Card.{Card}
 use Rattle.tiles.specs.declared.WindowAnswer.{WindowAnswer}
 use Rattle.tiles.specs.Index.{Said, stored, missing, above, said}
 use Rattle.tiles.proofs.Entry.{said-missing, said-above, said-stored, said-in, said-all, tile-inside}
-use Rattle.tiles.specs.Window.{rowTiles, windowTiles, scanned, scan}
+use Rattle.whole.specs.Lists.{upFrom}
+use Rattle.tiles.specs.Window.{windowTiles, scanned, scan}
 
 -- ---- the tiles of a row and of a window
-row-step : (t n m : ℕ) → n ≡ suc m → rowTiles t n ≡ t ∷ rowTiles (t + 1) m
+row-step : (t n m : ℕ) → n ≡ suc m → upFrom t n ≡ t ∷ upFrom (t + 1) m
 row-step t n m e = rw e
 
 module _ (k : Card) (index : List ℕ) (count : ℕ) where
@@ -25,7 +26,7 @@ module _ (k : Card) (index : List ℕ) (count : ℕ) where
   -- a row begins, and ends
   pub enter : (top left r height width : ℕ) → r < height
       → scan k index count (windowTiles k (top + r) left (height - r) width)
-      ≡ scan k index count (rowTiles ((top + r) * k .nfc + left + 0) (width - 0) ++ windowTiles k (top + (r + 1)) left
+      ≡ scan k index count (upFrom ((top + r) * k .nfc + left + 0) (width - 0) ++ windowTiles k (top + (r + 1)) left
       (height - (r + 1)) width)
   enter top left r height width h =
       let e : height - r ≡ suc (height - (r + 1)) = omega arith in
@@ -35,7 +36,7 @@ module _ (k : Card) (index : List ℕ) (count : ℕ) where
       rw (e, f, g, i)
 
   pub leave : (s c width : ℕ) (rest : List ℕ) → width ≤ c
-      → scan k index count (rowTiles (s + c) (width - c) ++ rest) ≡ scan k index count rest
+      → scan k index count (upFrom (s + c) (width - c) ++ rest) ≡ scan k index count rest
   leave s c width rest h = let e : width - c ≡ 0 = omega arith in rw e
 
   pub done : (top left r height width : ℕ) → height ≤ r
@@ -45,23 +46,23 @@ module _ (k : Card) (index : List ℕ) (count : ℕ) where
   -- c columns into a row of `width` from s, with the tiles `rest` below it
   module _ (y : k .tif ≡ true) (s c width : ℕ) (rest : List ℕ) (h : c < width) where
     next : (v : Said) → said count (getD index (s + c) 0) ≡ v
-        → scan k index count (rowTiles (s + c) (width - c) ++ rest)
-        ≡ scanned (s + c) v (scan k index count (rowTiles (s + (c + 1)) (width - (c + 1)) ++ rest))
+        → scan k index count (upFrom (s + c) (width - c) ++ rest)
+        ≡ scanned (s + c) v (scan k index count (upFrom (s + (c + 1)) (width - (c + 1)) ++ rest))
     next v e =
         let f : s + c + 1 ≡ s + (c + 1) = omega arith in
         rw (row-step (s + c) (width - c) (width - (c + 1)) (omega arith), f, said-in k index count (s + c) y, e)
 
     pub advance : (getD index (s + c) 0 ≡ 0 → ⊥) → getD index (s + c) 0 ≤ count
-        → scan k index count (rowTiles (s + c) (width - c) ++ rest)
-        ≡ scan k index count (rowTiles (s + (c + 1)) (width - (c + 1)) ++ rest)
+        → scan k index count (upFrom (s + c) (width - c) ++ rest)
+        ≡ scan k index count (upFrom (s + (c + 1)) (width - (c + 1)) ++ rest)
     advance d p = next (stored (getD index (s + c) 0)) (said-stored count (getD index (s + c) 0) d p)
 
     pub at-missing : getD index (s + c) 0 ≡ 0
-        → scan k index count (rowTiles (s + c) (width - c) ++ rest) ≡ WindowAnswer.Missing (s + c)
+        → scan k index count (upFrom (s + c) (width - c) ++ rest) ≡ WindowAnswer.Missing (s + c)
     at-missing z = next missing (said-missing count (getD index (s + c) 0) z)
 
     pub at-above : (getD index (s + c) 0 ≡ 0 → ⊥) → count < getD index (s + c) 0
-        → scan k index count (rowTiles (s + c) (width - c) ++ rest) ≡ WindowAnswer.Refused (refusalAt 15 (s + c))
+        → scan k index count (upFrom (s + c) (width - c) ++ rest) ≡ WindowAnswer.Refused (refusalAt 15 (s + c))
     at-above d p = next above (said-above count (getD index (s + c) 0) d p)
 
 -- the tile lies in the index

@@ -7,7 +7,7 @@ use native.Mathlib.Omega.{arith}
 use native.Mathlib.Decide.{ℕ-discrete}
 use borrow.Author.Tests.{eq-eqb, ne-eqb}
 use lib.Dec.{eqb}
-use Rattle.tiles.specs.Check.{occurs, named}
+use Rattle.tiles.specs.Check.{occurs, allNamed}
 
 -- one entry more
 pub occurs-more : (e x : ℕ) (l : List ℕ) → occurs e (l ++ (x ∷ [])) ≡ occurs e l || eqb x e
@@ -60,18 +60,18 @@ counted-le l (suc n) = go (occurs (suc n) l) (counted-le l n)
     go false h = omega arith
 
 -- all of them, told by the count
-pub named-all : (l : List ℕ) (n : ℕ) → n ≤ counted l n → named n l ≡ true
+pub named-all : (l : List ℕ) (n : ℕ) → n ≤ counted l n → allNamed n l ≡ true
 named-all l zero h = refl
 named-all l (suc n) h = go (occurs (suc n) l) h (named-all l n)
   where
-    go : (b : Bool) → suc n ≤ cond b 1 0 + counted l n → (n ≤ counted l n → named n l ≡ true) → b && named n l ≡ true
+    go : (b : Bool) → suc n ≤ cond b 1 0 + counted l n → (n ≤ counted l n → allNamed n l ≡ true) → b && allNamed n l ≡ true
     go true q w = w (omega arith)
     go false q w = absurd (omega (arith, counted-le l n))
 
-pub named-not : (l : List ℕ) (n : ℕ) → counted l n < n → named n l ≡ false
+pub named-not : (l : List ℕ) (n : ℕ) → counted l n < n → allNamed n l ≡ false
 named-not l zero h = absurd (omega arith)
 named-not l (suc n) h = go (occurs (suc n) l) h (named-not l n)
   where
-    go : (b : Bool) → cond b 1 0 + counted l n < suc n → (counted l n < n → named n l ≡ false) → b && named n l ≡ false
+    go : (b : Bool) → cond b 1 0 + counted l n < suc n → (counted l n < n → allNamed n l ≡ false) → b && allNamed n l ≡ false
     go true q w = w (omega arith)
     go false q w = refl

@@ -11,8 +11,8 @@ use lib.ListN.{length, getD}
 use Rattle.card.specs.declared.Card.{Card}
 use Rattle.tiles.specs.declared.NumberAnswer.{NumberAnswer}
 use Rattle.tiles.specs.Index.{tiles, countWrong, indexWrong, stored, missing, above, said, saidOf}
-use Rattle.tiles.specs.LookUp.{numberIn}
-use Rattle.tiles.specs.Held.{Sized}
+use Rattle.tiles.specs.LookUp.{numberSaid}
+use Rattle.tiles.specs.Steps.{Sized}
 
 -- neither of two tests
 pub neither : (a b : Bool) → a || b ≡ false → (a ≡ false) × (b ≡ false)
@@ -68,11 +68,11 @@ module _ (k : Card) (index : List ℕ) (count t : ℕ) where
   said-all y = rw y
 
 -- ---- a stored number is 1 to count
-number-in : (t count e n : ℕ) → numberIn t (said count e) ≡ NumberAnswer.Stored n → (1 ≤ n) × (n ≤ count)
+number-in : (t count e n : ℕ) → numberSaid t (said count e) ≡ NumberAnswer.Stored n → (1 ≤ n) × (n ≤ count)
 number-in t count e n = go (eqb e 0) (ltb count e) refl refl
   where
     go : (a b : Bool) → eqb e 0 ≡ a → ltb count e ≡ b
-        → numberIn t (cond a missing (cond b above (stored e))) ≡ NumberAnswer.Stored n → (1 ≤ n) × (n ≤ count)
+        → numberSaid t (cond a missing (cond b above (stored e))) ≡ NumberAnswer.Stored n → (1 ≤ n) × (n ≤ count)
     go true b p q h = let z : _≡_ {A = ℕ} 0 1 = cc in absurd (omega arith)
     go false true p q h = let z : _≡_ {A = ℕ} 0 1 = cc in absurd (omega arith)
     go false false p q h =
@@ -82,14 +82,14 @@ number-in t count e n = go (eqb e 0) (ltb count e) refl refl
         (omega arith, omega arith)
 
 pub stored-number : (k : Card) (index : List ℕ) (count t n : ℕ) → indexWrong k index count ≡ false → t < tiles k
-    → numberIn t (saidOf k index count t) ≡ NumberAnswer.Stored n
+    → numberSaid t (saidOf k index count t) ≡ NumberAnswer.Stored n
     → (1 ≤ n) × (n ≤ count)
 stored-number k index count t n e h w = go (k .tif) refl
   where
     go : (b : Bool) → k .tif ≡ b → (1 ≤ n) × (n ≤ count)
-    go true y = number-in t count (getD index t 0) n (ap (numberIn t) (sym (said-in k index count t y)) ∙ w)
+    go true y = number-in t count (getD index t 0) n (ap (numberSaid t) (sym (said-in k index count t y)) ∙ w)
     go false y =
         let m : NumberAnswer.Stored (t + 1) ≡ NumberAnswer.Stored n =
-        ap (numberIn t) (sym (said-all k index count t y)) ∙ w in
+        ap (numberSaid t) (sym (said-all k index count t y)) ∙ w in
         let s : t + 1 ≡ n = cc in
         (omega arith, omega (arith, count-all k index count e y))

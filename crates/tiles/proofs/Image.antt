@@ -11,9 +11,10 @@ use borrow.Author.Tests.{le-ltb}
 use Rattle.card.specs.declared.Card.{Card}
 use Rattle.tiles.specs.declared.WindowAnswer.{WindowAnswer}
 use Rattle.tiles.specs.Index.{tiles, indexWrong, Said, stored, missing, above, saidOf}
-use Rattle.tiles.specs.Window.{rowTiles, windowTiles, scanned, scan, windowOf, WholeImage}
+use Rattle.whole.specs.Lists.{upFrom}
+use Rattle.tiles.specs.Window.{windowTiles, scanned, scan, windowOf, WholeImage}
 
-row-join : (t a n : ℕ) → rowTiles t a ++ rowTiles (t + a) n ≡ rowTiles t (a + n)
+row-join : (t a n : ℕ) → upFrom t a ++ upFrom (t + a) n ≡ upFrom t (a + n)
 row-join t zero n =
     let e : t + 0 ≡ t = omega arith in
     let f : 0 + n ≡ n = omega arith in
@@ -24,7 +25,7 @@ row-join t (suc a) n =
     rw (e, f, row-join (t + 1) a n)
 
 whole-rows : (k : Card) (top height : ℕ)
-    → windowTiles k top 0 height (k .nfc) ≡ rowTiles (top * k .nfc) (height * k .nfc)
+    → windowTiles k top 0 height (k .nfc) ≡ upFrom (top * k .nfc) (height * k .nfc)
 whole-rows k top zero = let e : 0 * k .nfc ≡ 0 = omega arith in rw e
 whole-rows k top (suc height) =
     let e : top * k .nfc + 0 ≡ top * k .nfc = omega arith in
@@ -37,14 +38,14 @@ module _ (k : Card) (index : List ℕ) (count : ℕ) where
   abbrev Stored : ℕ → Type 0
   Stored t = (n : ℕ) × (saidOf k index count t ≡ stored n)
 
-  scan-stored : (t n : ℕ) → scan k index count (rowTiles t n) ≡ WindowAnswer.AllStored → (j : ℕ) → t ≤ j → j < t + n
+  scan-stored : (t n : ℕ) → scan k index count (upFrom t n) ≡ WindowAnswer.AllStored → (j : ℕ) → t ≤ j → j < t + n
       → Stored j
   scan-stored t zero e j p q = absurd (omega arith)
   scan-stored t (suc n) e j p q = go (saidOf k index count t) refl e (scan-stored (t + 1) n) (ℕ-discrete j t)
     where
       go : (v : Said) → saidOf k index count t ≡ v
-          → scanned t v (scan k index count (rowTiles (t + 1) n)) ≡ WindowAnswer.AllStored
-          → (scan k index count (rowTiles (t + 1) n) ≡ WindowAnswer.AllStored → (x : ℕ) → t + 1 ≤ x → x < t + 1 + n
+          → scanned t v (scan k index count (upFrom (t + 1) n)) ≡ WindowAnswer.AllStored
+          → (scan k index count (upFrom (t + 1) n) ≡ WindowAnswer.AllStored → (x : ℕ) → t + 1 ≤ x → x < t + 1 + n
           → Stored x) → Dec (j ≡ t) → Stored j
       go (stored m) o w f (yes d) = (m, ap (saidOf k index count) d ∙ o)
       go (stored m) o w f (no d) = f w j (omega arith) (omega arith)
@@ -52,13 +53,13 @@ module _ (k : Card) (index : List ℕ) (count : ℕ) where
       go above o w f d = let z : _≡_ {A = ℕ} 0 1 = cc in absurd (omega arith)
 
   stored-scan : (t n : ℕ) → ((j : ℕ) → t ≤ j → j < t + n → Stored j)
-      → scan k index count (rowTiles t n) ≡ WindowAnswer.AllStored
+      → scan k index count (upFrom t n) ≡ WindowAnswer.AllStored
   stored-scan t zero f = refl
   stored-scan t (suc n) f =
       rw (f t (omega arith) (omega arith) .1) (stored-scan (t + 1) n (λ j p q. f j (omega arith) (omega arith)))
 
   window-is : indexWrong k index count ≡ false
-      → windowOf k index count 0 0 (k .nfl) (k .nfc) ≡ scan k index count (rowTiles 0 (tiles k))
+      → windowOf k index count 0 0 (k .nfl) (k .nfc) ≡ scan k index count (upFrom 0 (tiles k))
   unfolding windowOf
   window-is e =
       let z : 0 * k .nfc ≡ 0 = omega arith in

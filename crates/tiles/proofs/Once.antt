@@ -15,7 +15,8 @@ use Rattle.arc.specs.declared.Verdict.{Verdict}
 use Rattle.arc.specs.Refusals.{refusal}
 use Rattle.card.specs.declared.Card.{Card}
 use Rattle.tiles.specs.Index.{tiles, indexWrong, stored, missing, above, said}
-use Rattle.tiles.specs.Check.{occurs, badAt, firstOf, firstBad, named, judged, checkOf, OnePlace, EachOnce, UpToCount}
+use Rattle.tiles.specs.Check.{occurs, badAt, firstBad, allNamed, judged, checkOf, OnePlace, EachOnce, UpToCount}
+use Rattle.whole.specs.Lists.{firstFrom, oneMore}
 use Rattle.tiles.proofs.Entry.{neither, index-long, count-all, said-stored, said-in, said-all}
 use Rattle.tiles.proofs.Pass.{bad-again}
 
@@ -38,24 +39,24 @@ place (x ∷ l) n e = go (eqb x n) refl e (place l n)
     go true p q w = record { at = 0; inside = omega arith; holds = eqb-true x n p }
     go false p q w = let r = w q in record { at = suc (r .at); inside = omega (arith, r .inside); holds = r .holds }
 
-named-each : (index : List ℕ) (count n : ℕ) → named count index ≡ true → 1 ≤ n → n ≤ count → occurs n index ≡ true
+named-each : (index : List ℕ) (count n : ℕ) → allNamed count index ≡ true → 1 ≤ n → n ≤ count → occurs n index ≡ true
 named-each index zero n e p q = absurd (omega arith)
 named-each index (suc m) n e p q =
     go (occurs (suc m) index) refl e (λ w h. named-each index m n w p h) (ℕ-discrete n (suc m))
   where
-    go : (b : Bool) → occurs (suc m) index ≡ b → b && named m index ≡ true
-        → (named m index ≡ true → n ≤ m → occurs n index ≡ true) → Dec (n ≡ suc m) → occurs n index ≡ true
+    go : (b : Bool) → occurs (suc m) index ≡ b → b && allNamed m index ≡ true
+        → (allNamed m index ≡ true → n ≤ m → occurs n index ≡ true) → Dec (n ≡ suc m) → occurs n index ≡ true
     go true o w f (yes d) = ap (λ (x : ℕ). occurs x index) d ∙ o
     go true o w f (no d) = f w (omega arith)
     go false o w f d = absurd (false≢true w)
 
-none-of : (f : ℕ → Bool) (i n : ℕ) → firstOf f i n ≡ none → (j : ℕ) → i ≤ j → j < i + n → f j ≡ false
-unfolding firstOf
+none-of : (f : ℕ → Bool) (i n : ℕ) → firstFrom oneMore f i n ≡ none → (j : ℕ) → i ≤ j → j < i + n → f j ≡ false
+unfolding firstFrom
 none-of f i zero e j p q = absurd (omega arith)
 none-of f i (suc n) e j p q = go (f i) refl e (none-of f (i + 1) n) (ℕ-discrete j i)
   where
-    go : (b : Bool) → f i ≡ b → cond b (some i) (firstOf f (i + 1) n) ≡ none
-        → (firstOf f (i + 1) n ≡ none → (x : ℕ) → i + 1 ≤ x → x < i + 1 + n → f x ≡ false) → Dec (j ≡ i) → f j ≡ false
+    go : (b : Bool) → f i ≡ b → cond b (some i) (firstFrom oneMore f (i + 1) n) ≡ none
+        → (firstFrom oneMore f (i + 1) n ≡ none → (x : ℕ) → i + 1 ≤ x → x < i + 1 + n → f x ≡ false) → Dec (j ≡ i) → f j ≡ false
     go true o w g d = let z : _≡_ {A = ℕ} 0 1 = cc in absurd (omega arith)
     go false o w g (yes d) = ap f d ∙ o
     go false o w g (no d) = g w j (omega arith) (omega arith)
@@ -99,9 +100,9 @@ module _ (k : Card) (index : List ℕ) (count n : ℕ) (p : 1 ≤ n) (q : n ≤ 
     pub named-is : occurs n index ≡ true
 
   good : judged count index (firstBad count index) ≡ Verdict.Accepted → Good
-  good = go (firstBad count index) (named count index) refl refl
+  good = go (firstBad count index) (allNamed count index) refl refl
     where
-      go : (o : Option ℕ) (b : Bool) → firstBad count index ≡ o → named count index ≡ b
+      go : (o : Option ℕ) (b : Bool) → firstBad count index ≡ o → allNamed count index ≡ b
           → judged count index o ≡ Verdict.Accepted → Good
       go (some i) b e f h = let z : _≡_ {A = ℕ} 0 1 = cc in absurd (omega arith)
       go none false e f h = let g = rw f at h in let z : _≡_ {A = ℕ} 0 1 = cc in absurd (omega arith)

@@ -12,23 +12,24 @@ use lib.ListN.{length, getD, take, drop, set, length-drop, length-append, List·
 use lib.Seq.{take-suc, take-length}
 use Rattle.arc.specs.declared.Verdict.{Verdict}
 use Rattle.arc.specs.Refusals.{refusalAt}
-use Rattle.tiles.specs.Check.{occurs, badAt, firstOf, firstBad, judged, listed, before, marked}
-use Rattle.tiles.specs.Held.{marksPassed}
+use Rattle.tiles.specs.Check.{occurs, badAt, firstBad, judged, listed, before, marked}
+use Rattle.whole.specs.Lists.{firstFrom, oneMore}
+use Rattle.tiles.specs.Steps.{marksPassed}
 use Rattle.tiles.proofs.Listed.{listed-length, listed-at, listed-same, listed-set}
 use Rattle.tiles.proofs.Counted.{occurs-other, occurs-last, named-all, named-not, counted, counted-none, counted-same, counted-new, counted-le}
 
 -- ---- the first of which f holds, from i on
 module _ (f : ℕ → Bool) (i n : ℕ) where
-  pub first-hit : i < n → f i ≡ true → firstOf f i (n - i) ≡ some i
-  unfolding firstOf
+  pub first-hit : i < n → f i ≡ true → firstFrom oneMore f i (n - i) ≡ some i
+  unfolding firstFrom
   first-hit h t = let e : n - i ≡ suc (n - (i + 1)) = omega arith in rw (e, t)
 
-  pub first-next : i < n → f i ≡ false → firstOf f i (n - i) ≡ firstOf f (i + 1) (n - (i + 1))
-  unfolding firstOf
+  pub first-next : i < n → f i ≡ false → firstFrom oneMore f i (n - i) ≡ firstFrom oneMore f (i + 1) (n - (i + 1))
+  unfolding firstFrom
   first-next h t = let e : n - i ≡ suc (n - (i + 1)) = omega arith in rw (e, t)
 
-  pub first-none : n ≤ i → firstOf f i (n - i) ≡ none
-  unfolding firstOf
+  pub first-none : n ≤ i → firstFrom oneMore f i (n - i) ≡ none
+  unfolding firstFrom
   first-none h = let e : n - i ≡ 0 = omega arith in rw e
 
 -- ---- bad entries
@@ -79,7 +80,7 @@ module _ (count : ℕ) (entries m : List ℕ) where
 -- ---- before the entry at i
 pub record Sofar (count : ℕ) (index m marks : List ℕ) (number i : ℕ) : Type 0 where
   pub inside : i ≤ length index
-  pub ahead : firstBad count index ≡ firstOf (badAt count index) i (length index - i)
+  pub ahead : firstBad count index ≡ firstFrom oneMore (badAt count index) i (length index - i)
   pub marks-are : marks ≡ marked count (take i index) m
   pub number-is : number ≡ counted (take i index) count
 

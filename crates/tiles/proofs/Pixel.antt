@@ -18,8 +18,8 @@ use Rattle.card.specs.declared.Card.{Card}
 use Rattle.card.specs.Grid.{inTiles, inChart, verdictOf}
 use Rattle.tiles.specs.declared.NumberAnswer.{NumberAnswer}
 use Rattle.tiles.specs.Index.{tiles, indexWrong, saidOf, tileOf}
-use Rattle.tiles.specs.LookUp.{tileBytes, storeWrong, numberIn, numberOf}
-use Rattle.tiles.specs.Held.{afterVerdict, partAt}
+use Rattle.tiles.specs.LookUp.{tileBytes, storeWrong, numberSaid, numberOf}
+use Rattle.tiles.specs.Steps.{afterVerdict, partAt}
 use Rattle.tiles.proofs.Entry.{neither, tile-inside, stored-number}
 
 -- ---- a pixel of the tiles
@@ -47,7 +47,7 @@ module _ (k : Card) (r c : ℤ) where
   pub number-by : (index : List ℕ) (count : ℕ) (store : List ℕ) → storeWrong k index count store ≡ false
       → numberOf k index count store r c
       ≡ afterVerdict (verdictOf k r c)
-      (numberIn (tileOf k (natAbs r) (natAbs c)) (saidOf k index count (tileOf k (natAbs r) (natAbs c))))
+      (numberSaid (tileOf k (natAbs r) (natAbs c)) (saidOf k index count (tileOf k (natAbs r) (natAbs c))))
   unfolding numberOf
   number-by index count store e = rw e (go (inTiles k r c) (inChart k r c) _)
     where
@@ -74,7 +74,7 @@ number-held k index count store r c n = go (storeWrong k index count store) (inT
   where
     go : (a b d : Bool) → storeWrong k index count store ≡ a → inTiles k r c ≡ b
         → cond a (NumberAnswer.Refused (refusal 6))
-        (cond b (cond d (numberIn (tileOf k (natAbs r) (natAbs c))
+        (cond b (cond d (numberSaid (tileOf k (natAbs r) (natAbs c))
         (saidOf k index count (tileOf k (natAbs r) (natAbs c)))) (NumberAnswer.Refused (refusal 13)))
         (NumberAnswer.Refused (refusal 12))) ≡ NumberAnswer.Stored n
         → InStore n count store

@@ -2,7 +2,7 @@
 use Rattle.card.specs.declared.Card.{Card}
 use Rattle.card.specs.Read.{Known}
 use Rattle.card.proofs.Laid.{known-laid}
-use Rattle.tiles.specs.Held.{Sized}
+use Rattle.tiles.specs.Steps.{Sized}
 
 pub known-sized : (k : Card) → Known k → Sized k
 known-sized k w = let l = known-laid k w in record { rows = l .down-most; columns = l .across-most }

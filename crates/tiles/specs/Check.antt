@@ -2,7 +2,7 @@
 --     occurs e l             e is among the entries l
 --     badAt count index i    the entry at i is above the count, or repeats one before it
 --     firstBad count index   the first such entry's place
---     named count index      each number 1 .. count occurs
+--     allNamed count index   each number 1 .. count occurs
 --     checkOf ..             what `index_check` answers
 --     marksOf ..             what the marks then hold
 use mathlib.Core.Path.{_≡_}
@@ -12,6 +12,7 @@ use mathlib.Core.Bool.{Bool, true, false, cond, not, _&&_, _||_}
 use mathlib.Core.Option.{Option, some, none}
 use lib.Dec.{ltb, eqb}
 use lib.ListN.{length, getD, take, drop}
+use Rattle.whole.specs.Lists.{firstFrom, oneMore}
 use Rattle.arc.specs.declared.Verdict.{Verdict}
 use Rattle.arc.specs.Refusals.{refusal, refusalAt}
 use Rattle.card.specs.declared.Card.{Card}
@@ -26,23 +27,18 @@ abbrev pub badAt : ℕ → List ℕ → ℕ → Bool
 badAt count index i =
     ltb count (getD index i 0) || (not (eqb (getD index i 0) 0) && occurs (getD index i 0) (take i index))
 
--- the first of i, i + 1, .., n of them, of which f holds
-unfoldable pub firstOf : (ℕ → Bool) → ℕ → ℕ → Option ℕ
-firstOf f i zero = none
-firstOf f i (suc n) = cond (f i) (some i) (firstOf f (i + 1) n)
-
 abbrev pub firstBad : ℕ → List ℕ → Option ℕ
-firstBad count index = firstOf (badAt count index) 0 (length index)
+firstBad count index = firstFrom oneMore (badAt count index) 0 (length index)
 
 -- 1 .. count, each among the entries
-abbrev pub named : ℕ → List ℕ → Bool
-named zero index = true
-named (suc n) index = occurs (suc n) index && named n index
+abbrev pub allNamed : ℕ → List ℕ → Bool
+allNamed zero index = true
+allNamed (suc n) index = occurs (suc n) index && allNamed n index
 
 -- 15 at the first bad entry; at the index length where a tile is never named
 abbrev pub judged : ℕ → List ℕ → Option ℕ → Verdict
 judged count index (some i) = Verdict.Refused (refusalAt 15 i)
-judged count index none = cond (named count index) Verdict.Accepted (Verdict.Refused (refusalAt 15 (length index)))
+judged count index none = cond (allNamed count index) Verdict.Accepted (Verdict.Refused (refusalAt 15 (length index)))
 
 -- with N every tile is stored in reading order
 unfoldable pub checkOf : Card → List ℕ → ℕ → List ℕ → Verdict

@@ -2,5 +2,5 @@ pub mod Index
 pub mod Check
 pub mod LookUp
 pub mod Window
-pub mod Held
+pub mod Steps
 pub mod Parts

@@ -30,10 +30,10 @@ abbrev pub storeWrong : Card → List ℕ → ℕ → List ℕ → Bool
 storeWrong k index count store = indexWrong k index count || not (eqb (length store) (count * tileBytes))
 
 -- 14, 15, the place of 15 being the tile
-abbrev pub numberIn : ℕ → Said → NumberAnswer
-numberIn t (stored n) = NumberAnswer.Stored n
-numberIn t missing = NumberAnswer.Refused (refusal 14)
-numberIn t above = NumberAnswer.Refused (refusalAt 15 t)
+abbrev pub numberSaid : ℕ → Said → NumberAnswer
+numberSaid t (stored n) = NumberAnswer.Stored n
+numberSaid t missing = NumberAnswer.Refused (refusal 14)
+numberSaid t above = NumberAnswer.Refused (refusalAt 15 t)
 
 -- 6, 12, 13, 14, 15
 unfoldable pub numberOf : Card → List ℕ → ℕ → List ℕ → ℤ → ℤ → NumberAnswer
@@ -41,7 +41,7 @@ numberOf k index count store r c =
     cond (storeWrong k index count store) (NumberAnswer.Refused (refusal 6))
     (cond (inTiles k r c)
     (cond (inChart k r c)
-    (numberIn (tileOf k (natAbs r) (natAbs c)) (saidOf k index count (tileOf k (natAbs r) (natAbs c))))
+    (numberSaid (tileOf k (natAbs r) (natAbs c)) (saidOf k index count (tileOf k (natAbs r) (natAbs c))))
     (NumberAnswer.Refused (refusal 13)))
     (NumberAnswer.Refused (refusal 12)))
 

@@ -9,21 +9,17 @@ use mathlib.Core.List.{List, [], _∷_, _++_}
 use mathlib.Core.Bool.{false, cond, _||_}
 use lib.Dec.{ltb}
 use lib.IntN.{pos}
+use Rattle.whole.specs.Lists.{upFrom}
 use Rattle.arc.specs.Refusals.{refusal, refusalAt, Report, answered, refusedWith}
 use Rattle.card.specs.declared.Card.{Card}
 use Rattle.tiles.specs.declared.WindowAnswer.{WindowAnswer}
 use Rattle.tiles.specs.Index.{tiles, indexWrong, Said, stored, missing, above, saidOf}
 
--- n tiles of a row from tile t
-abbrev pub rowTiles : ℕ → ℕ → List ℕ
-rowTiles t zero = []
-rowTiles t (suc n) = t ∷ rowTiles (t + 1) n
-
 -- rows top, top + 1, .., columns left to left + width − 1
 abbrev pub windowTiles : Card → ℕ → ℕ → ℕ → ℕ → List ℕ
 windowTiles k top left zero width = []
 windowTiles k top left (suc height) width =
-    rowTiles (top * k .nfc + left) width ++ windowTiles k (top + 1) left height width
+    upFrom (top * k .nfc + left) width ++ windowTiles k (top + 1) left height width
 
 abbrev pub scanned : ℕ → Said → WindowAnswer → WindowAnswer
 scanned t (stored n) rest = rest

@@ -9,7 +9,7 @@ ghost use Prim.Native.Nat.{_≤_};
 ghost use lib.ListN.{length, drop, replicate};
 ghost use Rattle.card.specs.Read.{Known};
 ghost use Rattle.tiles.specs.Check.{firstBad, judged, marked, checkOf, marksOf};
-ghost use Rattle.tiles.specs.Held.{marksPassed};
+ghost use Rattle.tiles.specs.Steps.{marksPassed};
 
 // Fills the first `count` marks (01, "Tiles").
 fn fill(marks: &mut [u8], count: usize, value: u8)

@@ -4,7 +4,7 @@ use card::Card;
 ghost use mathlib.Core.Path.{_≡_};
 ghost use Rattle.arc.specs.Refusals.{refusalAt};
 ghost use Rattle.tiles.specs.Index.{indexWrong};
-ghost use Rattle.tiles.specs.Held.{Sized};
+ghost use Rattle.tiles.specs.Steps.{Sized};
 
 mod check;
 mod look_up;

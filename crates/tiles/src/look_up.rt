@@ -12,8 +12,8 @@ ghost use Prim.Native.Nat.{_*_, _≤_, _<_};
 ghost use lib.ListN.{length};
 ghost use Rattle.card.specs.Read.{Known};
 ghost use Rattle.tiles.specs.Index.{tiles, indexWrong, saidOf};
-ghost use Rattle.tiles.specs.LookUp.{tileBytes, numberIn, numberOf, partOf, bandsOf};
-ghost use Rattle.tiles.specs.Held.{Sized, partAt};
+ghost use Rattle.tiles.specs.LookUp.{tileBytes, numberSaid, numberOf, partOf, bandsOf};
+ghost use Rattle.tiles.specs.Steps.{Sized, partAt};
 
 // A band of a tile: 128 rows of 128, POR 0 (01, "Tiles").
 const BAND: usize = 16_384;
@@ -21,7 +21,7 @@ const BAND: usize = 16_384;
 // The stored number of a tile (01, "Tiles"). Refuses 14, 15.
 fn number_of(k: Card, index: &[u32], count: u64, tile: u64) -> NumberAnswer
     requires { ⌜ Sized k ⌝ ∗ ⌜ indexWrong k (now index) count ≡ false ⌝ ∗ ⌜ tile < tiles k ⌝ }
-    ensures { λ a. ⌜ a ≡ numberIn tile (saidOf k (now (index .entry)) count tile) ⌝ }
+    ensures { λ a. ⌜ a ≡ numberSaid tile (saidOf k (now (index .entry)) count tile) ⌝ }
 {
     if !k.tif {
         return NumberAnswer::Stored(tile + 1);

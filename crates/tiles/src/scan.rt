@@ -8,7 +8,7 @@ ghost use Prim.Native.Nat.{_+_};
 ghost use lib.Dec.{ltb};
 ghost use Rattle.card.specs.Read.{Known};
 ghost use Rattle.tiles.specs.Window.{windowTiles, scan, windowOf};
-ghost use Rattle.tiles.specs.Held.{Window};
+ghost use Rattle.tiles.specs.Steps.{Window};
 
 // Whether from + length is above most (01, "Numbers given in refusal").
 fn reaches_past(most: u64, from: u64, length: u64) -> bool

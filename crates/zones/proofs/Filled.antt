@@ -7,7 +7,7 @@ use Prim.Native.Nat.{ℕ, suc, _+_, _-_, _≤_, _<_}
 use native.Mathlib.Omega.{arith}
 use lib.ListN.{length, set, replicate, length-append, length-replicate}
 use lib.Seq.{set-append-seam, append-snoc}
-use Rattle.zones.specs.Lists.{those, padded}
+use Rattle.whole.specs.Lists.{those, padded}
 
 -- the slots hold `so`, n of them, and `so` with those of the rest is the whole
 pub record Sofar (f : ℕ → Bool) (k : ℕ) (whole rest slots : List ℕ) (n : ℕ) : Type 0 where

@@ -11,8 +11,8 @@ use lib.Dec.{ltb, eqb, lit≤}
 use lib.ListN.{set, take, drop}
 use lib.Seq.{getD-take}
 use Rattle.arc.specs.Zones.{circle, table, from, to, rowAt, noRow}
-use Rattle.zones.specs.Lists.{those, downFrom}
-use Rattle.zones.specs.Stretch.{reaches, coverFrom, Rowed}
+use Rattle.whole.specs.Lists.{those, downFrom}
+use Rattle.zones.specs.Steps.{reaches, coverFrom, Rowed}
 use Rattle.zones.proofs.Rows.{agree, from-to, polar-at}
 use Rattle.zones.proofs.Filled.{Sofar, taken}
 

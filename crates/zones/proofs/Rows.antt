@@ -10,8 +10,8 @@ use native.Mathlib.Omega.{arith}
 use borrow.Author.Tests.{ltb-true}
 use lib.Dec.{ltb, eqb}
 use lib.ListN.{length, getD}
-use Rattle.arc.specs.Zones.{Row, table, rowOf, isPolar, from, to, rowAt, noRow}
-use Rattle.zones.specs.Lists.{upFrom}
+use Rattle.arc.specs.Zones.{Row, table, tableRow, isPolar, from, to, rowAt, noRow}
+use Rattle.whole.specs.Lists.{upFrom}
 use Rattle.zones.specs.Basic.{rowHolding}
 use Rattle.zones.proofs.Holding.{reach, Held, held, holding}
 
@@ -38,11 +38,11 @@ module _ (i : ℕ) (h : i < 9) where
   pub southern-at : rowAt i .southern ≡ 10 + i
   southern-at = column (λ (r : Row). r .southern) (λ (n : ℕ). n) 10 refl
 
-  pub row-north : rowOf (1 + i) ≡ some (rowAt i)
-  row-north = sym (column some rowOf 1 refl)
+  pub row-north : tableRow (1 + i) ≡ some (rowAt i)
+  row-north = sym (column some tableRow 1 refl)
 
-  pub row-south : rowOf (10 + i) ≡ some (rowAt i)
-  row-south = sym (column some rowOf 10 refl)
+  pub row-south : tableRow (10 + i) ≡ some (rowAt i)
+  row-south = sym (column some tableRow 10 refl)
 
   pub polar-at : isPolar (rowAt i .northern) ≡ eqb i 8
   polar-at = column (λ (r : Row). isPolar (r .northern)) (λ (n : ℕ). eqb n 8) 0 refl ∙ ap (λ (n : ℕ). eqb n 8) (zero-add i)

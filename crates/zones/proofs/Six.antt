@@ -10,9 +10,9 @@ use Rattle.whole.proofs.Held.{outsides}
 use Rattle.arc.specs.Zones.{quarter, rowAt}
 use Rattle.arc.specs.Spacing.{rowUnit, spacingAt}
 use Rattle.arc.proofs.Spaced.{grid, rows-least}
-use Rattle.zones.specs.Lists.{those, downFrom}
+use Rattle.whole.specs.Lists.{those, downFrom}
 use Rattle.zones.specs.Cover.{firstZone, AtMostSix}
-use Rattle.zones.specs.Stretch.{reaches, coverFrom, Rowed}
+use Rattle.zones.specs.Steps.{reaches, coverFrom, Rowed}
 use Rattle.zones.proofs.Rows.{place}
 use Rattle.zones.proofs.Order.{within, near-enough}
 use Rattle.zones.proofs.Covering.{cover-is, first-small}

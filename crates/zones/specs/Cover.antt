@@ -1,7 +1,7 @@
 -- Zone cover (001, 3.3.3; 01, "Units and the zone table"). Definitions, and what they are held to.
 --     overlaps b r size  the row's overlap of 1024 rows poleward reaches a latitude of that size, B being b
 --     covers b lat zone  the zone covers the latitude
---     equatorward lat    the zones on the Equator's side of the basic zone, nearest to it first
+--     zonesEquatorward lat  the zones on the Equator's side of the basic zone, nearest to it first
 --     coverZones b lat   the cover list
 --     coverOf S lat      what `cover` answers: refusals 1, 4
 use mathlib.Core.Path.{_≡_}
@@ -17,11 +17,11 @@ use Rattle.whole.specs.Whole.{outside}
 use Rattle.arc.specs.declared.Refusal.{Refusal}
 use Rattle.arc.specs.declared.Verdict.{Verdict}
 use Rattle.arc.specs.declared.ConstantAnswer.{ConstantAnswer}
-use Rattle.arc.specs.Refusals.{refusal, Report}
-use Rattle.arc.specs.Zones.{circle, quarter, Row, rowOf, isPolar, to}
+use Rattle.arc.specs.Refusals.{refusal, Report, reportIn}
+use Rattle.arc.specs.Zones.{circle, quarter, Row, tableRow, isPolar, to}
 use Rattle.arc.specs.Spacing.{rowsOf, rowUnit, spacingAt, Scale}
 use Rattle.zones.specs.declared.CoverAnswer.{CoverAnswer}
-use Rattle.zones.specs.Lists.{those, downFrom, padded, reportIn}
+use Rattle.whole.specs.Lists.{those, downFrom, padded}
 use Rattle.zones.specs.Basic.{holds, zoneOn, basicZone}
 
 -- a non-polar zone with poleward limit P: |lat| at least P and (|lat| − P) × B < 1024 × H
@@ -34,28 +34,28 @@ coversIn b lat zone (some r) = eqb zone (zoneOn lat r) && (holds r (natAbs lat) 
 coversIn b lat zone none = false
 
 unfoldable pub covers : ℕ → ℤ → ℕ → Bool
-covers b lat zone = coversIn b lat zone (rowOf zone)
+covers b lat zone = coversIn b lat zone (tableRow zone)
 
 -- the first zone of the latitude's hemisphere, 1 or 10
 abbrev pub firstZone : ℤ → ℕ
 firstZone lat = cond (ltZ lat (pos 0)) 10 1
 
-abbrev pub equatorward : ℤ → List ℕ
-equatorward lat = downFrom (firstZone lat) (basicZone lat - firstZone lat)
+abbrev pub zonesEquatorward : ℤ → List ℕ
+zonesEquatorward lat = downFrom (firstZone lat) (basicZone lat - firstZone lat)
 
 -- it starts with the basic zone and goes equatorward
 abbrev pub coverZones : ℕ → ℤ → List ℕ
-coverZones b lat = basicZone lat ∷ those (covers b lat) (equatorward lat)
+coverZones b lat = basicZone lat ∷ those (covers b lat) (zonesEquatorward lat)
 
 -- six slots, those that are not used 0; all 0 in a refusal
-abbrev pub listed : List ℕ → CoverAnswer
-listed zs = record { verdict = Verdict.Accepted; length = length zs; zones = padded 6 zs }
+abbrev pub acceptedCover : List ℕ → CoverAnswer
+acceptedCover zs = record { verdict = Verdict.Accepted; length = length zs; zones = padded 6 zs }
 
 abbrev pub refusedCover : Refusal → CoverAnswer
 refusedCover r = record { verdict = Verdict.Refused r; length = 0; zones = replicate 6 0 }
 
 abbrev pub coverAt : ℕ → ℤ → CoverAnswer
-coverAt b lat = cond (outside quarter lat) (refusedCover (refusal 4)) (listed (coverZones b lat))
+coverAt b lat = cond (outside quarter lat) (refusedCover (refusal 4)) (acceptedCover (coverZones b lat))
 
 abbrev pub coverWith : ConstantAnswer → ℤ → CoverAnswer
 coverWith (ConstantAnswer.Pixels b) lat = coverAt b lat

@@ -1,4 +1,3 @@
-pub mod Lists
 pub mod Basic
 pub mod Cover
-pub mod Stretch
+pub mod Steps

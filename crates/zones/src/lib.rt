@@ -1,4 +1,4 @@
-// Which zones hold or cover a latitude, or a rectangle (001, 3.3.3).
+// Which zone holds a latitude, and which cover it (001, 3.3.3).
 use arc::Circle;
 use arc::ConstantAnswer;
 use arc::Refusal;
@@ -16,8 +16,8 @@ ghost use mathlib.Core.Path.{_≡_};
 ghost use Prim.Native.Nat.{_+_, _-_, _*_, _<_, _≤_};
 ghost use lib.IntN.{ℤ, pos, natAbs};
 ghost use Rattle.zones.specs.Basic.{rowHolding, basicZoneOf};
-ghost use Rattle.zones.specs.Cover.{firstZone, listed, coverAt, coverOf, refusedCover};
-ghost use Rattle.zones.specs.Stretch.{coverFrom, Rows, Rowed};
+ghost use Rattle.zones.specs.Cover.{firstZone, acceptedCover, coverAt, coverOf, refusedCover};
+ghost use Rattle.zones.specs.Steps.{coverFrom, Rows, Rowed};
 
 mod parts;
 
@@ -107,7 +107,7 @@ fn first_zone(lat: i64) -> u64
 // The zones from row `row` equatorward that cover a size which that row holds.
 fn cover_from(b: u64, first: u64, row: usize, size: u64) -> CoverAnswer
     requires { ⌜ Rowed b first row size ⌝ }
-    ensures { λ a. ⌜ a ≡ listed (coverFrom b first row size) ⌝ }
+    ensures { λ a. ⌜ a ≡ acceptedCover (coverFrom b first row size) ⌝ }
 {
     let mut zones = [0u64; 6];
     zones[0] = first + (row as u64);

@@ -5,7 +5,7 @@ use lib.ListN.{length}
 use Rattle.arc.specs.declared.SpacingAnswer.{SpacingAnswer}
 use Rattle.arc.specs.declared.Verdict.{Verdict}
 use Rattle.card.specs.Layout.{layout, walk}
-use Rattle.card.specs.Read.{refused, withValues, afterWalk, readIn}
+use Rattle.card.specs.Read.{refusedCard, withValues, afterWalk, readIn}
 use borrow.Author.Needs.{needs}
 use Rattle.card_text.proofs.read_spaced.Statement.{statement}
 use Rattle.card_text.proofs.read_spaced.Tie as tie
@@ -31,7 +31,7 @@ refused-with-requires c κs = search needs
 
 returns : tie.Need-returns
 unfolding readIn
-returns c = rw (c .before .before .if1 .taken) (c .refused-with .ensures ∙ ap refused (c .before .refused .ensures))
+returns c = rw (c .before .before .if1 .taken) (c .refused-with .ensures ∙ ap refusedCard (c .before .refused .ensures))
 
 refused-requires-2 : tie.Need-refused-requires-2
 refused-requires-2 c κs = search needs
@@ -43,7 +43,7 @@ returns-2 : tie.Need-returns-2
 unfolding readIn
 returns-2 c =
     rw (c .before .before .before .if1 .left, ne-eqb (length (c .before .before .before .before .before .args .bytes .now)) 98 (c .before .before .if2 .taken))
-    (c .refused-with2 .ensures ∙ ap refused (c .before .refused2 .ensures))
+    (c .refused-with2 .ensures ∙ ap refusedCard (c .before .refused2 .ensures))
 
 fields-in-requires : tie.Need-fields-in-requires
 fields-in-requires c κs = search needs

@@ -3,7 +3,7 @@ use mathlib.Core.Path.{_≡_, sym, ap, _∙_}
 use Prim.Native.Nat.{ℕ, _+_, _-_}
 use native.Mathlib.Omega.{arith}
 use Rattle.arc.specs.Zones.{quarter, rowAt}
-use Rattle.rectangle.specs.Stretch.{meets}
+use Rattle.rectangle.specs.Steps.{meets}
 use Rattle.rectangle.proofs.Sides.{north-is, north-none, south-is, south-none}
 use borrow.Author.Needs.{needs}
 use Rattle.rectangle.proofs.covers_some.Statement.{statement}

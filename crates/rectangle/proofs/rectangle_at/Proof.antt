@@ -3,7 +3,7 @@ use mathlib.Core.Path.{ap, ap₂, _∙_}
 use lib.IntN.{ℤ}
 use Rattle.arc.specs.Zones.{quarter}
 use Rattle.whole.proofs.Counts.{Inside, counted-outside, counted-from, counted-lt, counted-le}
-use Rattle.rectangle.specs.Rectangle.{listed, refusedRectangle, rectangleZones}
+use Rattle.rectangle.specs.Rectangle.{acceptedRectangle, refusedRectangle, rectangleZones}
 use borrow.Author.Needs.{needs}
 use Rattle.rectangle.proofs.rectangle_at.Statement.{statement}
 use Rattle.rectangle.proofs.rectangle_at.Tie as tie
@@ -84,7 +84,7 @@ returns-4 c = let s = c .before .before .before .before .before .before .before 
     let p = south-in (c .before .before .before .before .before .before) in
     let q = north-in (c .before .before) in
     rw (p .test, q .test, counted-le quarter q p (c .before .if1 .left))
-    (c .zones-of .ensures ∙ ap₂ (λ (x y : ℤ). listed (rectangleZones (s .args .b) x y)) (p .same) (q .same))
+    (c .zones-of .ensures ∙ ap₂ (λ (x y : ℤ). acceptedRectangle (rectangleZones (s .args .b) x y)) (p .same) (q .same))
 
 pub rectangle-at-spec : {M : Type 1} → statement M
 rectangle-at-spec =

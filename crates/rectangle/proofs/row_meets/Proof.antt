@@ -8,7 +8,7 @@ use lib.Dec.{ltb, eqb}
 use Rattle.whole.proofs.Machine.{fits-mul}
 use Rattle.arc.specs.Zones.{isPolar, circle, rowAt, to}
 use Rattle.zones.proofs.Rows.{polar-at}
-use Rattle.rectangle.specs.Stretch.{meets}
+use Rattle.rectangle.specs.Steps.{meets}
 use borrow.Author.Needs.{needs}
 use Rattle.rectangle.proofs.row_meets.Statement.{statement}
 use Rattle.rectangle.proofs.row_meets.Tie as tie

@@ -4,9 +4,9 @@ use mathlib.Core.List.{List}
 use mathlib.Core.Logic.{⊎-elim}
 use lib.ListN.{length as count}
 use Rattle.arc.specs.declared.Verdict.{Verdict}
-use Rattle.zones.specs.Lists.{upFrom, padded}
+use Rattle.whole.specs.Lists.{upFrom, padded}
 use Rattle.zones.proofs.Filled.{Sofar, finished}
-use Rattle.rectangle.specs.Rectangle.{coversSome, rectangleZones, listed}
+use Rattle.rectangle.specs.Rectangle.{coversSome, rectangleZones, acceptedRectangle}
 use Rattle.rectangle.proofs.Turn.{begun, took, left-out}
 use Rattle.rectangle.specs.declared.RectangleAnswer.{RectangleAnswer}
 use Prim.Native.Nat.{ℕ, _-_, _≤_, _<_}
@@ -71,7 +71,7 @@ loop-again c =
     (c .if1 .came)
 
 made : (l zs : List ℕ) (n : ℕ) → (zs ≡ padded 18 l) × (n ≡ count l)
-    → _≡_ {A = RectangleAnswer} (record { verdict = Verdict.Accepted; length = n; zones = zs }) (listed l)
+    → _≡_ {A = RectangleAnswer} (record { verdict = Verdict.Accepted; length = n; zones = zs }) (acceptedRectangle l)
 made l zs n p = ap₂ (λ (x : List ℕ) (y : ℕ). record { verdict = Verdict.Accepted; length = y; zones = x }) (p .0) (p .1)
 
 returns : tie.Need-returns Inv-loop μ-loop

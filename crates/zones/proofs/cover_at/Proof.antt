@@ -8,7 +8,7 @@ use mir.ValLaws.{toZ-ofZ}
 use Prim.Native.Nat.{ℕ, _-_}
 use Rattle.arc.specs.Zones.{quarter}
 use Rattle.whole.proofs.Signed.{outside-size, inside-size}
-use Rattle.zones.specs.Cover.{firstZone, listed, refusedCover}
+use Rattle.zones.specs.Cover.{firstZone, acceptedCover, refusedCover}
 use Rattle.zones.proofs.Rows.{northern-is, place}
 use Rattle.zones.proofs.Covering.{cover-is, first-small}
 use borrow.Author.Needs.{needs}
@@ -70,7 +70,7 @@ returns-2 c =
     let z = sized (c .before .before .before .before) in
     let f = firsts (c .before) in
     rw (inside-size quarter (a .lat) _ z (c .before .before .before .if1 .left))
-    (c .cover-from .ensures ∙ rw (e, z, f) (ap listed (sym (cover-is (a .b) (a .lat)))))
+    (c .cover-from .ensures ∙ rw (e, z, f) (ap acceptedCover (sym (cover-is (a .b) (a .lat)))))
 
 pub cover-at-spec : {M : Type 1} → statement M
 cover-at-spec =

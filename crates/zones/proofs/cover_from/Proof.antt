@@ -9,9 +9,9 @@ use lib.ListN.{set, length as count}
 use Rattle.whole.proofs.Machine.{fits-mul}
 use Rattle.arc.specs.declared.Verdict.{Verdict}
 use Rattle.zones.specs.declared.CoverAnswer.{CoverAnswer}
-use Rattle.zones.specs.Cover.{listed}
-use Rattle.zones.specs.Lists.{padded, downFrom}
-use Rattle.zones.specs.Stretch.{coverFrom}
+use Rattle.zones.specs.Cover.{acceptedCover}
+use Rattle.whole.specs.Lists.{padded, downFrom}
+use Rattle.zones.specs.Steps.{coverFrom}
 use Rattle.zones.proofs.Filled.{Sofar, finished}
 use Rattle.zones.proofs.Order.{within, limit-low, took, stopped}
 use Rattle.zones.proofs.cover_from.Statement.{statement}
@@ -79,7 +79,7 @@ loop-again : tie.Need-loop-again Inv-loop μ-loop
 loop-again c = (omega arith, omega arith, turn c .1)
 
 made : (l zs : List ℕ) (n : ℕ) → (zs ≡ padded 6 l) × (n ≡ count l)
-    → _≡_ {A = CoverAnswer} (record { verdict = Verdict.Accepted; length = n; zones = zs }) (listed l)
+    → _≡_ {A = CoverAnswer} (record { verdict = Verdict.Accepted; length = n; zones = zs }) (acceptedCover l)
 made l zs n p = ap₂ (λ (x : List ℕ) (y : ℕ). record { verdict = Verdict.Accepted; length = y; zones = x }) (p .0) (p .1)
 
 returns : tie.Need-returns Inv-loop μ-loop

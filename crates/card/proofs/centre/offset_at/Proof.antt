@@ -7,7 +7,8 @@ use mir.Syntax.{w64}
 use mir.Val.{toZ, ofZ}
 use Rattle.whole.proofs.Signed.{is-difference, is-size}
 use Rattle.card.specs.declared.Offset.{Offset}
-use Rattle.card.specs.Offset.{shortWay, difference}
+use Rattle.card.specs.Grid.{intoRange}
+use Rattle.card.specs.Offset.{difference}
 use Rattle.card.proofs.Answers.{result-is}
 use Rattle.card.proofs.Doubles.{in-float, short-size}
 use borrow.Author.Needs.{needs}
@@ -18,7 +19,7 @@ rows : (c : tie.After-difference) → toZ w64 (ofZ w64 (c .difference .result)) 
 rows c = result-is (c .difference .ok) (c .difference .ensures)
 
 columns : (c : tie.After-short-way)
-    → toZ w64 (ofZ w64 (c .short-way .result)) ≡ shortWay (pos (c .before .before .args .east) -ℤ pos (c .before .before .args .ceast))
+    → toZ w64 (ofZ w64 (c .short-way .result)) ≡ intoRange (pos (c .before .before .args .east) -ℤ pos (c .before .before .args .ceast))
 columns c = result-is (c .short-way .ok) (c .short-way .ensures)
 
 same : {x x′ y y′ : Float} → x ≡ x′ → y ≡ y′ → _≡_ {A = Offset} (record { lat = x; lon = y }) (record { lat = x′; lon = y′ })
@@ -48,7 +49,7 @@ int-to-float-t10 c =
     let s = c .before .before .before .before in
     let z : ℤ = pos (s .args .east) -ℤ pos (s .args .ceast) in
     rw (columns (c .before .before))
-    (in-float (shortWay z) (short-size z (s .args .east) (s .args .ceast) (s .pre .1 .1 .1) (is-difference (s .args .east) (s .args .ceast))))
+    (in-float (intoRange z) (short-size z (s .args .east) (s .args .ceast) (s .pre .1 .1 .1) (is-difference (s .args .east) (s .args .ceast))))
 
 returns : tie.Need-returns
 returns c = same (ap (ofInt binary64) (rows (c .before .before .before))) (ap (ofInt binary64) (columns (c .before .before)))

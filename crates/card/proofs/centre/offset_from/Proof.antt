@@ -7,7 +7,8 @@ use Rattle.whole.specs.Whole.{outside}
 use Rattle.arc.specs.Refusals.{refusal}
 use Rattle.arc.specs.Zones.{half, quarter}
 use Rattle.card.specs.declared.OffsetAnswer.{OffsetAnswer}
-use Rattle.card.specs.Offset.{shortWay, difference, offsetOf}
+use Rattle.card.specs.Grid.{intoRange}
+use Rattle.card.specs.Offset.{difference, offsetOf}
 use Rattle.card.proofs.Ranges.{Counts, counts-apart, ranged-at, ranged-refused}
 use borrow.Author.Needs.{needs}
 use Rattle.card.proofs.centre.offset_from.Statement.{statement}
@@ -65,7 +66,7 @@ returns c =
     rw (p .rows .test, p .columns .test, q .rows .test, q .columns .test)
     (ap OffsetAnswer.At
     (c .offset-at .ensures
-    ∙ ap₂ (λ (x y : ℤ). record { lat = ofInt binary64 x; lon = ofInt binary64 (shortWay y) })
+    ∙ ap₂ (λ (x y : ℤ). record { lat = ofInt binary64 x; lon = ofInt binary64 (intoRange y) })
     (counts-apart (p .rows) (q .rows)) (counts-apart (p .columns) (q .columns))))
 
 returns-2 : tie.Need-returns-2

@@ -4,7 +4,7 @@ use mathlib.Core.Path.{_≡_, refl, sym, _∙_}
 use mathlib.Core.Bool.{_&&_, and-true}
 use native.Mathlib.Omega.{arith}
 use lib.ListN.{length, drop, drop-of-length-le}
-use Rattle.card.specs.Text.{all, isNameByte}
+use Rattle.text.specs.Text.{all, isNameByte}
 use Rattle.card_text.proofs.Runs.{all-next}
 use borrow.Author.Needs.{needs}
 use Rattle.card_text.proofs.digits.all_named.Statement.{statement}

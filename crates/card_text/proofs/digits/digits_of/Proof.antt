@@ -5,7 +5,7 @@ use mathlib.Core.Path.{_≡_, refl, sym, _∙_}
 use mathlib.Core.Bool.{true, _&&_, and-true}
 use native.Mathlib.Omega.{arith}
 use lib.ListN.{length, drop, drop-of-length-le}
-use Rattle.card.specs.Text.{number, onward, all, isDigit}
+use Rattle.text.specs.Text.{number, onward, all, isDigit}
 use Rattle.card_text.proofs.Runs.{onward-next, all-next, all-at, pow-next, pow-bound}
 use borrow.Author.Needs.{needs}
 use Rattle.card_text.proofs.digits.digits_of.Statement.{statement}

@@ -1,5 +1,5 @@
 -- Each of the three tests is the one of the definition. Assumes nothing.
-use Rattle.card.specs.Text.{nameLaid}
+use Rattle.text.specs.Text.{nameLaid}
 use borrow.Author.Needs.{needs}
 use Rattle.card_text.proofs.digits.name_laid.Statement.{statement}
 use Rattle.card_text.proofs.digits.name_laid.Tie as tie

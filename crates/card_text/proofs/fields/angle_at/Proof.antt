@@ -2,9 +2,9 @@
 use Prim.Native.Nat.{_+_}
 use native.Mathlib.Omega.{arith}
 use Rattle.card.specs.declared.Kind.{Kind}
-use Rattle.card.specs.Text.{part}
+use Rattle.text.specs.Text.{part}
 use Rattle.card.specs.Layout.{sub}
-use Rattle.card_text.specs.Judged.{DigitsOf}
+use Rattle.card_text.specs.StepsFields.{DigitsOf}
 use Rattle.card_text.proofs.Runs.{part-in}
 use Rattle.card_text.proofs.Table.{field-at}
 use Rattle.card_text.proofs.Angles.{angle-laid, angle-right}

@@ -1,5 +1,5 @@
 -- The verdict is judged, and then joined to the one before. Assumes nothing.
-use Rattle.card_text.specs.Judged.{fieldOf}
+use Rattle.card_text.specs.StepsFields.{fieldOf}
 use borrow.Author.Needs.{needs}
 use Rattle.card_text.proofs.fields.joined.Statement.{statement}
 use Rattle.card_text.proofs.fields.joined.Tie as tie

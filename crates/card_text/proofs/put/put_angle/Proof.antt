@@ -4,7 +4,7 @@ use mathlib.Core.Path.{_≡_, refl, _∙_}
 use mathlib.Core.List.{List, [], _∷_, _++_}
 use native.Mathlib.Omega.{arith}
 use lib.ListN.{length, length-append}
-use Rattle.card.specs.Write.{digits, angleText}
+use Rattle.text.specs.Text.{digits, angleText}
 use Rattle.card_text.proofs.Splices.{run-next, length-digits}
 use Rattle.card_text.proofs.Written.{sign-is}
 use borrow.Author.Needs.{needs}

@@ -4,7 +4,7 @@ use mathlib.Core.Path.{_≡_, refl, sym, _∙_}
 use native.Mathlib.Omega.{arith}
 use lib.ListN.{length, take}
 use lib.Seq.{take-all}
-use Rattle.card_text.specs.Spliced.{splice}
+use Rattle.text.specs.Steps.{splice}
 use Rattle.card_text.proofs.Splices.{splice-nil, put-next}
 use borrow.Author.Needs.{needs}
 use Rattle.card_text.proofs.put.put_name.Statement.{statement}

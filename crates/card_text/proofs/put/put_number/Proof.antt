@@ -4,8 +4,8 @@ use mathlib.Core.Path.{_≡_, refl, sym, _∙_}
 use native.Mathlib.Omega.{arith}
 use lib.ListN.{length, take}
 use lib.Seq.{take-all}
-use Rattle.card.specs.Write.{digits}
-use Rattle.card_text.specs.Spliced.{splice}
+use Rattle.text.specs.Text.{digits}
+use Rattle.text.specs.Steps.{splice}
 use Rattle.card_text.proofs.Splices.{splice-nil, put-next, length-digits, digit-at}
 use Rattle.card_text.proofs.put.put_number.Statement.{statement}
 use Rattle.card_text.proofs.put.put_number.Tie as tie

@@ -1,5 +1,5 @@
 -- The tests are the definition's, two of them by division. Assumes nothing.
-use Rattle.card_text.specs.Found.{extentsAt}
+use Rattle.card_text.specs.StepsRead.{extentsAt}
 use Rattle.card_text.proofs.Tiled.{in-tiles}
 use Rattle.card_text.proofs.read.extents_hold.Statement.{statement}
 use Rattle.card_text.proofs.read.extents_hold.Tie as tie

@@ -4,7 +4,7 @@ use mathlib.Core.Path.{_≡_, refl, sym, _∙_}
 use native.Mathlib.Omega.{arith}
 use lib.ListN.{length, getD, drop, take, length-set, length-take, length-drop}
 use lib.Seq.{take-all, getD-take, getD-drop}
-use Rattle.card.specs.Text.{part}
+use Rattle.text.specs.Text.{part}
 use Rattle.card_text.proofs.Runs.{copy-next}
 use Rattle.card_text.proofs.read.name_of.Statement.{statement}
 use Rattle.card_text.proofs.read.name_of.Tie as tie

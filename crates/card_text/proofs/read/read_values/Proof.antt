@@ -14,8 +14,8 @@ use mir.ValLaws.{toZ-ofZ}
 use Rattle.whole.specs.declared.Counted.{Counted}
 use Rattle.arc.specs.Refusals.{refusal}
 use Rattle.card.specs.declared.Reading.{Reading}
-use Rattle.card.specs.Read.{accepted, refused, withOrigin, withValues}
-use Rattle.card_text.specs.Found.{foundAt, tileAt, recordIn, cardFrom}
+use Rattle.card.specs.Read.{acceptedCard, refusedCard, withOrigin, withValues}
+use Rattle.card_text.specs.StepsRead.{foundAt, tileAt, recordIn, cardFrom}
 use Rattle.card_text.proofs.Values.{pso-kept, lso-kept, north-high, east-high, values-are, extents-are}
 use borrow.Author.Needs.{needs}
 use Rattle.card_text.proofs.read.read_values.Statement.{statement}
@@ -40,7 +40,7 @@ placed s north east =
     withOrigin (s .args .scale) (s .args .zone) (s .args .a) (s .args .b) (s .args .s .now) (tileAt (s .args .b / 512) north) (tileAt (s .args .a / 256) east)
 
 values : (s : tie.Start) → asked s
-    ≡ cond (spaced s) (placed s (foundAt (s .args .b) (getD (s .args .t6) 4 0)) (foundAt (s .args .a) (getD (s .args .t6) 3 0))) (refused (refusal 9))
+    ≡ cond (spaced s) (placed s (foundAt (s .args .b) (getD (s .args .t6) 4 0)) (foundAt (s .args .a) (getD (s .args .t6) 3 0))) (refusedCard (refusal 9))
 values s = values-are (s .pre .0) (s .pre .1 .0) (s .pre .1 .1) (s .args .scale) (s .args .zone)
 
 with-north : (c : tie.After-known-told) → asked (start c)
@@ -72,12 +72,12 @@ eastward c = c .before .before .before .before
 abbrev made : tie.After-extents-hold → Reading
 made c =
     let s = start (northward (eastward c)) in
-    accepted
+    acceptedCard
     (cardFrom (s .args .scale) (s .args .zone) (s .args .a) (s .args .b)
     (northward (eastward c) .before .north .given .0 .0) (eastward c .before .east .given .0 .0) (c .before .record-in .result))
 
 answer : (c : tie.After-extents-hold) {ok : Bool} → c .extents-hold .result ≡ ok
-    → asked (start (northward (eastward c))) ≡ cond ok (made c) (refused (refusal 11))
+    → asked (start (northward (eastward c))) ≡ cond ok (made c) (refusedCard (refusal 11))
 answer c q =
     let e = eastward c in
     let s = start (northward e) in
@@ -102,7 +102,7 @@ refused-with-requires c κs = search needs
 returns : tie.Need-returns
 returns c =
     let s = c .before .before .before .before in
-    rw (values s, not-true (spaced s) (c .before .before .if1 .taken)) (c .refused-with .ensures ∙ ap refused (c .before .refused .ensures))
+    rw (values s, not-true (spaced s) (c .before .before .if1 .taken)) (c .refused-with .ensures ∙ ap refusedCard (c .before .refused .ensures))
 
 array-read-tile-of : tie.Need-array-read-tile-of
 array-read-tile-of c = search needs
@@ -130,7 +130,7 @@ returns-2 c =
       not-false (spaced s) (c .before .before .before .before .before .if1 .left),
       sym (c .before .before .before .before .tile-of .ensures) ∙ c .before .before .enum-told .given .1,
     )
-    (c .refused-with2 .ensures ∙ ap refused (c .before .refused2 .ensures))
+    (c .refused-with2 .ensures ∙ ap refusedCard (c .before .refused2 .ensures))
 
 array-read-tile-of-2 : tie.Need-array-read-tile-of-2
 array-read-tile-of-2 c = search needs
@@ -156,7 +156,7 @@ returns-3 c =
       with-north (c .before .before .before .before .before),
       sym (c .before .before .before .before .tile-of2 .ensures) ∙ c .before .before .enum-told2 .given .1,
     )
-    (c .refused-with3 .ensures ∙ ap refused (c .before .refused3 .ensures))
+    (c .refused-with3 .ensures ∙ ap refusedCard (c .before .refused3 .ensures))
 
 cast-difference : tie.Need-cast-difference
 cast-difference c = omega (arith, rows (northward c), start (northward c) .pre .1 .0 .most)
@@ -191,7 +191,7 @@ refused-with-requires-4 c κs = search needs
 returns-4 : tie.Need-returns-4
 returns-4 c =
     let x = c .before .before .before in
-    rw (answer x (not-true (x .extents-hold .result) (c .before .before .if2 .taken))) (c .refused-with4 .ensures ∙ ap refused (c .before .refused4 .ensures))
+    rw (answer x (not-true (x .extents-hold .result) (c .before .before .if2 .taken))) (c .refused-with4 .ensures ∙ ap refusedCard (c .before .refused4 .ensures))
 
 card-of-requires : tie.Need-card-of-requires
 card-of-requires c κs =
@@ -200,7 +200,7 @@ card-of-requires c κs =
     (omega (arith, rows (northward east), s .pre .1 .0 .most), omega (arith, columns east, s .pre .0 .most))
 
 returns-5 : tie.Need-returns-5
-returns-5 c = let x = c .before .before in rw (answer x (not-false (x .extents-hold .result) (c .before .if2 .left))) (ap accepted (c .card-of .ensures))
+returns-5 c = let x = c .before .before in rw (answer x (not-false (x .extents-hold .result) (c .before .if2 .left))) (ap acceptedCard (c .card-of .ensures))
 
 pub read-values-spec : {M : Type 1} → statement M
 read-values-spec =

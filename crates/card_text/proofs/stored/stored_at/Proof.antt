@@ -2,7 +2,7 @@
 use Prim.Native.Nat.{_*_}
 use native.Mathlib.Omega.{arith}
 use Rattle.whole.proofs.Near.{near-le}
-use Rattle.card_text.specs.Found.{tileAngle}
+use Rattle.card_text.specs.StepsRead.{tileAngle}
 use borrow.Author.Needs.{needs}
 use Rattle.card_text.proofs.stored.stored_at.Statement.{statement}
 use Rattle.card_text.proofs.stored.stored_at.Tie as tie

@@ -6,7 +6,7 @@ use native.Mathlib.Omega.{arith}
 use borrow.Author.Tests.{eq-eqb, ne-eqb}
 use Rattle.whole.proofs.Machine.{fits-mul}
 use Rattle.whole.proofs.Near.{near-low}
-use Rattle.card_text.specs.Found.{tileAngle, foundAt}
+use Rattle.card_text.specs.StepsRead.{tileAngle, foundAt}
 use Rattle.card_text.proofs.stored.tile_of.Statement.{statement}
 use Rattle.card_text.proofs.stored.tile_of.Tie as tie
 

@@ -1,6 +1,6 @@
 -- The lead, the extents, the fixed subfields, BAD and TIF are the whole layout. Assumes nothing.
 use Rattle.card.specs.Layout.{layout}
-use Rattle.card_text.specs.Spliced.{Put, end, _▸_, heldBy}
+use Rattle.card_text.specs.StepsWrite.{FieldsPut, end, _▸_, heldBy}
 use Rattle.card_text.proofs.Written.{put-append, put-all}
 use borrow.Author.Needs.{needs}
 use Rattle.card_text.proofs.write.put_card.Statement.{statement}
@@ -40,7 +40,7 @@ returns c =
     let lead = extents .before .before .before .before in
     let s = lead .before .before .before .before .before .before in
     let first = rw (lead .before .before .stored-at .ensures .0, lead .before .stored-at2 .ensures .0) at (lead .put-lead .ensures) in
-    let all : Put layout (heldBy (s .args .a) (s .args .b) (s .args .north) (s .args .east) (s .args .r)) (s .args .out .now) _ =
+    let all : FieldsPut layout (heldBy (s .args .a) (s .args .b) (s .args .north) (s .args .east) (s .args .r)) (s .args .out .now) _ =
     put-append first
     (put-append (extents .put-extents .ensures)
     (put-append (fixed .put-fixed .ensures) (bad .put-name .ensures .0 ▸ tif .put-flag .ensures ▸ end))) in

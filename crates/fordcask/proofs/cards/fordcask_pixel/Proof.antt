@@ -5,7 +5,7 @@ use mir.ValLaws.{toZ-ofZ}
 use Rattle.card.specs.declared.Card.{Card}
 use Rattle.card.specs.declared.PixelAnswer.{PixelAnswer}
 use Rattle.card.specs.Grid.{pixelReport, pixelOf}
-use Rattle.fordcask.proofs.Questions.{card-known, card-answers, card-refuses}
+use Rattle.card.proofs.Questions.{card-known, card-answers, card-refuses}
 use borrow.Author.Needs.{needs}
 use Rattle.fordcask.proofs.cards.fordcask_pixel.Statement.{statement}
 use Rattle.fordcask.proofs.cards.fordcask_pixel.Tie as tie

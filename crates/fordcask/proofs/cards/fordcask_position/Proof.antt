@@ -5,7 +5,7 @@ use mir.ValLaws.{toZ-ofZ}
 use Rattle.card.specs.declared.Card.{Card}
 use Rattle.card.specs.declared.PositionAnswer.{PositionAnswer}
 use Rattle.card.specs.Grid.{positionReport, positionOf}
-use Rattle.fordcask.proofs.Questions.{card-known, card-answers, card-refuses}
+use Rattle.card.proofs.Questions.{card-known, card-answers, card-refuses}
 use borrow.Author.Needs.{needs}
 use Rattle.fordcask.proofs.cards.fordcask_position.Statement.{statement}
 use Rattle.fordcask.proofs.cards.fordcask_position.Tie as tie

@@ -5,7 +5,7 @@ use mir.ValLaws.{toZ-ofZ}
 use Rattle.card.specs.declared.Card.{Card}
 use Rattle.tiles.specs.declared.BandsAnswer.{BandsAnswer}
 use Rattle.tiles.specs.LookUp.{bandsReport, bandsOf}
-use Rattle.fordcask.proofs.Questions.{card-known, card-answers, card-refuses}
+use Rattle.card.proofs.Questions.{card-known, card-answers, card-refuses}
 use borrow.Author.Needs.{needs}
 use Rattle.fordcask.proofs.indexes.fordcask_bands.Statement.{statement}
 use Rattle.fordcask.proofs.indexes.fordcask_bands.Tie as tie

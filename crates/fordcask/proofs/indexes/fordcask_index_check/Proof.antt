@@ -5,7 +5,7 @@ use Rattle.arc.specs.declared.Verdict.{Verdict}
 use Rattle.arc.specs.Refusals.{refusalOf}
 use Rattle.card.specs.declared.Card.{Card}
 use Rattle.tiles.specs.Check.{checkOf, marksOf}
-use Rattle.fordcask.proofs.Questions.{card-known, card-answers, card-refuses}
+use Rattle.card.proofs.Questions.{card-known, card-answers, card-refuses}
 use borrow.Author.Needs.{needs}
 use Rattle.fordcask.proofs.indexes.fordcask_index_check.Statement.{statement}
 use Rattle.fordcask.proofs.indexes.fordcask_index_check.Tie as tie

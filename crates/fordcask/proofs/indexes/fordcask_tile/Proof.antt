@@ -2,12 +2,12 @@
 use mathlib.Core.Path.{_≡_, sym, ap, _∙_}
 use native.Mathlib.Omega.{arith}
 use Rattle.card.specs.declared.Card.{Card}
-use Rattle.card.specs.Read.{readOf}
+use Rattle.card.specs.Read.{readOf, onCard}
 use Rattle.tiles.specs.declared.NumberAnswer.{NumberAnswer}
 use Rattle.tiles.specs.LookUp.{numberOf}
 use Rattle.tiles.proofs.Pixel.{InStore, number-held, number-plain}
-use Rattle.fordcask.specs.Entry.{onCard, tileParts}
-use Rattle.fordcask.proofs.Questions.{card-known, card-answers, card-refuses}
+use Rattle.fordcask.specs.Entry.{tileParts}
+use Rattle.card.proofs.Questions.{card-known, card-answers, card-refuses}
 use borrow.Author.Needs.{needs}
 use Rattle.fordcask.proofs.indexes.fordcask_tile.Statement.{statement}
 use Rattle.fordcask.proofs.indexes.fordcask_tile.Tie as tie

@@ -3,7 +3,7 @@ use mathlib.Core.Path.{ap, _∙_}
 use Rattle.card.specs.declared.Card.{Card}
 use Rattle.tiles.specs.declared.WindowAnswer.{WindowAnswer}
 use Rattle.tiles.specs.Window.{windowReport, windowOf}
-use Rattle.fordcask.proofs.Questions.{card-known, card-answers, card-refuses}
+use Rattle.card.proofs.Questions.{card-known, card-answers, card-refuses}
 use borrow.Author.Needs.{needs}
 use Rattle.fordcask.proofs.indexes.fordcask_window.Statement.{statement}
 use Rattle.fordcask.proofs.indexes.fordcask_window.Tie as tie

@@ -2,7 +2,6 @@
 use mathlib.Core.Path.{ap, _∙_}
 use Rattle.arc.specs.Spacing.{spacingReport}
 use mathlib.Core.Path.{ap, _∙_}
-use Rattle.arc.specs.Spacing.{spacingReport}
 use borrow.Author.Needs.{needs}
 use Rattle.fordcask.proofs.plain.fordcask_spacing.Statement.{statement}
 use Rattle.fordcask.proofs.plain.fordcask_spacing.Tie as tie

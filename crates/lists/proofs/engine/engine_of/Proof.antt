@@ -2,7 +2,7 @@
 use native.Mathlib.Omega.{arith}
 use Rattle.card.proofs.Laid.{known-laid}
 use Rattle.card.proofs.Axes.{east-high}
-use Rattle.lists.specs.Engine.{engineOf}
+use Rattle.lists.specs.Steps.{engineOf}
 use borrow.Author.Needs.{needs}
 use Rattle.lists.proofs.engine.engine_of.Statement.{statement}
 use Rattle.lists.proofs.engine.engine_of.Tie as tie

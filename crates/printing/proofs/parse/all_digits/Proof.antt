@@ -4,7 +4,7 @@ use mathlib.Core.Bool.{_&&_, and-true}
 use Prim.Native.Nat.{_-_, _≤_}
 use native.Mathlib.Omega.{arith}
 use lib.ListN.{length, drop, drop-of-length-le}
-use Rattle.card.specs.Text.{all, isDigit}
+use Rattle.text.specs.Text.{all, isDigit}
 use Rattle.printing.proofs.Scan.{digits-next}
 use Rattle.printing.proofs.parse.all_digits.Statement.{statement}
 use Rattle.printing.proofs.parse.all_digits.Tie as tie

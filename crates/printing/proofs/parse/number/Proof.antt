@@ -4,7 +4,7 @@ use mathlib.Core.Bool.{true}
 use Prim.Native.Nat.{_-_, _^_, _≤_, _<_}
 use native.Mathlib.Omega.{arith}
 use lib.ListN.{length, drop, getD, drop-of-length-le}
-use Rattle.card.specs.Text.{all, isDigit, onward, number}
+use Rattle.text.specs.Text.{all, isDigit, onward, number}
 use Rattle.printing.proofs.Scan.{IsNumber, is-number, digit-known, onward-next, below-next}
 use Rattle.printing.proofs.parse.number.Statement.{statement}
 use Rattle.printing.proofs.parse.number.Tie as tie

@@ -2,7 +2,7 @@
 use mathlib.Core.Path.{sym, _∙_}
 use Prim.Native.Nat.{_-_, _≤_}
 use native.Mathlib.Omega.{arith}
-use Rattle.card.specs.Write.{digits}
+use Rattle.text.specs.Text.{digits}
 use Rattle.printing.proofs.Digits.{length-digits, digit-at}
 use Rattle.printing.proofs.Pieces.{Partly, partly-none, partly-next, partly-all}
 use Rattle.printing.proofs.write.number.Statement.{statement}

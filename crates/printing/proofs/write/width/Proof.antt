@@ -2,7 +2,7 @@
 use mathlib.Core.Path.{_≡_, refl, sym, _∙_}
 use Prim.Native.Nat.{_≤_}
 use native.Mathlib.Omega.{arith}
-use Rattle.card.specs.Write.{digits}
+use Rattle.text.specs.Text.{digits}
 use Rattle.printing.specs.Printed.{trimmed, decimal}
 use Rattle.printing.proofs.Digits.{trim-zero, trim-stop}
 use Rattle.printing.proofs.write.width.Statement.{statement}

@@ -5,7 +5,7 @@ use lib.ListN.{getD}
 use Rattle.tiles.specs.Index.{Said, said, saidOf}
 use borrow.Author.Tests.{not-true, not-false}
 use Rattle.tiles.specs.declared.NumberAnswer.{NumberAnswer}
-use Rattle.tiles.specs.LookUp.{numberIn}
+use Rattle.tiles.specs.LookUp.{numberSaid}
 use Rattle.tiles.proofs.Entry.{tiles-small, index-long, said-missing, said-above, said-stored, said-in, said-all}
 use borrow.Author.Needs.{needs}
 use Rattle.tiles.proofs.look_up.number_of.Statement.{statement}
@@ -14,9 +14,9 @@ use Rattle.tiles.proofs.look_up.number_of.Tie as tie
 -- what the tile's entry says
 entry : (c : tie.After-shared-slice-known2) {v : Said} → let a = c .before .before .before .before .args in
     said (a .count) (getD (a .index .now) (a .tile) 0) ≡ v
-    → numberIn (a .tile) (saidOf (a .k) (a .index .now) (a .count) (a .tile)) ≡ numberIn (a .tile) v
+    → numberSaid (a .tile) (saidOf (a .k) (a .index .now) (a .count) (a .tile)) ≡ numberSaid (a .tile) v
 entry c e = let a = c .before .before .before .before .args in
-    ap (numberIn (a .tile))
+    ap (numberSaid (a .tile))
     (said-in (a .k) (a .index .now) (a .count) (a .tile) (not-false _ (c .before .if1 .left)) ∙ e)
 
 add-t7 : tie.Need-add-t7

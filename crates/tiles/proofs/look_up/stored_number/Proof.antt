@@ -11,8 +11,8 @@ use Rattle.arc.specs.declared.Verdict.{Verdict}
 use Rattle.card.specs.Grid.{verdictOf}
 use Rattle.tiles.specs.declared.NumberAnswer.{NumberAnswer}
 use Rattle.tiles.specs.Index.{tiles, tileOf, indexWrong, saidOf}
-use Rattle.tiles.specs.LookUp.{storeWrong, numberIn, numberOf}
-use Rattle.tiles.specs.Held.{afterVerdict}
+use Rattle.tiles.specs.LookUp.{storeWrong, numberSaid, numberOf}
+use Rattle.tiles.specs.Steps.{afterVerdict}
 use Rattle.tiles.proofs.Sized.{known-sized}
 use Rattle.tiles.proofs.Entry.{tiles-small, count-most}
 use Rattle.tiles.proofs.Pixel.{tile-in, verdict-in, number-by}
@@ -37,7 +37,7 @@ number-is : (c : tie.After-judge-pixel) (v : Verdict) → c .judge-pixel .result
     let a = c .before .before .before .before .before .before .args in
     let t = tileOf (a .k) (natAbs (a .row)) (natAbs (a .column)) in
     numberOf (a .k) (a .index .now) (a .count) (a .store .now) (a .row) (a .column)
-    ≡ afterVerdict v (numberIn t (saidOf (a .k) (a .index .now) (a .count) t))
+    ≡ afterVerdict v (numberSaid t (saidOf (a .k) (a .index .now) (a .count) t))
 number-is c v e =
     let a = c .before .before .before .before .before .before .args in
     let t = tileOf (a .k) (natAbs (a .row)) (natAbs (a .column)) in
@@ -45,7 +45,7 @@ number-is c v e =
     rw (right (c .before .before), eq-eqb _ _ (c .before .if2 .left)) in
     number-by (a .k) (a .row) (a .column) (a .index .now) (a .count) (a .store .now) w
     ∙ ap (λ (x : Verdict). afterVerdict x
-    (numberIn t (saidOf (a .k) (a .index .now) (a .count) t))) (sym (verdict c) ∙ e)
+    (numberSaid t (saidOf (a .k) (a .index .now) (a .count) t))) (sym (verdict c) ∙ e)
 
 -- an accepted pixel's tile
 inside : (c : tie.After-enum-told) → let a = c .before .before .before .before .before .before .before .before .args in
@@ -134,7 +134,7 @@ returns-3 : tie.Need-returns-3
 returns-3 c =
     let a = c .before .before .before .before .before .before .before .before .before .before .before .before .args in
     c .number-of .ensures
-    ∙ ap (λ (t : ℕ). numberIn t (saidOf (a .k) (a .index .now) (a .count) t)) (here (c .before))
+    ∙ ap (λ (t : ℕ). numberSaid t (saidOf (a .k) (a .index .now) (a .count) t)) (here (c .before))
     ∙ sym (number-is (c .before .before .before .before .before .before) Verdict.Accepted
     (c .before .before .before .before .enum-told .given .1))
 

@@ -6,7 +6,8 @@ use native.Mathlib.Omega.{arith}
 use native.Mathlib.Nat.{mul-le-mul}
 use lib.ListN.{length}
 use Rattle.tiles.specs.declared.WindowAnswer.{WindowAnswer}
-use Rattle.tiles.specs.Window.{rowTiles, windowTiles, scan}
+use Rattle.whole.specs.Lists.{upFrom}
+use Rattle.tiles.specs.Window.{windowTiles, scan}
 use Rattle.tiles.proofs.Ahead.{enter, leave, done, advance, at-missing, at-above, within}
 use Rattle.tiles.proofs.scan.first_missing.Statement.{statement}
 use Rattle.tiles.proofs.scan.first_missing.Tie as tie
@@ -15,7 +16,7 @@ abbrev Inv-loop : tie.InvT-loop
 Inv-loop k index count top left height width answer₀ r start c₀ answer c =
     (answer ≡ WindowAnswer.AllStored) × (c ≤ width)
     × (scan k index count (windowTiles k top left height width)
-    ≡ scan k index count (rowTiles (start + c) (width - c) ++ windowTiles k (top + (r + 1)) left
+    ≡ scan k index count (upFrom (start + c) (width - c) ++ windowTiles k (top + (r + 1)) left
     (height - (r + 1)) width))
 
 abbrev μ-loop : tie.MeasureT-loop

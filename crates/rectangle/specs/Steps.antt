@@ -1,11 +1,12 @@
--- How the code asks of a row and a stretch of sizes of latitude: the law that ties it to the rectangle is in proofs/. Definitions only.
+-- What only the code needs: how it asks of a row and a stretch of sizes of latitude. The law that ties it to the rectangle is in proofs/.
+-- Definitions only.
 --     meets b r low high     the row covers some size from low to high
 --     Sides                  what `covers_some` is handed
 use Prim.Native.Nat.{ℕ, _≤_}
 use mathlib.Core.Bool.{Bool, _&&_}
 use lib.Dec.{leb}
 use Rattle.arc.specs.Zones.{Row, from}
-use Rattle.zones.specs.Stretch.{reaches, Rows}
+use Rattle.zones.specs.Steps.{reaches, Rows}
 
 unfoldable pub meets : ℕ → Row → ℕ → ℕ → Bool
 meets b r low high = leb (from r) high && reaches b r low

@@ -1,4 +1,4 @@
--- What the code makes of the values: the origin counted in tiles, the record and the card (01, "The image card, 98 bytes").
+-- What only the code needs: what it makes of the values, the origin counted in tiles, the record and the card (01, "The image card, 98 bytes").
 -- Definitions only; proofs/ tie them to crate card's.
 --     foundAt x angle    the tile whose stored angle this is, both counted from the axis' low end
 --     tileAt t r         that tile, as a whole number from −t to t
@@ -22,7 +22,7 @@ use Rattle.card.specs.declared.Card.{Card}
 use Rattle.card.specs.declared.Record.{Record}
 use Rattle.card.specs.Layout.{NUL, NUS, NLL, NLS, NFL, NFC, BAD, TIF, layout, bytesOf, walk}
 use Rattle.card.specs.Read.{numberIn}
-use Rattle.card_text.specs.Judged.{valuesIn}
+use Rattle.card_text.specs.StepsFields.{valuesIn}
 
 -- 128 × H
 abbrev pub tileAngle : ℕ

@@ -1,4 +1,4 @@
--- What the library's functions answer, as its declared types have it (01, "The printing program"). Definitions only.
+-- What only the code needs: what its functions answer, as its declared types have it (01, "The printing program"). Definitions only.
 --     numbersAnswer o        the two numbers of a line
 --     openingFor s out       what is printed first, into a buffer of 64 bytes or more; else nothing
 --     openingAnswer o        the same as `opening` answers it
@@ -17,7 +17,7 @@ use lib.Dec.{leb, ltb}
 use lib.ListN.{length}
 use Rattle.card.specs.declared.Card.{Card}
 use Rattle.card.specs.Read.{noCard}
-use Rattle.card.specs.Write.{over}
+use Rattle.whole.specs.Lists.{over}
 use Rattle.printing.specs.Lines.{Pair}
 use Rattle.printing.specs.Printed.{lineFor}
 use Rattle.printing.specs.Run.{lineAt, nextAt, Opened, closed, openingOf}

@@ -1,17 +1,18 @@
--- Lists of zones. Definitions only.
+-- Lists. Definitions only.
 --     those f l          the members of l of which f holds, in their order
 --     downFrom a n       a + n − 1, .., a + 1, a
 --     upFrom a n         a, a + 1, .., a + n − 1
 --     padded k l         l, and 0 in each slot after it, up to k slots
---     reportIn v n l     the paper's number, place and values, a length and the slots (01, "Numbers given in refusal")
+--     each n f           f 0, f 1, .., f (n − 1), one after the other
+--     over xs l          l with xs written over its start
 --     someFrom f z n     f holds of one of z, z + 1, .., z + n − 1
+--     firstFrom s f z n  the first of z, s z, s (s z), .., n of them, of which f holds; s goes to the next
 use Prim.Native.Nat.{ℕ, zero, suc, _+_, _-_}
 use mathlib.Core.Bool.{Bool, false, cond, _||_}
-use mathlib.Core.List.{List, [], _∷_, _++_, map}
-use lib.ListN.{length, replicate}
-use lib.IntN.{ℤ, pos, sucℤ}
-use Rattle.arc.specs.declared.Verdict.{Verdict}
-use Rattle.arc.specs.Refusals.{refusalOf, Report}
+use mathlib.Core.List.{List, [], _∷_, _++_}
+use mathlib.Core.Option.{Option, some, none}
+use lib.ListN.{length, replicate, drop}
+use lib.IntN.{ℤ, sucℤ}
 
 abbrev pub those : (ℕ → Bool) → List ℕ → List ℕ
 those f [] = []
@@ -28,9 +29,21 @@ upFrom a (suc n) = a ∷ upFrom (a + 1) n
 abbrev pub padded : ℕ → List ℕ → List ℕ
 padded k l = l ++ replicate (k - length l) 0
 
-abbrev pub reportIn : Verdict → ℕ → List ℕ → Report
-reportIn v n l = record { number = refusalOf v .number; place = refusalOf v .at; values = map pos (n ∷ l) }
+abbrev pub each : {A : Type 0} → ℕ → (ℕ → List A) → List A
+each zero f = []
+each (suc n) f = each n f ++ f n
+
+abbrev pub over : {A : Type 0} → List A → List A → List A
+over xs l = xs ++ drop (length xs) l
 
 unfoldable pub someFrom : (ℤ → Bool) → ℤ → ℕ → Bool
 someFrom f z zero = false
 someFrom f z (suc n) = f z || someFrom f (sucℤ z) n
+
+unfoldable pub firstFrom : {A : Type 0} → (A → A) → (A → Bool) → A → ℕ → Option A
+firstFrom s f z zero = none
+firstFrom s f z (suc n) = cond (f z) (some z) (firstFrom s f (s z) n)
+
+-- the natural after i
+abbrev pub oneMore : ℕ → ℕ
+oneMore i = i + 1

@@ -1,8 +1,8 @@
--- The engine: the numbers that a card gives once, so that no pixel of it needs a division by A or B (001, 3.4.3, 3.4.4). Definitions only;
--- that its answers are the plain rule's is the contract of its methods. H / A is 506,250 / 2u, where u is A / 512.
+-- What only the code needs: the engine, the numbers that a card gives once, so that no pixel of it needs a division by A or B
+-- (001, 3.4.3, 3.4.4). Definitions only; that its answers are the plain rule's is the contract of its methods. H / A is 506,250 / 2u, where u is A / 512.
 --     scaleUp x d        the smallest whole number not below x × 2^36 / d
---     rowsOf k           the northing of row 0, what a row takes off it, and what its rounding starts from
---     columnsOf k        the easting of column 0, what a column adds to it, and what its rounding starts from
+--     rowAxis k          the northing of row 0, what a row takes off it, and what its rounding starts from
+--     columnAxis k       the easting of column 0, what a column adds to it, and what its rounding starts from
 --     engineOf k         the engine of a card
 --     Made e             it is the engine of its card, and some accepted card gives that
 use mathlib.Core.Path.{_≡_}
@@ -22,19 +22,19 @@ rowsAt top d = record { base = top / d; rate = scaleUp 506250 d; start = scaleUp
 abbrev pub columnsAt : ℕ → ℕ → Axis
 columnsAt left d = record { base = left / d; rate = scaleUp 506250 d; start = scaleUp (left % d) d }
 
-abbrev pub rowsOf : Card → Axis
-rowsOf k = rowsAt (506250 * k .north + k .b / 512) (2 * (k .b / 512))
+abbrev pub rowAxis : Card → Axis
+rowAxis k = rowsAt (506250 * k .north + k .b / 512) (2 * (k .b / 512))
 
-abbrev pub columnsOf : Card → Axis
-columnsOf k = columnsAt (506250 * k .east + k .a / 512) (2 * (k .a / 512))
+abbrev pub columnAxis : Card → Axis
+columnAxis k = columnsAt (506250 * k .east + k .a / 512) (2 * (k .a / 512))
 
 -- top: 506,250 × (128n + B/2) + 253,125, and left: 506,250 × (A − 128m) + 253,125, counted from the South Pole and from 180° west
 unfoldable pub engineOf : Card → Engine
 engineOf k =
     record {
       card = k;
-      rows = rowsOf k;
-      columns = columnsOf k;
+      rows = rowAxis k;
+      columns = columnAxis k;
       top = 506250 * (k .north + k .b / 2) + 253125;
       down = 2 * (k .b / 512);
       left = 506250 * (k .a - k .east) + 253125;

@@ -1,4 +1,4 @@
--- How much of a buffer a word fills. Definitions only.
+-- What only the code needs: how much of a buffer a word fills. Definitions only.
 use Prim.Native.Nat.{ℕ, _≤_}
 use mathlib.Core.Path.{_≡_}
 use mathlib.Core.List.{List}

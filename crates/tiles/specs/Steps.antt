@@ -1,4 +1,4 @@
--- What the code is held to on the way. Definitions only.
+-- What only the code needs: what it is held to on the way. Definitions only.
 --     Sized k                what a known card's tiles are bounded by
 --     marksPassed ..         what the marks hold after the pass over the entries
 --     Window ..              what a window is bounded by, past the length checks

@@ -1,4 +1,5 @@
--- How the code asks of a row and a size of latitude: the laws that tie this to cover and rectangle are in proofs/. Definitions only.
+-- What only the code needs: how it asks of a row and a size of latitude. The laws that tie this to cover and rectangle are in proofs/.
+-- Definitions only.
 --     reaches b r size   the row and its overlap do not end before a latitude of that size
 --     coverFrom b first i size    the zones from the row at i equatorward that reach the size; row j's zone is first + j
 --     Rows, Rowed        what the code's parts are handed
@@ -7,7 +8,7 @@ use mathlib.Core.Bool.{Bool, _||_}
 use mathlib.Core.List.{List, _∷_}
 use lib.Dec.{ltb}
 use Rattle.arc.specs.Zones.{circle, quarter, Row, isPolar, from, to, rowAt}
-use Rattle.zones.specs.Lists.{those, downFrom}
+use Rattle.whole.specs.Lists.{those, downFrom}
 
 abbrev pub reaches : ℕ → Row → ℕ → Bool
 reaches b r size = (ltb size (to r) || isPolar (r .northern)) || ltb ((size - to r) * b) (1024 * circle)

@@ -1,8 +1,7 @@
--- How the code writes: runs of bytes put into the output, and what each subfield holds (01, "The image card, 98 bytes").
+-- What only the code needs: how it writes, runs of bytes put into the output, and what each subfield holds (01, "The image card, 98 bytes").
 -- Definitions only; proofs/ tie them to crate card's.
---     splice o x s       s with x at offset o
---     Put fs vs s t      t is s with the subfields fs put, which hold vs
---     leadOf, extentsOf, fixed, heldBy     the values of a record whose origin is counted, in the layout's order
+--     FieldsPut fs vs s t  t is s with the subfields fs put, which hold vs
+--     leadOf, extentValues, fixed, heldBy  the values of a record whose origin is counted, in the layout's order
 --     Narrow r           the record's numbers are below 2 ^ 32, so that the code divides 32 bits
 --     countTests r       NFL, NFC (8), BAD (7)
 --     outIn zone x r out     what the output holds, the spacing x being asked
@@ -18,20 +17,18 @@ use Rattle.arc.specs.declared.SpacingAnswer.{SpacingAnswer}
 use Rattle.arc.specs.declared.Verdict.{Verdict}
 use Rattle.card.specs.declared.Record.{Record}
 use Rattle.card.specs.declared.Subfield.{Subfield}
-use Rattle.card.specs.Text.{nameLaid}
+use Rattle.text.specs.Text.{nameLaid}
+use Rattle.text.specs.Steps.{splice}
 use Rattle.card.specs.Layout.{NFL, NFC, BAD}
 use Rattle.card.specs.Write.{Value, counted, angle, named, flagged, textOf, test, writeIn, outAfter, textFor}
-use Rattle.card_text.specs.Found.{tileAngle}
-
-unfoldable pub splice : ℕ → List ℕ → List ℕ → List ℕ
-splice o x s = take o s ++ (x ++ drop (o + length x) s)
+use Rattle.card_text.specs.StepsRead.{tileAngle}
 
 -- each subfield's bytes are put at its offset, one after the other
 infixr 5 _▸_
-pub data Put : List Subfield → List Value → List ℕ → List ℕ → Type 0 where
-  end : {s : List ℕ} → Put [] [] s s
+pub data FieldsPut : List Subfield → List Value → List ℕ → List ℕ → Type 0 where
+  end : {s : List ℕ} → FieldsPut [] [] s s
   _▸_ : {f : Subfield} {fs : List Subfield} {v : Value} {vs : List Value} {s t u : List ℕ}
-      → t ≡ splice (f .at) (textOf (f .width) v) s → Put fs vs t u → Put (f ∷ fs) (v ∷ vs) s u
+      → t ≡ splice (f .at) (textOf (f .width) v) s → FieldsPut fs vs t u → FieldsPut (f ∷ fs) (v ∷ vs) s u
 
 -- STR ARV BRV LSO PSO, the angles counted from their limits
 abbrev pub leadOf : ℕ → ℕ → ℕ → ℕ → List Value
@@ -39,8 +36,8 @@ leadOf a b lon lat =
     counted 3 ∷ counted a ∷ counted b ∷ angle 3 (pos lon -ℤ pos 64800000) ∷ angle 2 (pos lat -ℤ pos 32400000) ∷ []
 
 -- NUL NUS NLL NLS NFL NFC
-abbrev pub extentsOf : Record → List Value
-extentsOf r =
+abbrev pub extentValues : Record → List Value
+extentValues r =
     counted (r .nul) ∷ counted (r .nus) ∷ counted (r .nll) ∷ counted (r .nls) ∷ counted (r .nfl) ∷ counted (r .nfc) ∷ []
 
 -- PNC PNL COD ROD POR PCB PVB
@@ -50,7 +47,7 @@ fixed = counted 128 ∷ counted 128 ∷ counted 0 ∷ counted 1 ∷ counted 0 �
 unfoldable pub heldBy : ℕ → ℕ → ℕ → ℕ → Record → List Value
 heldBy a b north east r =
     leadOf a b (near (east * tileAngle) a) (near (north * tileAngle) b) ++
-    (extentsOf r ++ (fixed ++ (named (r .bad) ∷ flagged (r .tif) ∷ [])))
+    (extentValues r ++ (fixed ++ (named (r .bad) ∷ flagged (r .tif) ∷ [])))
 
 -- 2 ^ 32
 pub record Narrow (r : Record) : Type 0 where

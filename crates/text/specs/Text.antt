@@ -9,14 +9,17 @@
 --     angleOf d s        the angle
 --     angleValid d limit s     minutes and seconds below 60, within the limit, and no minus zero
 --     nameLaid s         eight letters or digits, a dot, three more
-use Prim.Native.Nat.{ℕ, _+_, _*_, _-_}
+--     digits w v         the w digits of v, zero-filled
+--     angleText d z      ±DDDMMSS.SS or ±DDMMSS.SS; zero carries a plus
+use Prim.Native.Nat.{ℕ, zero, suc, _+_, _*_, _-_, _/_, _%_, _^_}
 use Prim.Native.Char.{code}
 use Prim.Native.String.{String, [] as []ᵗ, _∷_ as _∷ᵗ_}
-use mathlib.Core.List.{List, [], _∷_}
+use mathlib.Core.List.{List, [], _∷_, _++_}
 use mathlib.Core.Bool.{Bool, true, cond, not, _&&_, _||_}
 use lib.ListN.{getD, take, drop}
 use lib.Dec.{leb, ltb, eqb}
-use lib.IntN.{ℤ, pos, negℤ}
+use lib.IntN.{ℤ, pos, negℤ, natAbs}
+use lib.Signed.{ltZ}
 
 abbrev pub bytes : String → List ℕ
 bytes []ᵗ = []
@@ -86,3 +89,16 @@ nameLaid s = all isNameByte (part 0 8 s) && eqb (getD s 8 0) 46 && all isNameByt
 -- 89 is Y, 78 is N
 abbrev pub isFlag : ℕ → Bool
 isFlag b = eqb b 89 || eqb b 78
+
+-- ---- written
+
+abbrev pub digits : ℕ → ℕ → List ℕ
+digits zero v = []
+digits (suc w) v = (48 + v / 10 ^ w % 10) ∷ digits w v
+
+-- the degrees, the minutes, the seconds, the dot and the hundredths of a size z
+abbrev pub sizeText : ℕ → ℕ → List ℕ
+sizeText d z = digits d (z / 360000) ++ digits 2 (z / 6000 % 60) ++ digits 2 (z / 100 % 60) ++ (46 ∷ []) ++ digits 2 (z % 100)
+
+unfoldable pub angleText : ℕ → ℤ → List ℕ
+angleText d z = cond (ltZ z (pos 0)) 45 43 ∷ sizeText d (natAbs z)

@@ -1,4 +1,4 @@
--- A position in range, counted in naturals (01, "Numbers given in refusal"). Definitions only.
+-- What only the code needs: a position in range, counted in naturals (01, "Numbers given in refusal"). Definitions only.
 --     rangedOf lat lon   what `count_position` answers: the position counted from the South Pole and from 180° west; 4, 5
 use mathlib.Core.Bool.{cond}
 use mathlib.Core.List.{[], _∷_}

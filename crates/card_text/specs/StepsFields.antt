@@ -1,4 +1,5 @@
--- A subfield as the code reads it, once: its value and its two tests (01, "The image card, 98 bytes"). Definitions only; proofs/ tie them to crate card's.
+-- What only the code needs: a subfield as it is read, once, its value and its two tests (01, "The image card, 98 bytes").
+-- Definitions only; proofs/ tie them to crate card's.
 --     DigitsOf s r       a run of digits as it was read: whether each byte is a digit, and then its number
 --     valueOf kind s     what a subfield holds, as a natural: an angle is counted from its limit below zero
 --     valueIn f s        the value of the subfield f of a card
@@ -15,7 +16,7 @@ use Rattle.arc.specs.declared.Verdict.{Verdict}
 use Rattle.card.specs.declared.Kind.{Kind}
 use Rattle.card.specs.declared.Kind.the-variants.{Number, Angle, Name, Flag}
 use Rattle.card.specs.declared.Subfield.{Subfield}
-use Rattle.card.specs.Text.{isDigit, all, number, minus, angleSize}
+use Rattle.text.specs.Text.{isDigit, all, number, minus, angleSize}
 use Rattle.card.specs.Layout.{layout, bytesOf, judge, judgeField, orElse, walk}
 use Rattle.card_text.specs.declared.digits.Digits.{Digits}
 use Rattle.card_text.specs.declared.fields.Field.{Field}

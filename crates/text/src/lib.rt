@@ -1,0 +1,1 @@
+// Text in bytes: digits and angles, and text put into a lent buffer.
