@@ -2,23 +2,24 @@
 -- Each is its axis' law at the card's origin. Assumes nothing.
 use mathlib.Core.Path.{_≡_, sym, ap, _∙_, subst⁻¹}
 use Prim.Native.Nat.{ℕ, _+_, _-_, _*_, _/_, _%_, _≤_, _<_}
-use native.Mathlib.Nat.{mul-le-mul-right, add-mul, zero-mul, add-mul-mod-self-right}
+use native.Mathlib.Nat.{mul-le-mul-right, zero-mul, add-mul-mod-self-right}
 use native.Mathlib.Omega.{arith}
 use lib.IntN.{ℤ, pos, _-ℤ_, _*ℤ_}
 use Rattle.whole.specs.Whole.{near, nearest, modulo}
 use Rattle.whole.proofs.Signed.{Is, is-nat, is-same, is-add, is-minus, is-mul, is-lmul, is-modulo}
-use Rattle.whole.proofs.Near.{near-low, near-high, near-is, near-le, near-shift, near-modulo, is-nearest}
+use Rattle.whole.proofs.Near.{near-low, near-high, near-is, near-le, is-nearest, floor-modulo}
 use Rattle.arc.specs.Zones.{circle, half, quarter}
+use Rattle.origin.proofs.Line.{Line, angle-is, scaled-is, near-circle, pixel-back}
 use Rattle.card.specs.declared.Card.{Card}
 use Rattle.card.specs.Grid.{placeRow, gridColumn, placeColumn, latitudeOf, longitudeOf, rowOf, columnOf}
 use Rattle.card.proofs.Laid.{Laid}
-use Rattle.card.proofs.Line.{Line, rows-line, columns-line, angle-is, scaled-is, pixel-back, range-is}
+use Rattle.card.proofs.Line.{rows-line, columns-line, range-is}
 
 module _ (k : Card) (l : Laid k) where
-  rows : Line (k .b) (128 * (k .b / 512)) quarter
+  rows : Line circle (k .b) (128 * (k .b / 512)) quarter
   rows = rows-line (k .b) (l .rows)
 
-  columns : Line (k .a) (128 * (k .a / 256)) half
+  columns : Line circle (k .a) (128 * (k .a / 256)) half
   columns = columns-line (k .a) (l .columns)
 
   pub north-high : 2 * k .north ≤ k .b
@@ -56,13 +57,16 @@ module _ (k : Card) (l : Laid k) where
 
   pub latitude-is : (r : ℕ) → r ≤ k .north → Is (latitudeOf k (pos r)) (near ((k .north - r) * circle) (k .b)) quarter
   unfolding latitudeOf
-  latitude-is r h = angle-is rows (placeRow k (pos r)) (k .north - r) (row-is r h)
+  latitude-is r h =
+      angle-is rows (placeRow k (pos r) *ℤ pos circle) ((k .north - r) * circle)
+      (is-mul (placeRow k (pos r)) circle (k .north - r) (128 * (k .b / 512)) (row-is r h))
 
   pub longitude-is : (c : ℕ) → Is (longitudeOf k (pos c)) (near ((k .east + c) * circle) (k .a) % circle) half
   unfolding longitudeOf
   longitude-is c =
       range-is (nearest (gridColumn k (pos c) *ℤ pos circle) (k .a)) (near ((k .east + c) * circle) (k .a)) 0
-      (angle-is columns (gridColumn k (pos c)) (k .east + c) (column-is c))
+      (angle-is columns (gridColumn k (pos c) *ℤ pos circle) ((k .east + c) * circle)
+      (is-mul (gridColumn k (pos c)) circle (k .east + c) (128 * (k .a / 256)) (column-is c)))
 
   pub latitude-high : (y : ℕ) → 2 * y ≤ k .b → near (y * circle) (k .b) ≤ 64800000
   latitude-high y h = near-le (k .b) (rows .some) (y * circle) 64800000 (omega (arith, rows .some))
@@ -112,7 +116,9 @@ module _ (k : Card) (l : Laid k) where
       ∙ is-modulo (nearest (pos y) circle) (k .a) (near y circle) 0 (columns .some)
       (is-same (nearest (pos y) circle) (near y circle) 0 (near y circle) (0 * k .a)
       (is-nearest circle (omega arith) (pos y) y 0 (is-same (pos y) y 0 y (0 * circle) (is-nat y) (omega arith))) (omega (arith, zero-mul (k .a))))
-      ∙ ap pos (near-modulo (k .a) circle (omega arith) x ∙ ap (λ (n : ℕ). n % k .a) (near-shift circle (omega arith) (p * k .a) (k .a - k .east)))
+      ∙ ap pos
+      (ap (λ (n : ℕ). n % k .a) (near-circle y) ∙ floor-modulo (k .a) circle half (omega arith) x
+      ∙ ap (λ (n : ℕ). n % k .a) (omega (arith, near-circle (p * k .a))))
 
   -- ---- there and back: a latitude answered for y rows from the South Pole, a longitude answered for v columns from 180° west
   pub row-back : (y : ℕ) (lat : ℤ) → Is lat (near (y * circle) (k .b)) quarter → Is (rowOf k lat) (k .north) y
@@ -123,10 +129,10 @@ module _ (k : Card) (l : Laid k) where
       let low : 2 * (p * k .b) ≤ 2 * (y * circle) + k .b = near-low (k .b) (rows .some) (y * circle) in
       let high : 2 * (y * circle) < 2 * (p * k .b) + k .b = near-high (k .b) (rows .some) (y * circle) in
       let x : ℕ = k .north * circle + ((y + 1) * circle - p * k .b) in
-      let e : near x circle ≡ k .north + 1 = near-is circle (omega arith) x (k .north + 1) (omega (arith, rows .coarse)) (omega (arith, rows .coarse)) in
+      let e : near x circle ≡ k .north + 1 = near-is circle (omega arith) x (k .north + 1) (omega (arith, l .rows .most)) (omega (arith, l .rows .most)) in
       is-same (nearest z circle) (near x circle) (y + 1) (k .north) y
       (is-nearest circle (omega arith) z x (y + 1)
-      (is-same z (k .north * circle) (p * k .b) x ((y + 1) * circle) (row-before lat p h) (omega (arith, rows .coarse))))
+      (is-same z (k .north * circle) (p * k .b) x ((y + 1) * circle) (row-before lat p h) (omega (arith, l .rows .most))))
       (omega arith)
 
   pub column-back : (v : ℕ) (lon : ℤ) → Is lon (near (v * circle) (k .a) % circle) half → columnOf k lon ≡ pos ((v + (k .a - k .east)) % k .a)
@@ -136,4 +142,9 @@ module _ (k : Card) (l : Laid k) where
       column-at lon (p % circle) h
       ∙ ap pos
       (sym (add-mul-mod-self-right (near (p % circle * k .a) circle + t) (p / circle) (k .a))
-      ∙ ap (λ (n : ℕ). n % k .a) (omega (arith, pixel-back columns v)))
+      ∙ ap (λ (n : ℕ). n % k .a)
+      (omega (
+        arith,
+        near-circle (p % circle * k .a),
+        pixel-back (k .a) 0 half (columns .some) (omega (arith, l .columns .most)) (omega arith) v (v * circle) (omega arith),
+      )))

@@ -15,6 +15,7 @@ use Rattle.whole.proofs.Near.{near-le, near-shift}
 use Rattle.arc.specs.Refusals.{refusal}
 use Rattle.arc.specs.Zones.{circle, half, quarter}
 use Rattle.arc.specs.Spacing.{Grid}
+use Rattle.origin.proofs.Line.{Line, angle-is, angle-close}
 use Rattle.card.specs.declared.Card.{Card}
 use Rattle.card.specs.declared.PositionAnswer.{PositionAnswer}
 use Rattle.card.specs.declared.PixelAnswer.{PixelAnswer}
@@ -23,7 +24,7 @@ use Rattle.card.specs.Grid.{placeRow, placeColumn, inTiles, inChart, lat
 use Rattle.card.specs.NoDrift.{HasPlace, TilesHave, ChartHas, Close, Visit, gave, refused, visitWith, visit, latitudeAfter}
 use Rattle.card.specs.NoDrift.{longitudeAfter, visits, Right, Each, Every, NoDriftFrom, NoDrift}
 use Rattle.card.proofs.Laid.{Laid, accepted-laid, same-spacing}
-use Rattle.card.proofs.Line.{Line, rows-line, angle-is, angle-close}
+use Rattle.card.proofs.Line.{rows-line}
 use Rattle.card.proofs.Axes.{north-is, north-high, east-high, down-high, row-is, column-place, latitude-is, longitude-is, row-back, column-back}
 use Rattle.card.proofs.Regions.{Within, tiles-inside, chart-tiles}
 
@@ -95,10 +96,9 @@ module _ (a b : ℕ) (u w lat lon : ℤ) (t : Thread a b u w lat lon) where
       let p : ℕ = near (v * circle) a in
       let i : ℕ = (v + a / 2) / a in
       let some : 0 < a = omega (arith, t .columns .some) in
-      let turned : Line a (i * a + a / 2) (i * circle + half) =
+      let turned : Line circle a (i * a + a / 2) (i * circle + half) =
       record {
         some = some;
-        coarse = omega (arith, t .columns .most);
         exact = omega (arith, add-mul (i * a) (a / 2) circle, add-mul (i * circle) half a, mul-right-comm i a circle, t .columns .whole);
       } in
       let w-at : Is w (v + a) (i * a + a / 2) =
@@ -112,9 +112,11 @@ module _ (a b : ℕ) (u w lat lon : ℤ) (t : Thread a b u w lat lon) where
       (is-mul d circle (p / circle + 1) i (is-sub (p / circle + 1) i)))
       (omega arith) in
       record {
-        latitude = angle-close (rows-line b (t .rows)) u lat (t .y) (t .u-is) (t .lat-is);
+        latitude =
+            angle-close (rows-line b (t .rows)) (u *ℤ pos circle) lat (t .y * circle) (is-mul u circle (t .y) (128 * (b / 512)) (t .u-is)) (t .lat-is);
         circles = d;
-        longitude = angle-close turned w (lon +ℤ d *ℤ pos circle) (v + a) w-at lon-at;
+        longitude =
+            angle-close turned (w *ℤ pos circle) (lon +ℤ d *ℤ pos circle) ((v + a) * circle) (is-mul w circle (v + a) (i * a + a / 2) w-at) lon-at;
       }
 
 -- ---- one later card
@@ -182,7 +184,7 @@ module _ (u w lat lon : ℤ) (k : Card) (l : Laid k) (t : Thread (k .a) (k .b) u
       ap₂ PositionAnswer.At
       (ap (λ (z : ℤ). nearest (z *ℤ pos circle) (k .b)) place-of-row
       ∙ is-equal (nearest (u *ℤ pos circle) (k .b)) lat (near (t .y * circle) (k .b)) quarter (near (t .y * circle) (k .b)) quarter
-      (angle-is (rows-line (k .b) (l .rows)) u (t .y) (t .u-is)) (t .lat-is) refl)
+      (angle-is (rows-line (k .b) (l .rows)) (u *ℤ pos circle) (t .y * circle) (is-mul u circle (t .y) (128 * (k .b / 512)) (t .u-is))) (t .lat-is) refl)
       (ap (longitudeOf k) γ-is
       ∙ is-equal (longitudeOf k (pos γ′)) lon (near ((k .east + γ′) * circle) (k .a) % circle) half (near (t .v * circle) (k .a) % circle) half
       (longitude-is k l γ′) (t .lon-is) (ap (λ (n : ℕ). n + half) (same-longitude (k .a) (t .v) (k .east) (l .columns) (east-high k l) γ′ refl)))

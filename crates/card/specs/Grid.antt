@@ -5,7 +5,7 @@
 --     inTiles k r c, inChart k r c     the pixel is one of the card's tiles, of its chart rectangle
 --     placeOf, positionOf, pixelOf     what the methods `place`, `position`, `pixel` answer
 --     verdictOf, extentsOf             what `judge_pixel` and `extents` answer
-use Prim.Native.Nat.{ℕ, _*_}
+use Prim.Native.Nat.{_*_}
 use mathlib.Core.Bool.{Bool, cond, _&&_}
 use mathlib.Core.List.{[], _∷_}
 use lib.IntN.{ℤ, pos, _+ℤ_, _-ℤ_, _*ℤ_}

@@ -7,7 +7,7 @@
 --     onCard x f g           a question on a card as it was read: reading's refusal first, then the question's own answer
 use mathlib.Core.Path.{_≡_}
 use Prim.Native.Nat.{ℕ, _+_, _*_, _/_}
-use mathlib.Core.List.{List, []}
+use mathlib.Core.List.{List}
 use mathlib.Core.Bool.{Bool, false, cond, _&&_}
 use mathlib.Core.Option.{Option, some, none}
 use lib.Dec.{eqb}

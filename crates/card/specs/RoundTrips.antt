@@ -8,7 +8,6 @@ use mathlib.Core.List.{List}
 use lib.ListN.{length, take}
 use Rattle.arc.specs.declared.Verdict.{Verdict}
 use Rattle.card.specs.declared.Card.{Card}
-use Rattle.card.specs.declared.Reading.{Reading}
 use Rattle.card.specs.declared.Record.{Record}
 use Rattle.card.specs.Read.{readOf, acceptedCard}
 use Rattle.card.specs.Write.{writeOf, outOf}

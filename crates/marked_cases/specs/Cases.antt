@@ -9,7 +9,6 @@ use Prim.Native.Nat.{ℕ}
 use lib.IntN.{ℤ, pos, negℤ}
 use lib.ListN.{take}
 use Rattle.arc.specs.declared.SpacingAnswer.{SpacingAnswer}
-use Rattle.arc.specs.Refusals.{Report}
 use Rattle.arc.specs.Spacing.{spacingOf, spacingReport, rowsOf, constantReport}
 use Rattle.zones.specs.Basic.{basicZoneOf, zoneReport}
 use Rattle.zones.specs.Cover.{coverOf, coverReport}

@@ -2,7 +2,7 @@
 -- From a spacing to a finer one and back is the same number again. Assumes nothing.
 use mathlib.Core.Path.{_≡_, sym, ap, _∙_}
 use Prim.Native.Nat.{ℕ, _+_, _*_, _/_, _%_, _≤_, _<_}
-use native.Mathlib.Nat.{add-mul, mul-assoc, mul-left-comm, add-mul-mod-self-right, div-eq-of-lt-le, div-add-mod', lt-div-mul-add}
+use native.Mathlib.Nat.{add-mul, mul-assoc, mul-left-comm, add-mul-mod-self-right, add-mul-div-right, div-eq-of-lt-le, div-add-mod', lt-div-mul-add}
 use native.Mathlib.Nat.{div-mul-le-self, lt-of-mul-lt-mul-right}
 use native.Mathlib.Omega.{arith}
 use lib.IntN.{ℤ, pos, _+ℤ_, _*ℤ_}
@@ -44,17 +44,23 @@ module _ (d : ℕ) (hd : 0 < d) where
       (is-add (pos 2 *ℤ x) (pos d) (2 * a) (2 * (k * d)) d 0 (is-lmul x 2 a (k * d) p) (is-nat d))
       (omega (arith, twice k)))
 
--- there to the finer spacing e, and back
-pub round-trip : (d e : ℕ) → 0 < d → d < e → (v : ℕ) → near (near (v * e) d * d) e ≡ v
-round-trip d e hd finer v =
-    let low : 2 * (near (v * e) d * d) ≤ 2 * (v * e) + d = near-low d hd (v * e) in
-    let high : 2 * (v * e) < 2 * (near (v * e) d * d) + d = near-high d hd (v * e) in
-    near-is e (omega arith) (near (v * e) d * d) v (omega arith) (omega arith)
+-- there to the finer spacing e, o past step v, and back to that step: to the nearest where o is 0 and t is e, to the floor where o is
+-- half of e and t is 0
+pub trip : (d e o t : ℕ) → 0 < d → d < e → 2 * o + t ≡ e → (v x : ℕ) → x ≡ v * e + o → (2 * (near x d * d) + t) / (2 * e) ≡ v
+trip d e o t hd finer h v x at =
+    let low : 2 * (near x d * d) ≤ 2 * x + d = near-low d hd x in
+    let high : 2 * x < 2 * (near x d * d) + d = near-high d hd x in
+    let two : v * (2 * e) ≡ 2 * (v * e) = mul-left-comm v 2 e in
+    div-eq-of-lt-le (2 * e) (omega arith) (omega (arith, add-mul v 1 (2 * e)))
 
--- to reduce x modulo a d first changes nothing modulo a
-pub near-modulo : (a d : ℕ) → 0 < d → (x : ℕ) → near (x % (a * d)) d % a ≡ near x d % a
-near-modulo a d h x =
-    sym (add-mul-mod-self-right (near (x % (a * d)) d) (x / (a * d)) a)
+pub round-trip : (d e : ℕ) → 0 < d → d < e → (v : ℕ) → near (near (v * e) d * d) e ≡ v
+unfolding near
+round-trip d e hd finer v = trip d e 0 e hd finer (omega arith) v (v * e) (omega arith)
+
+-- to reduce x modulo a d first changes no floor modulo a, whatever is added before the division
+pub floor-modulo : (a d t : ℕ) → 0 < d → (x : ℕ) → (x % (a * d) + t) / d % a ≡ (x + t) / d % a
+floor-modulo a d t h x =
+    sym (add-mul-mod-self-right ((x % (a * d) + t) / d) (x / (a * d)) a)
     ∙ ap (λ (n : ℕ). n % a)
-    (sym (near-shift d h (x % (a * d)) (x / (a * d) * a))
-    ∙ ap (λ (n : ℕ). near n d) (omega (arith, div-add-mod' x (a * d), mul-assoc (x / (a * d)) a d)))
+    (sym (add-mul-div-right (x % (a * d) + t) (x / (a * d) * a) h)
+    ∙ ap (λ (n : ℕ). n / d) (omega (arith, div-add-mod' x (a * d), mul-assoc (x / (a * d)) a d)))
