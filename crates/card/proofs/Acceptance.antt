@@ -11,7 +11,7 @@ use lib.IntN.{ℤ}
 use Rattle.arc.specs.declared.Refusal.{Refusal}
 use Rattle.arc.specs.declared.Verdict.{Verdict}
 use Rattle.arc.specs.declared.SpacingAnswer.{SpacingAnswer}
-use Rattle.arc.specs.Refusals.{refusal}
+use Rattle.arc.specs.Refusals.{refusal, onVerdict}
 use Rattle.arc.specs.Zones.{isPolar}
 use Rattle.arc.specs.Spacing.{spacingOf}
 use Rattle.arc.proofs.Answered.{answered-grids}
@@ -20,7 +20,7 @@ use Rattle.card.specs.declared.Reading.{Reading}
 use Rattle.text.specs.Text.{angleOf}
 use Rattle.card.specs.Layout.{ARV, BRV, LSO, PSO, NUL, NUS, NLL, NLS, NFL, NFC, layout, bytesOf, walk}
 use Rattle.card.specs.Extents.{extentsHold}
-use Rattle.card.specs.Read.{tileStoring, numberIn, cardOf, acceptedCard, refusedCard, withOrigin, withValues, afterWalk, readIn, readOf, Accepted}
+use Rattle.card.specs.Read.{tileStoring, numberIn, cardOf, acceptedCard, refusedCard, withOrigin, withValues, readIn, readOf, Accepted}
 use Rattle.card.proofs.Found.{Stores, stores-tile}
 
 -- the tests on the bytes
@@ -94,7 +94,7 @@ module _ (scale zone : ℕ) (s : List ℕ) (k : Card) where
       → isPolar zone ≡ p → eqb (length s) 98 ≡ w
       → walk layout s ≡ v → constantsIn a b s ≡ c
       → cond p (refusedCard (refusal 3))
-      (cond w (afterWalk v (cond c (withOrigin scale zone a b s (rowTile b s) (columnTile a s)) (refusedCard (refusal 9)))) (refusedCard (refusal 6)))
+      (cond w (onVerdict v refusedCard (cond c (withOrigin scale zone a b s (rowTile b s) (columnTile a s)) (refusedCard (refusal 9)))) (refusedCard (refusal 6)))
       ≡ acceptedCard k
       → ReadTo scale zone s k
   by-tests a b sp true w c v po wh ju co e = never (refusal 3) k e

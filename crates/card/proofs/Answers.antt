@@ -13,7 +13,7 @@ use Rattle.whole.proofs.Signed.{Is, is-difference, is-unique}
 use Rattle.whole.proofs.Machine.{casts}
 use Rattle.arc.specs.declared.Refusal.{Refusal}
 use Rattle.arc.specs.declared.Verdict.{Verdict}
-use Rattle.arc.specs.Refusals.{refusal}
+use Rattle.arc.specs.Refusals.{refusal, onVerdict}
 use Rattle.card.specs.declared.Card.{Card}
 use Rattle.card.specs.Grid.{inTiles, inChart, verdictOf}
 use Rattle.card.proofs.Regions.{Within}
@@ -26,31 +26,27 @@ result-is {r} f e = toZ-ofZ w64 r (record { sfits = f }) ∙ e
 pub told : {r k : ℤ} (n t : ℕ) → mag r < 2 ^ 63 → r ≡ pos n -ℤ pos t → Is k n t → toZ w64 (ofZ w64 r) ≡ k
 told {r} {k} n t f d e = result-is f (d ∙ is-unique (pos n -ℤ pos t) k n t (is-difference n t) e)
 
--- ---- a pixel's verdict, asked of what the machine holds
-abbrev verdict-by : Bool → Bool → Verdict
-verdict-by i j = cond i (cond j Verdict.Accepted (Verdict.Refused (refusal 13))) (Verdict.Refused (refusal 12))
+-- a pixel that is accepted passed both tests
+pub accepted-in : (k : Card) (r c : ℤ) → verdictOf k r c ≡ Verdict.Accepted → (inTiles k r c ≡ true) × (inChart k r c ≡ true)
+accepted-in k r c = go (inTiles k r c) (inChart k r c)
+  where
+    go : (i j : Bool) → cond i (cond j Verdict.Accepted (Verdict.Refused (refusal 13))) (Verdict.Refused (refusal 12)) ≡ Verdict.Accepted
+        → (i ≡ true) × (j ≡ true)
+    go true true e = (refl, refl)
+    go true false e = let y : _≡_ {A = ℕ} 0 1 = cc in absurd (omega arith)
+    go false j e = let y : _≡_ {A = ℕ} 0 1 = cc in absurd (omega arith)
 
+-- ---- a pixel's verdict, asked of what the machine holds
 module _ (k : Card) (r c : ℤ) (f : SFits w64 r) (g : SFits w64 c) {v : Verdict} (e : v ≡ verdictOf k (toZ w64 (ofZ w64 r)) (toZ w64 (ofZ w64 c))) where
-  plain-verdict : verdict-by (inTiles k r c) (inChart k r c) ≡ v
-  plain-verdict = sym (e ∙ ap₂ (verdictOf k) (toZ-ofZ w64 r f) (toZ-ofZ w64 c g))
+  plain-verdict : v ≡ verdictOf k r c
+  plain-verdict = e ∙ ap₂ (verdictOf k) (toZ-ofZ w64 r f) (toZ-ofZ w64 c g)
 
   -- a question that asks the same of the pixel has the same refusal
-  pub judged-refused : {A : Type 0} (F : Refusal → A) (x : A) {n : Refusal} → v ≡ Verdict.Refused n
-      → F n ≡ cond (inTiles k r c) (cond (inChart k r c) x (F (refusal 13))) (F (refusal 12))
-  judged-refused {A} F x {n} o = go (inTiles k r c) (inChart k r c) (plain-verdict ∙ o)
-    where
-      go : (i j : Bool) → verdict-by i j ≡ Verdict.Refused n → F n ≡ cond i (cond j x (F (refusal 13))) (F (refusal 12))
-      go true true p = let y : _≡_ {A = ℕ} 0 1 = cc in absurd (omega arith)
-      go true false p = let q : n ≡ refusal 13 = cc in ap F q
-      go false j p = let q : n ≡ refusal 12 = cc in ap F q
+  pub judged-refused : {A : Type 0} (F : Refusal → A) (x : A) {n : Refusal} → v ≡ Verdict.Refused n → F n ≡ onVerdict (verdictOf k r c) F x
+  judged-refused F x o = ap (λ (w : Verdict). onVerdict w F x) (sym o ∙ plain-verdict)
 
   pub judged-accepted : v ≡ Verdict.Accepted → (inTiles k r c ≡ true) × (inChart k r c ≡ true)
-  judged-accepted o = go (inTiles k r c) (inChart k r c) (plain-verdict ∙ o)
-    where
-      go : (i j : Bool) → verdict-by i j ≡ Verdict.Accepted → (i ≡ true) × (j ≡ true)
-      go true true p = (refl, refl)
-      go true false p = let y : _≡_ {A = ℕ} 0 1 = cc in absurd (omega arith)
-      go false j p = let y : _≡_ {A = ℕ} 0 1 = cc in absurd (omega arith)
+  judged-accepted o = accepted-in k r c (sym plain-verdict ∙ o)
 
 -- a test of two numbers, likewise
 pub tested : (P : ℤ → ℤ → Bool) (r c : ℤ) → SFits w64 r → SFits w64 c → {x t : Bool}

@@ -2,7 +2,7 @@
 -- trip of each axis), so that card's two tests decide what it answers, and the same place has the same two numbers again.
 -- Then by induction down the list. Assumes nothing.
 use mathlib.Core.Path.{_≡_, refl, sym, ap, ap₂, _∙_, subst, subst⁻¹, subst₂}
-use mathlib.Core.Bool.{Bool, true, false, cond}
+use mathlib.Core.Bool.{Bool, true, false, false≢true}
 use mathlib.Core.List.{List, [], _∷_}
 use mathlib.Core.Logic.{inl, inr}
 use Prim.Native.Nat.{ℕ, _+_, _-_, _*_, _/_, _%_, _≤_, _<_}
@@ -10,26 +10,24 @@ use native.Mathlib.Nat.{add-mul, mul-right-comm, mod-add-mod, mod-mod, mod-eq-of
 use native.Mathlib.Omega.{arith}
 use lib.IntN.{ℤ, pos, subℕ, _+ℤ_, _*ℤ_}
 use Rattle.whole.specs.Whole.{near, nearest, outside}
-use Rattle.whole.proofs.Signed.{Is, over, under, is-parts, is-same, is-equal, equal-is, is-sub, is-add, is-minus, is-mul, is-size, inside-size}
+use Rattle.whole.proofs.Signed.{Is, over, under, is-parts, is-same, is-equal, equal-is, is-sub, is-add, is-minus, is-mul}
 use Rattle.whole.proofs.Near.{near-le, near-shift}
-use Rattle.arc.specs.Refusals.{refusal}
+use Rattle.arc.specs.declared.Verdict.{Verdict}
+use Rattle.arc.specs.Refusals.{refusal, onVerdict}
 use Rattle.arc.specs.Zones.{circle, half, quarter}
 use Rattle.arc.specs.Spacing.{Grid}
-use Rattle.origin.proofs.Line.{Line, angle-is, angle-close}
+use Rattle.origin.proofs.Line.{is-inside, Line, angle-is, angle-close}
 use Rattle.card.specs.declared.Card.{Card}
 use Rattle.card.specs.declared.PositionAnswer.{PositionAnswer}
 use Rattle.card.specs.declared.PixelAnswer.{PixelAnswer}
 use Rattle.card.specs.Read.{Accepted}
-use Rattle.card.specs.Grid.{placeRow, placeColumn, inTiles, inChart, latitudeOf, longitudeOf, rowOf, columnOf, positionOf, pixelOf}
+use Rattle.card.specs.Grid.{placeRow, placeColumn, inTiles, inChart, verdictOf, latitudeOf, longitudeOf, rowOf, columnOf, positionOf, pixelOf}
 use Rattle.card.specs.NoDrift.{HasPlace, TilesHave, ChartHas, Close, Visit, gave, refused, visitWith, visit, latitudeAfter}
 use Rattle.card.specs.NoDrift.{longitudeAfter, visits, Right, Each, Every, NoDriftFrom, NoDrift}
 use Rattle.card.proofs.Laid.{Laid, accepted-laid, same-spacing}
 use Rattle.card.proofs.Line.{rows-line}
 use Rattle.card.proofs.Axes.{north-is, north-high, east-high, down-high, row-is, column-place, latitude-is, longitude-is, row-back, column-back}
 use Rattle.card.proofs.Regions.{Within, tiles-inside, chart-tiles}
-
-refute : {A : Type 0} → _≡_ {A = Bool} false true → A
-refute e = let x : _≡_ {A = ℕ} 0 1 = cc in absurd (omega arith)
 
 -- ---- columns round the circle, in naturals: v and s columns from 180° west
 
@@ -82,12 +80,11 @@ record Thread (a b : ℕ) (u w lat lon : ℤ) : Type 0 where
 module _ (a b : ℕ) (u w lat lon : ℤ) (t : Thread a b u w lat lon) where
   lat-inside : outside quarter lat ≡ false
   lat-inside =
-      let high : near (t .y * circle) b ≤ 64800000 =
-      near-le b (omega (arith, t .rows .some)) (t .y * circle) 64800000 (omega (arith, t .y-high, t .rows .some)) in
-      inside-size quarter lat _ refl (omega (arith, is-size lat (near (t .y * circle) b) quarter (t .lat-is)))
+      is-inside lat (near (t .y * circle) b) quarter (t .lat-is)
+      (near-le b (omega (arith, t .rows .some)) (t .y * circle) 64800000 (omega (arith, t .y-high, t .rows .some)))
 
   lon-inside : outside half lon ≡ false
-  lon-inside = inside-size half lon _ refl (omega (arith, is-size lon (near (t .v * circle) a % circle) half (t .lon-is)))
+  lon-inside = is-inside lon (near (t .v * circle) a % circle) half (t .lon-is) (omega arith)
 
   -- the position is within half a hundredth of the exact place; w is v + A less i + 1/2 times A
   close : Close a b u w lat lon
@@ -200,41 +197,33 @@ module _ (u w lat lon : ℤ) (k : Card) (l : Laid k) (t : Thread (k .a) (k .b) u
       let i = tiles-inside k (h .r) (h .c) (chart-tiles k (h .r) (h .c) l (h .within)) in
       ap₂ (inChart k) (sym (row-of-place (h .r) (h .at .row))) (sym (column-of-place (h .c) (i .column) (h .at .column))) ∙ h .within
 
-  -- what the card answers, by the two tests
-  abbrev found : Bool → Bool → PixelAnswer
-  found i c = cond i (cond c (PixelAnswer.At ρ γ) (PixelAnswer.Refused (refusal 13))) (PixelAnswer.Refused (refusal 12))
-
-  abbrev placed : Bool → Bool → PositionAnswer
-  placed i c =
-      cond i (cond c (PositionAnswer.At (latitudeOf k ρ) (longitudeOf k γ)) (PositionAnswer.Refused (refusal 13)))
-      (PositionAnswer.Refused (refusal 12))
-
-  answers : (i c : Bool) → inTiles k ρ γ ≡ i → inChart k ρ γ ≡ c → visit k lat lon ≡ visitWith k (found i c)
+  -- what the card answers, by its verdict
+  answers : (v : Verdict) → verdictOf k ρ γ ≡ v → visit k lat lon ≡ visitWith k (onVerdict v PixelAnswer.Refused (PixelAnswer.At ρ γ))
   unfolding pixelOf ρ γ
-  answers i c ei ec = rw (lat-inside (k .a) (k .b) u w lat lon t, lon-inside (k .a) (k .b) u w lat lon t) (ap (visitWith k) (ap₂ found ei ec))
+  answers v e = rw (lat-inside (k .a) (k .b) u w lat lon t, lon-inside (k .a) (k .b) u w lat lon t, e)
 
   go : (i c : Bool) → inTiles k ρ γ ≡ i → inChart k ρ γ ≡ c → Step u w lat lon k
   unfolding positionOf
   go false c ei ec =
       record {
         does = refused (refusal 12);
-        visited = answers false c ei ec;
-        right = ((λ h. refute (sym ei ∙ chart-tiles k ρ γ l (chart-decide h))), inl (refl, λ h. refute (sym ei ∙ tiles-decide h)));
+        visited = answers (Verdict.Refused (refusal 12)) (rw ei);
+        right = ((λ h. false≢true (sym ei ∙ chart-tiles k ρ γ l (chart-decide h))), inl (refl, λ h. false≢true (sym ei ∙ tiles-decide h)));
         latitude-kept = refl;
         longitude-kept = refl;
       }
   go true false ei ec =
       record {
         does = refused (refusal 13);
-        visited = answers true false ei ec;
-        right = ((λ h. refute (sym ec ∙ chart-decide h)), inr (refl, record { r = ρ; c = γ; within = ei; at = at-place }));
+        visited = answers (Verdict.Refused (refusal 13)) (rw (ei, ec));
+        right = ((λ h. false≢true (sym ec ∙ chart-decide h)), inr (refl, record { r = ρ; c = γ; within = ei; at = at-place }));
         latitude-kept = refl;
         longitude-kept = refl;
       }
   go true true ei ec =
       record {
         does = gave ρ γ (PositionAnswer.At lat lon);
-        visited = answers true true ei ec ∙ ap (gave ρ γ) (ap₂ placed ei ec ∙ back);
+        visited = answers Verdict.Accepted (rw (ei, ec)) ∙ ap (gave ρ γ) (rw (ei, ec) back);
         right = (ec, at-place, refl);
         latitude-kept = refl;
         longitude-kept = refl;

@@ -12,7 +12,7 @@ use lib.IntN.{ℤ, pos, _+ℤ_, _-ℤ_, _*ℤ_}
 use lib.Signed.{leZ, ltZ}
 use Rattle.whole.specs.Whole.{nearest, modulo, outside}
 use Rattle.arc.specs.declared.Verdict.{Verdict}
-use Rattle.arc.specs.Refusals.{refusal, Report, answered, refusedWith}
+use Rattle.arc.specs.Refusals.{refusal, Report, answered, refusedWith, onVerdict}
 use Rattle.arc.specs.Zones.{circle, half, quarter}
 use Rattle.card.specs.declared.Card.{Card}
 use Rattle.card.specs.declared.Extents.{Extents}
@@ -76,17 +76,11 @@ placeOf k r c = cond (inTiles k r c) (PlaceAnswer.At (placeRow k r) (placeColumn
 
 -- 12, 13
 unfoldable pub positionOf : Card → ℤ → ℤ → PositionAnswer
-positionOf k r c =
-    cond (inTiles k r c)
-    (cond (inChart k r c) (PositionAnswer.At (latitudeOf k r) (longitudeOf k c)) (PositionAnswer.Refused (refusal 13)))
-    (PositionAnswer.Refused (refusal 12))
+positionOf k r c = onVerdict (verdictOf k r c) PositionAnswer.Refused (PositionAnswer.At (latitudeOf k r) (longitudeOf k c))
 
 -- 12, 13, for the pixel found
 abbrev pub pixelAt : Card → ℤ → ℤ → PixelAnswer
-pixelAt k r c =
-    cond (inTiles k r c)
-    (cond (inChart k r c) (PixelAnswer.At r c) (PixelAnswer.Refused (refusal 13)))
-    (PixelAnswer.Refused (refusal 12))
+pixelAt k r c = onVerdict (verdictOf k r c) PixelAnswer.Refused (PixelAnswer.At r c)
 
 -- 4, 5, 12, 13
 unfoldable pub pixelOf : Card → ℤ → ℤ → PixelAnswer

@@ -1,5 +1,6 @@
 -- The image card's subfields, row for row, and what is refused in one (002, 3.17.1; 01, "The image card, 98 bytes"). Definitions only.
---     sub at width kind      a subfield: its offset, its width, what may stand in it
+--     Kind                   what may stand in a subfield
+--     Subfield, sub at width kind    a subfield: its offset, its width, what may stand in it
 --     STR .. TIF             the subfields, by the standard's tags
 --     layout                 all of them, left to right
 --     judgeField f s         7 before 8 in each, the subfield's offset as place
@@ -10,11 +11,20 @@ use mathlib.Core.Bool.{Bool, true, cond, _&&_}
 use lib.Dec.{leb}
 use lib.ListN.{getD}
 use Rattle.arc.specs.declared.Verdict.{Verdict}
-use Rattle.arc.specs.Refusals.{refusalAt}
-use Rattle.card.specs.declared.Kind.{Kind}
-use Rattle.card.specs.declared.Kind.the-variants.{Number, Angle, Name, Flag}
-use Rattle.card.specs.declared.Subfield.{Subfield}
+use Rattle.arc.specs.Refusals.{refusalAt, onVerdict}
 use Rattle.text.specs.Text.{part, isDigit, all, number, angleLaid, angleValid, nameLaid, isFlag}
+
+-- digits from low to high; so many digits of degrees and the rest of an angle, within a limit; a file's name; Y or N
+pub data Kind : Type 0 where
+  Number : ℕ → ℕ → Kind
+  Angle : ℕ → ℕ → Kind
+  Name : Kind
+  Flag : Kind
+
+pub record Subfield : Type 0 where
+  pub at : ℕ
+  pub width : ℕ
+  pub kind : Kind
 
 abbrev pub sub : ℕ → ℕ → Kind → Subfield
 sub o w k = record { at = o; width = w; kind = k }
@@ -121,8 +131,7 @@ judgeField f s = judge (rightKind (f .kind) (bytesOf f s)) (rightValue (f .kind)
 
 -- the first of two that refuses
 abbrev pub orElse : Verdict → Verdict → Verdict
-orElse Verdict.Accepted v = v
-orElse (Verdict.Refused r) v = Verdict.Refused r
+orElse v w = onVerdict v Verdict.Refused w
 
 abbrev pub walk : List Subfield → List ℕ → Verdict
 walk [] s = Verdict.Accepted

@@ -24,9 +24,8 @@ use Rattle.arc.specs.Spacing.{spacingOf}
 use Rattle.origin.specs.Origin.{storedAngle}
 use Rattle.card.specs.declared.Card.{Card}
 use Rattle.card.specs.declared.Reading.{Reading}
-use Rattle.card.specs.declared.Subfield.{Subfield}
 use Rattle.text.specs.Text.{number, angleOf}
-use Rattle.card.specs.Layout.{ARV, BRV, LSO, PSO, NUL, NUS, NLL, NLS, NFL, NFC, BAD, TIF, layout, bytesOf, walk}
+use Rattle.card.specs.Layout.{Subfield, ARV, BRV, LSO, PSO, NUL, NUS, NLL, NLS, NFL, NFC, BAD, TIF, layout, bytesOf, walk}
 use Rattle.card.specs.Extents.{extentsHold}
 
 abbrev pub equalℤ : ℤ → ℤ → Bool
@@ -110,16 +109,11 @@ withValues scale zone a b s =
     (withOrigin scale zone a b s (tileStoring b (b / 512) (angleOf 2 (bytesOf PSO s))) (tileStoring a (a / 256) (angleOf 3 (bytesOf LSO s))))
     (refusedCard (refusal 9))
 
--- 7, 8, then these
-abbrev pub afterWalk : Verdict → Reading → Reading
-afterWalk Verdict.Accepted r = r
-afterWalk (Verdict.Refused e) r = refusedCard e
-
--- 3, 6, then these
+-- 3, 6, then 7, 8, then these
 unfoldable pub readIn : ℕ → ℕ → SpacingAnswer → List ℕ → Reading
 readIn scale zone (SpacingAnswer.Constants a b) s =
     cond (isPolar zone) (refusedCard (refusal 3))
-    (cond (eqb (length s) 98) (afterWalk (walk layout s) (withValues scale zone a b s)) (refusedCard (refusal 6)))
+    (cond (eqb (length s) 98) (onVerdict (walk layout s) refusedCard (withValues scale zone a b s)) (refusedCard (refusal 6)))
 readIn scale zone (SpacingAnswer.Refused r) s = refusedCard r
 
 -- 1, 2, then these

@@ -17,11 +17,10 @@ use Rattle.arc.specs.declared.SpacingAnswer.{SpacingAnswer}
 use Rattle.arc.specs.Refusals.{refusal, refusalAt}
 use Rattle.arc.specs.Zones.{isPolar}
 use Rattle.arc.specs.Spacing.{spacingOf}
-use Rattle.origin.specs.Origin.{storedAngle}
-use Rattle.card.specs.declared.Subfield.{Subfield}
+use Rattle.origin.specs.Origin.{storedAngle, onGrid}
 use Rattle.card.specs.declared.Record.{Record}
-use Rattle.card.specs.Layout.{NFL, NFC, BAD, layout, orElse}
-use Rattle.card.specs.Extents.{onGrid, extentsHold}
+use Rattle.card.specs.Layout.{Subfield, NFL, NFC, BAD, layout, orElse}
+use Rattle.card.specs.Extents.{extentsHold}
 
 pub data Value : Type 0 where
   counted : ℕ → Value

@@ -16,20 +16,6 @@ pub use range::Ranged;
 pub use range::RangedParts;
 pub use range::count_position;
 
-// What may stand in a subfield (01, "The image card, 98 bytes").
-pub enum Kind {
-    Number { low: u64, high: u64 },
-    Angle { degrees: usize, limit: u64 },
-    Name,
-    Flag,
-}
-
-pub struct Subfield {
-    pub at: usize,
-    pub width: usize,
-    pub kind: Kind,
-}
-
 // The value of an accepted card. "Card" and "chart" are document 01's words.
 pub struct Card {
     pub scale: u64,

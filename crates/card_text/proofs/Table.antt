@@ -8,8 +8,8 @@ use native.Mathlib.Nat.{not-suc-le-zero, le-of-suc-le-suc}
 use native.Mathlib.Omega.{arith}
 use lib.ListN.{length, getD}
 use Rattle.arc.specs.declared.Verdict.{Verdict}
-use Rattle.card.specs.declared.Kind.the-variants.{Number}
-use Rattle.card.specs.declared.Subfield.{Subfield}
+use Rattle.card.specs.Layout.{Number}
+use Rattle.card.specs.Layout.{Subfield}
 use Rattle.card.specs.Layout.{sub, layout, bytesOf, rightKind, rightValue, judge, judgeField, orElse, walk}
 use Rattle.card_text.specs.StepsFields.{valueOf, valueIn, valuesIn, fieldOf, FieldAt}
 use Rattle.card_text.specs.declared.fields.Field.{Field}

@@ -17,7 +17,8 @@ use Rattle.arc.specs.Refusals.{refusal}
 use Rattle.card.specs.declared.Record.{Record}
 use Rattle.text.specs.Text.{nameLaid}
 use Rattle.card.specs.Layout.{orElse}
-use Rattle.card.specs.Extents.{onGrid, extentsHold}
+use Rattle.origin.specs.Origin.{onGrid}
+use Rattle.card.specs.Extents.{extentsHold}
 use Rattle.card.specs.Write.{test, first, recordTests}
 use Rattle.card_text.specs.StepsRead.{extentsAt}
 use Rattle.card_text.specs.StepsWrite.{Narrow, countTests}

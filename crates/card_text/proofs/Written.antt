@@ -17,7 +17,7 @@ use Rattle.arc.specs.Spacing.{Grid}
 use Rattle.origin.specs.Origin.{storedAngle}
 use Rattle.origin.proofs.Axis.{latitudes, longitudes, stored-is}
 use Rattle.card.specs.declared.Record.{Record}
-use Rattle.card.specs.declared.Subfield.{Subfield}
+use Rattle.card.specs.Layout.{Subfield}
 use Rattle.card.specs.Layout.{layout}
 use Rattle.card.specs.Write.{Value, counted, angle, named, flagged, textOf, written, valuesOf, cardText}
 use Rattle.text.specs.Text.{angleText}

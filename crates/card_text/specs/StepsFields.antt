@@ -13,9 +13,9 @@ use mathlib.Core.Bool.{Bool, true, cond}
 use lib.Dec.{eqb}
 use lib.ListN.{getD}
 use Rattle.arc.specs.declared.Verdict.{Verdict}
-use Rattle.card.specs.declared.Kind.{Kind}
-use Rattle.card.specs.declared.Kind.the-variants.{Number, Angle, Name, Flag}
-use Rattle.card.specs.declared.Subfield.{Subfield}
+use Rattle.card.specs.Layout.{Kind}
+use Rattle.card.specs.Layout.{Number, Angle, Name, Flag}
+use Rattle.card.specs.Layout.{Subfield}
 use Rattle.text.specs.Text.{isDigit, all, number, minus, angleSize}
 use Rattle.card.specs.Layout.{layout, bytesOf, judge, judgeField, orElse, walk}
 use Rattle.card_text.specs.declared.digits.Digits.{Digits}

@@ -16,7 +16,7 @@ use Rattle.whole.specs.Whole.{near}
 use Rattle.arc.specs.declared.SpacingAnswer.{SpacingAnswer}
 use Rattle.arc.specs.declared.Verdict.{Verdict}
 use Rattle.card.specs.declared.Record.{Record}
-use Rattle.card.specs.declared.Subfield.{Subfield}
+use Rattle.card.specs.Layout.{Subfield}
 use Rattle.text.specs.Text.{nameLaid}
 use Rattle.text.specs.Steps.{splice}
 use Rattle.card.specs.Layout.{NFL, NFC, BAD}

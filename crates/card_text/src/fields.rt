@@ -5,7 +5,7 @@ use arc::Verdict;
 ghost use mathlib.Core.Path.{_≡_};
 ghost use Prim.Native.Nat.{_+_, _<_, _≤_};
 ghost use lib.ListN.{length};
-ghost use Rattle.card.specs.declared.Kind.{Kind};
+ghost use Rattle.card.specs.Layout.{Kind};
 ghost use Rattle.text.specs.Text.{part};
 ghost use Rattle.card.specs.Layout.{sub, judge, orElse};
 ghost use Rattle.card_text.specs.StepsFields.{shifted, DigitsOf, fieldOf, FieldAt, FieldsOf};

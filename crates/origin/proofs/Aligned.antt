@@ -1,14 +1,15 @@
 -- What an origin is held to: n and m are the ceiling and the floor that the paper states, and neither leaves the axis. Assumes nothing.
-use mathlib.Core.Path.{_≡_, refl}
-use Prim.Native.Nat.{ℕ, _*_, _≤_}
+use mathlib.Core.Path.{_≡_, refl, ap₂}
+use mathlib.Core.Bool.{Bool, not, _&&_}
+use Prim.Native.Nat.{ℕ, _*_, _/_}
 use native.Mathlib.Omega.{arith}
-use lib.IntN.{ℤ, pos, negℤ, _*ℤ_}
-use lib.Signed.{_≤ℤ_}
+use lib.IntN.{ℤ, pos, _*ℤ_}
 use Rattle.whole.specs.Whole.{raise}
-use Rattle.whole.proofs.Signed.{Is, is-equal, is-parts, over, under, is-nat, is-neg, is-mul, is-le, is-raise, raise-high}
+use Rattle.whole.proofs.Signed.{is-equal, is-parts, over, under, is-mul, is-raise, raise-high}
 use Rattle.whole.proofs.Held.{floors, ceils}
 use Rattle.arc.specs.Zones.{circle, half, quarter, tile}
-use Rattle.origin.specs.Origin.{originOf, AlignedIs, AlignedOnGrid}
+use Rattle.origin.specs.Origin.{rowTiles, columnTiles, originOf, AlignedIs, AlignedOnGrid}
+use Rattle.origin.proofs.Line.{is-inside}
 use Rattle.origin.proofs.Axis.{tileAngle, is-tiles, latitudes, longitudes, row-is, row-high, column-is, column-high}
 
 -- 128 × k × H as the quotients' laws write it
@@ -29,23 +30,13 @@ aligned a b lat lon =
       lso-stored = refl;
     }
 
--- a number from 0 to 2 t, less t
-low : (k : ℤ) (n t : ℕ) → Is k n t → negℤ (pos t) ≤ℤ k
-low k n t e = is-le (negℤ (pos t)) k 0 t n t (is-neg (pos t) t 0 (is-nat t)) e (omega arith)
-
-high : (k : ℤ) (n t : ℕ) → Is k n t → n ≤ 2 * t → k ≤ℤ pos t
-high k n t e h = is-le k (pos t) n t t 0 e (is-nat t) (omega arith)
-
 pub aligned-on-grid : AlignedOnGrid
 unfolding originOf
 aligned-on-grid a b ga gb lat lon p q =
     let north : ℕ = raise quarter lat in
     let east : ℕ = raise half lon in
-    let n = row-is (latitudes b gb) lat north (is-raise quarter lat p) in
-    let m = column-is (longitudes a ga) lon east (is-raise half lon q) in
-    record {
-      n-low = low _ _ _ n;
-      n-high = high _ _ _ n (row-high (latitudes b gb) north (raise-high quarter lat p));
-      m-low = low _ _ _ m;
-      m-high = high _ _ _ m (column-high (longitudes a ga) east (raise-high half lon q));
-    }
+    let rows = latitudes b gb in
+    let columns = longitudes a ga in
+    ap₂ (λ (x y : Bool). not x && not y)
+    (is-inside (rowTiles b lat) _ (b / 512) (row-is rows lat north (is-raise quarter lat p)) (row-high rows north (raise-high quarter lat p)))
+    (is-inside (columnTiles a lon) _ (a / 256) (column-is columns lon east (is-raise half lon q)) (column-high columns east (raise-high half lon q)))

@@ -1,15 +1,20 @@
 -- Laws of one line of the zone grid, rows or columns: x pixels go round the circle, and l hundredths are t units, by which the code
 -- counts from below. The unit u is H to a pixel, 128 H to a tile. That shift is exact, so the code's quotients are the signed ones.
 -- Assumes nothing.
-use mathlib.Core.Path.{_≡_, ap, _∙_}
+use mathlib.Core.Path.{_≡_, refl, ap, _∙_}
+use mathlib.Core.Bool.{false}
 use Prim.Native.Nat.{ℕ, _+_, _*_, _/_, _%_, _≤_, _<_}
 use native.Mathlib.Nat.{add-mul, mul-right-comm}
 use native.Mathlib.Omega.{arith}
 use lib.IntN.{ℤ, pos, natAbs, _-ℤ_, _*ℤ_}
-use Rattle.whole.specs.Whole.{near, nearest}
-use Rattle.whole.proofs.Signed.{Is, is-same, is-minus, is-mul, is-size}
+use Rattle.whole.specs.Whole.{near, nearest, outside}
+use Rattle.whole.proofs.Signed.{Is, is-same, is-minus, is-mul, is-size, inside-size}
 use Rattle.whole.proofs.Near.{near-low, near-high, is-nearest, trip}
 use Rattle.arc.specs.Zones.{circle, half}
+
+-- counted from t below zero, and no more than t above
+pub is-inside : (k : ℤ) (n t : ℕ) → Is k n t → n ≤ 2 * t → outside t k ≡ false
+is-inside k n t e h = inside-size t k (natAbs k) refl (omega (arith, is-size k n t e))
 
 pub record Line (u x t l : ℕ) : Type 0 where
   pub some : 0 < x

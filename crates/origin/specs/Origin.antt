@@ -7,11 +7,12 @@
 --     storedAngle x k    the nearest hundredth to 128 × k × H / x, x being A or B
 --     originOf a b lat lon     the origin of an upper left point
 --     alignOf S zone lat lon   what `align` answers: refusals 1, 2, 3, 4, 5
+--     onGrid a b n m     −B/512 ≤ n ≤ B/512 and −A/256 ≤ m ≤ A/256
 use mathlib.Core.Path.{_≡_}
-use mathlib.Core.Bool.{false, cond}
+use mathlib.Core.Bool.{Bool, true, false, cond, not, _&&_}
 use mathlib.Core.List.{[], _∷_}
 use Prim.Native.Nat.{ℕ, _*_, _/_}
-use lib.IntN.{ℤ, pos, negℤ, _*ℤ_}
+use lib.IntN.{ℤ, pos, _*ℤ_}
 use lib.Signed.{_≤ℤ_}
 use Rattle.whole.specs.Whole.{floorDiv, nearest, ceilDiv, outside, Greatest, Smallest}
 use Rattle.arc.specs.declared.SpacingAnswer.{SpacingAnswer}
@@ -75,17 +76,14 @@ abbrev pub AlignedIs : Type 0
 AlignedIs = (a b : ℕ) (lat lon : ℤ) → Aligned a b lat lon (originOf a b lat lon)
 
 -- accepted: −B/512 ≤ n ≤ B/512 and −A/256 ≤ m ≤ A/256
-pub record OnGrid (a b : ℕ) (n m : ℤ) : Type 0 where
-  pub n-low : negℤ (pos (b / 512)) ≤ℤ n
-  pub n-high : n ≤ℤ pos (b / 512)
-  pub m-low : negℤ (pos (a / 256)) ≤ℤ m
-  pub m-high : m ≤ℤ pos (a / 256)
+abbrev pub onGrid : ℕ → ℕ → ℤ → ℤ → Bool
+onGrid a b n m = not (outside (b / 512) n) && not (outside (a / 256) m)
 
 -- alignment never leaves the range
 abbrev pub AlignedOnGrid : Type 0
 AlignedOnGrid =
     (a b : ℕ) → Grid a → Grid b → (lat lon : ℤ) → outside quarter lat ≡ false → outside half lon ≡ false
-    → OnGrid a b (originOf a b lat lon .n) (originOf a b lat lon .m)
+    → onGrid a b (originOf a b lat lon .n) (originOf a b lat lon .m) ≡ true
 
 -- a stored angle fixes its tile
 abbrev pub StoredFixes : Type 0

@@ -3,15 +3,13 @@
 use mathlib.Core.Path.{_≡_, refl, sym, ap, _∙_}
 use mathlib.Core.List.{List}
 use mathlib.Core.Bool.{Bool, true, false, cond}
-use Prim.Native.Nat.{ℕ, _/_, _≤_}
+use Prim.Native.Nat.{ℕ, _≤_}
 use native.Mathlib.Omega.{arith}
 use lib.Dec.{leb}
-use lib.IntN.{ℤ, pos, negℤ, natAbs}
-use lib.Signed.{_≤ℤ_}
+use lib.IntN.{ℤ}
 use lib.ListN.{length, take}
 use borrow.Author.Tests.{le-leb}
 use Rattle.whole.specs.Whole.{outside}
-use Rattle.whole.proofs.Signed.{over, under, is-parts, is-nat, is-neg, is-size, le-is, inside-size}
 use Rattle.arc.specs.declared.SpacingAnswer.{SpacingAnswer}
 use Rattle.arc.specs.Refusals.{refusal}
 use Rattle.arc.specs.Zones.{half, quarter, isPolar}
@@ -19,7 +17,7 @@ use Rattle.arc.specs.Spacing.{spacingOf, Grids}
 use Rattle.arc.proofs.Answered.{answered-grids}
 use Rattle.origin.specs.declared.Origin.{Origin}
 use Rattle.origin.specs.declared.OriginAnswer.{OriginAnswer}
-use Rattle.origin.specs.Origin.{originOf, alignIn, storedAngle, Aligned, OnGrid}
+use Rattle.origin.specs.Origin.{originOf, alignIn, storedAngle, Aligned, onGrid}
 use Rattle.origin.proofs.Aligned.{aligned, aligned-on-grid}
 use Rattle.card.specs.declared.Record.{Record}
 use Rattle.card.specs.Layout.{LSO, PSO, bytesOf}
@@ -30,13 +28,6 @@ use Rattle.round_trip.specs.Aligned.{Fits, Carried, AlignedBack}
 use Rattle.round_trip.proofs.Bytes.{and-both}
 use Rattle.round_trip.proofs.Records.{Good, Writes, is-written, text-out}
 use Rattle.round_trip.proofs.ReadBack.{long, read-back, lso-text, pso-text}
-
--- between −t and t
-inside : (t : ℕ) (k : ℤ) → negℤ (pos t) ≤ℤ k → k ≤ℤ pos t → outside t k ≡ false
-inside t k p q =
-    let low = le-is (negℤ (pos t)) k 0 t (over k) (under k) (is-neg (pos t) t 0 (is-nat t)) (is-parts k) p in
-    let high = le-is k (pos t) (over k) (under k) t 0 (is-parts k) (is-nat t) q in
-    inside-size t k (natAbs k) refl (omega (arith, is-size k (over k) (under k) (is-parts k)))
 
 -- what an answered origin says
 record Answered (zone a b : ℕ) (lat lon : ℤ) (o : Origin) : Type 0 where
@@ -65,7 +56,7 @@ module _
     grids : Grids a b
     grids = answered-grids scale zone a b s
 
-    on-grid : OnGrid a b (o .n) (o .m)
+    on-grid : onGrid a b (o .n) (o .m) ≡ true
     on-grid = rw (n .is-origin) at (aligned-on-grid a b (grids .columns) (grids .rows) lat lon (n .lat-in) (n .lon-in))
 
     angles : Aligned a b lat lon o
@@ -77,8 +68,7 @@ module _
           nfl-in = and-both (leb 1 (r .nfl)) (leb (r .nfl) 999) (le-leb 1 (r .nfl) (f .nfl-least)) (le-leb (r .nfl) 999 (f .nfl-most));
           nfc-in = and-both (leb 1 (r .nfc)) (leb (r .nfc) 999) (le-leb 1 (r .nfc) (f .nfc-least)) (le-leb (r .nfc) 999 (f .nfc-most));
           name-laid = f .bad-laid;
-          n-on = rw (f .at-n) (inside (b / 512) (o .n) (on-grid .n-low) (on-grid .n-high));
-          m-on = rw (f .at-m) (inside (a / 256) (o .m) (on-grid .m-low) (on-grid .m-high));
+          on-grid = rw (f .at-n, f .at-m) on-grid;
           extents-hold = f .extents-hold;
         }
 

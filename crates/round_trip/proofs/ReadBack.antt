@@ -19,11 +19,10 @@ use Rattle.arc.specs.Spacing.{spacingOf, Grid, Grids}
 use Rattle.arc.proofs.Answered.{answered-grids}
 use Rattle.origin.specs.Origin.{storedAngle}
 use Rattle.origin.proofs.Axis.{Axis, latitudes, longitudes}
-use Rattle.card.specs.declared.Subfield.{Subfield}
 use Rattle.card.specs.declared.Card.{Card}
 use Rattle.card.specs.declared.Record.{Record}
 use Rattle.text.specs.Text.{number, angleOf, digits, angleText}
-use Rattle.card.specs.Layout.{STR, ARV, BRV, LSO, PSO, NUL, NUS, NLL, NLS, NFL, NFC, BAD, TIF, layout, bytesOf, walk}
+use Rattle.card.specs.Layout.{Subfield, STR, ARV, BRV, LSO, PSO, NUL, NUS, NLL, NLS, NFL, NFC, BAD, TIF, layout, bytesOf, walk}
 use Rattle.card.specs.Extents.{extentsHold}
 use Rattle.card.specs.Read.{numberIn, tileStoring, cardOf, acceptedCard, withValues, readIn}
 use Rattle.card.specs.Write.{counted, valuesOf, cardText}
@@ -33,7 +32,7 @@ use Rattle.round_trip.proofs.Digits.{number-digits}
 use Rattle.round_trip.proofs.Angles.{angle-of-text}
 use Rattle.round_trip.proofs.Table.{count-held, angle-held, a-name, a-flag, Along, done, _then_, along-at, Held, Text, length-written, texts, walks}
 use Rattle.round_trip.proofs.Tiles.{tile-at, stored-within}
-use Rattle.round_trip.proofs.Records.{extents, Good, sizes, inverted, text-out}
+use Rattle.round_trip.proofs.Records.{extents, Good, n-on, m-on, sizes, inverted, text-out}
 
 -- a tile is found from the text of its stored angle
 tile-back : {x t l : ℕ} → Axis x t l → Grid x → (k : ℤ) → outside t k ≡ false → (d : ℕ) → l / 360000 < 10 ^ d
@@ -46,10 +45,10 @@ module _ (a b : ℕ) (r : Record) (g : Grids a b) (ok : Good a b r) (twelve : le
   card = cardText a b r
 
   lon-within : natAbs (storedAngle a (r .m)) ≤ half
-  lon-within = stored-within (longitudes a (g .columns)) (r .m) (ok .m-on)
+  lon-within = stored-within (longitudes a (g .columns)) (r .m) (m-on a b r ok)
 
   lat-within : natAbs (storedAngle b (r .n)) ≤ quarter
-  lat-within = stored-within (latitudes b (g .rows)) (r .n) (ok .n-on)
+  lat-within = stored-within (latitudes b (g .rows)) (r .n) (n-on a b r ok)
 
   held : Along Held layout (valuesOf a b r)
   unfolding layout valuesOf
@@ -94,10 +93,10 @@ module _ (a b : ℕ) (r : Record) (g : Grids a b) (ok : Good a b r) (twelve : le
   pso-text = text 4 (omega arith)
 
   lon-back : tileStoring a (a / 256) (angleOf 3 (bytesOf LSO card)) ≡ some (r .m)
-  lon-back = tile-back (longitudes a (g .columns)) (g .columns) (r .m) (ok .m-on) 3 (omega arith) (bytesOf LSO card) lso-text
+  lon-back = tile-back (longitudes a (g .columns)) (g .columns) (r .m) (m-on a b r ok) 3 (omega arith) (bytesOf LSO card) lso-text
 
   lat-back : tileStoring b (b / 512) (angleOf 2 (bytesOf PSO card)) ≡ some (r .n)
-  lat-back = tile-back (latitudes b (g .rows)) (g .rows) (r .n) (ok .n-on) 2 (omega arith) (bytesOf PSO card) pso-text
+  lat-back = tile-back (latitudes b (g .rows)) (g .rows) (r .n) (n-on a b r ok) 2 (omega arith) (bytesOf PSO card) pso-text
 
   spacing-back : eqb (numberIn ARV card) a && eqb (numberIn BRV card) b ≡ true
   unfolding layout valuesOf

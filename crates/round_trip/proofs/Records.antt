@@ -20,7 +20,8 @@ use Rattle.arc.specs.Spacing.{spacingOf}
 use Rattle.card.specs.declared.Record.{Record}
 use Rattle.text.specs.Text.{nameLaid}
 use Rattle.card.specs.Layout.{orElse}
-use Rattle.card.specs.Extents.{onGrid, extentsHold}
+use Rattle.origin.specs.Origin.{onGrid}
+use Rattle.card.specs.Extents.{extentsHold}
 use Rattle.card.specs.Write.{cardText, test, first, recordTests, writeIn, writeOf, outOf}
 use Rattle.round_trip.proofs.Bytes.{and-l, and-r}
 
@@ -33,8 +34,7 @@ pub record Good (a b : ℕ) (r : Record) : Type 0 where
   pub nfl-in : leb 1 (r .nfl) && leb (r .nfl) 999 ≡ true
   pub nfc-in : leb 1 (r .nfc) && leb (r .nfc) 999 ≡ true
   pub name-laid : nameLaid (r .bad) ≡ true
-  pub n-on : outside (b / 512) (r .n) ≡ false
-  pub m-on : outside (a / 256) (r .m) ≡ false
+  pub on-grid : onGrid a b (r .n) (r .m) ≡ true
   pub extents-hold : extents a b r ≡ true
 
 tested : (ok : Bool) (n p : ℕ) (v : Verdict) → orElse (test ok n p) v ≡ Verdict.Accepted → (ok ≡ true) × (v ≡ Verdict.Accepted)
@@ -50,20 +50,23 @@ module _ (a b : ℕ) (r : Record) where
       let t3 = tested (nameLaid (r .bad)) 7 85 _ (t2 .1) in
       let t4 = tested (onGrid a b (r .n) (r .m)) 10 0 _ (t3 .1) in
       let t5 = tested (extents a b r) 11 0 _ (t4 .1) in
-      let n = not (outside (b / 512) (r .n)) in
-      let m = not (outside (a / 256) (r .m)) in
       record {
         nfl-in = t1 .0;
         nfc-in = t2 .0;
         name-laid = t3 .0;
-        n-on = not-true (outside (b / 512) (r .n)) (and-l n m (t4 .0));
-        m-on = not-true (outside (a / 256) (r .m)) (and-r n m (t4 .0));
+        on-grid = t4 .0;
         extents-hold = t5 .0;
       }
 
   pub accepts : Good a b r → first (recordTests a b r) ≡ Verdict.Accepted
   unfolding recordTests
-  accepts g = rw (g .nfl-in, g .nfc-in, g .name-laid, g .n-on, g .m-on, g .extents-hold)
+  accepts g = rw (g .nfl-in, g .nfc-in, g .name-laid, g .on-grid, g .extents-hold)
+
+  pub n-on : Good a b r → outside (b / 512) (r .n) ≡ false
+  n-on g = not-true (outside (b / 512) (r .n)) (and-l (not (outside (b / 512) (r .n))) (not (outside (a / 256) (r .m))) (g .on-grid))
+
+  pub m-on : Good a b r → outside (a / 256) (r .m) ≡ false
+  m-on g = not-true (outside (a / 256) (r .m)) (and-r (not (outside (b / 512) (r .n))) (not (outside (a / 256) (r .m))) (g .on-grid))
 
 -- the numbers of a good record
 pub record Sizes (r : Record) : Type 0 where

@@ -11,10 +11,8 @@ use lib.IntN.{ℤ, natAbs}
 use lib.ListN.{length, getD, drop, length-append, drop-of-length-le}
 use borrow.Author.Tests.{le-leb, eqb-true}
 use Rattle.arc.specs.declared.Verdict.{Verdict}
-use Rattle.card.specs.declared.Kind.{Kind}
-use Rattle.card.specs.declared.Subfield.{Subfield}
 use Rattle.text.specs.Text.{isFlag, nameLaid, part}
-use Rattle.card.specs.Layout.{STR, bytesOf, rightKind, rightValue, judge, judgeField, orElse, walk}
+use Rattle.card.specs.Layout.{Kind, Subfield, STR, bytesOf, rightKind, rightValue, judge, judgeField, orElse, walk}
 use Rattle.card.specs.Write.{Value, counted, angle, named, flagged, textOf, written}
 use Rattle.round_trip.proofs.Bytes.{and-l, and-r, part-at, cut}
 use Rattle.round_trip.proofs.Digits.{length-digits, all-digits, number-digits}

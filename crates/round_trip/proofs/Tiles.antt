@@ -7,9 +7,10 @@ use Prim.Native.Nat.{ℕ, _*_, _≤_}
 use native.Mathlib.Omega.{arith}
 use lib.IntN.{ℤ, natAbs}
 use Rattle.whole.specs.Whole.{near, outside, raise}
-use Rattle.whole.proofs.Signed.{is-size, is-raise, raise-high, inside-size}
+use Rattle.whole.proofs.Signed.{is-size, is-raise, raise-high}
 use Rattle.arc.specs.Spacing.{Grid}
 use Rattle.origin.specs.Origin.{storedAngle}
+use Rattle.origin.proofs.Line.{is-inside}
 use Rattle.origin.proofs.Axis.{Axis, tileAngle, stored-is, stored-high}
 use Rattle.card.specs.Read.{tileStoring}
 use Rattle.card.proofs.Found.{tile-stores, stores-tile}
@@ -28,7 +29,7 @@ tile-of x t angle k e =
     let r = tile-stores x t angle k e in
     record {
       stores = r .same;
-      on-grid = inside-size t k (natAbs k) refl (omega (arith, is-size k (r .count) t (r .is-count), r .high));
+      on-grid = is-inside k (r .count) t (r .is-count) (r .high);
     }
 
 pub stored-within : {x t l : ℕ} → Axis x t l → (k : ℤ) → outside t k ≡ false → natAbs (storedAngle x k) ≤ l

@@ -9,10 +9,9 @@ use lib.Dec.{leb, eqb}
 use lib.ListN.{length, getD, take}
 use borrow.Author.Tests.{leb-true, eqb-true}
 use Rattle.arc.specs.Zones.{half, quarter}
-use Rattle.card.specs.declared.Subfield.{Subfield}
 use Rattle.card.specs.declared.Card.{Card}
 use Rattle.text.specs.Text.{all, isDigit, isFlag, angleLaid, angleValid, angleOf, digits, angleText}
-use Rattle.card.specs.Layout.{STR, ARV, BRV, LSO, PSO, NUL, NUS, NLL, NLS, NFL, NFC, PNC, PNL, COD, ROD, POR, PCB, PVB, TIF, layout, bytesOf}
+use Rattle.card.specs.Layout.{Subfield, STR, ARV, BRV, LSO, PSO, NUL, NUS, NLL, NLS, NFL, NFC, PNC, PNL, COD, ROD, POR, PCB, PVB, TIF, layout, bytesOf}
 use Rattle.card.specs.Read.{numberIn, cardOf}
 use Rattle.card.specs.Write.{valuesOf, cardText}
 use Rattle.card.specs.RoundTrips.{recordOf, WrittenBack, WritesBack}
@@ -105,8 +104,7 @@ module _ (scale zone : ℕ) (s : List ℕ) (k : Card) (d : Reads scale zone s k)
         nfl-in = right 9 (omega arith) .1;
         nfc-in = right 10 (omega arith) .1;
         name-laid = right 18 (omega arith) .0;
-        n-on = v .lat .on-grid;
-        m-on = v .lon .on-grid;
+        on-grid = rw (v .lat .on-grid, v .lon .on-grid);
         extents-hold = rw (sym (v .whole)) at (v .extents-hold);
       }
 

@@ -4,8 +4,9 @@ use borrow.Author.Tests.{eq-eqb, ne-eqb}
 use lib.ListN.{length}
 use Rattle.arc.specs.declared.SpacingAnswer.{SpacingAnswer}
 use Rattle.arc.specs.declared.Verdict.{Verdict}
+use Rattle.arc.specs.Refusals.{onVerdict}
 use Rattle.card.specs.Layout.{layout, walk}
-use Rattle.card.specs.Read.{refusedCard, withValues, afterWalk, readIn}
+use Rattle.card.specs.Read.{refusedCard, withValues, readIn}
 use borrow.Author.Needs.{needs}
 use Rattle.card_text.proofs.read_spaced.Statement.{statement}
 use Rattle.card_text.proofs.read_spaced.Tie as tie
@@ -19,7 +20,7 @@ walked c e = sym (c .fields-in .ensures .walks) ∙ e
 
 past : (c : tie.After-fields-in) {v : Verdict} → c .fields-in .result .verdict ≡ v
     → readIn (start c .args .scale) (start c .args .zone) (SpacingAnswer.Constants (start c .args .a) (start c .args .b)) (start c .args .bytes .now)
-    ≡ afterWalk v (withValues (start c .args .scale) (start c .args .zone) (start c .args .a) (start c .args .b) (start c .args .bytes .now))
+    ≡ onVerdict v refusedCard (withValues (start c .args .scale) (start c .args .zone) (start c .args .a) (start c .args .b) (start c .args .bytes .now))
 unfolding readIn
 past c e = rw (c .before .before .if1 .left, eq-eqb (length (start c .args .bytes .now)) 98 (c .before .if2 .left), walked c e)
 

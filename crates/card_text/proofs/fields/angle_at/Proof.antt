@@ -1,7 +1,7 @@
 -- The four groups of digits give the size and the tests of the subfield's bytes. Assumes nothing.
 use Prim.Native.Nat.{_+_}
 use native.Mathlib.Omega.{arith}
-use Rattle.card.specs.declared.Kind.{Kind}
+use Rattle.card.specs.Layout.{Kind}
 use Rattle.text.specs.Text.{part}
 use Rattle.card.specs.Layout.{sub}
 use Rattle.card_text.specs.StepsFields.{DigitsOf}

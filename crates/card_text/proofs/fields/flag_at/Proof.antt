@@ -6,7 +6,7 @@ use native.Mathlib.Omega.{arith}
 use lib.Dec.{eqb}
 use lib.ListN.{getD}
 use mir.Val.{boolByte}
-use Rattle.card.specs.declared.Kind.{Kind}
+use Rattle.card.specs.Layout.{Kind}
 use Rattle.text.specs.Text.{part}
 use Rattle.card.specs.Layout.{sub}
 use Rattle.card_text.proofs.Runs.{part-at}

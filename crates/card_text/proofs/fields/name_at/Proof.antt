@@ -1,6 +1,6 @@
 -- The bytes are tested as the definition does. Assumes nothing.
 use mathlib.Core.Path.{refl, ap, _∙_}
-use Rattle.card.specs.declared.Kind.{Kind}
+use Rattle.card.specs.Layout.{Kind}
 use Rattle.text.specs.Text.{nameLaid}
 use Rattle.card.specs.Layout.{sub}
 use Rattle.card_text.proofs.Table.{field-at}

@@ -3,7 +3,7 @@ use mathlib.Core.Path.{ap}
 use mathlib.Core.Bool.{_&&_}
 use Prim.Native.Nat.{ℕ}
 use lib.Dec.{leb}
-use Rattle.card.specs.declared.Kind.{Kind}
+use Rattle.card.specs.Layout.{Kind}
 use Rattle.card.specs.Layout.{sub}
 use Rattle.card_text.proofs.Table.{field-at}
 use borrow.Author.Needs.{needs}
