@@ -12,12 +12,13 @@ use lib.ListN.{length, getD, take}
 use lib.Seq.{getD-take, length-take-le}
 use Rattle.arc.specs.declared.Verdict.{Verdict}
 use Rattle.card.specs.declared.Card.{Card}
-use Rattle.tiles.specs.Index.{tiles, indexWrong, stored, said, saidOf}
+use Rattle.tiles.specs.declared.Said.{Said}
+use Rattle.tiles.specs.Index.{tiles, indexWrong, said, saidOf}
 use Rattle.tiles.specs.Check.{occurs, badAt, firstBad, allNamed, judged, checkOf, EachPlaced, NoneAbove, OnceAccepted}
 use Rattle.whole.specs.Lists.{firstFrom, oneMore}
-use Rattle.tiles.proofs.Entry.{index-long, said-above, said-stored, said-in}
+use Rattle.tiles.proofs.Entry.{index-long, said-above, said-stored, said-in, entry-of}
 use Rattle.tiles.proofs.Pass.{good-none, good-new}
-use Rattle.tiles.proofs.Once.{occurs-at, place, entry-of}
+use Rattle.tiles.proofs.Once.{occurs-at, place}
 
 none-from : (f : ℕ → Bool) (i n : ℕ) → ((j : ℕ) → i ≤ j → j < i + n → f j ≡ false) → firstFrom oneMore f i n ≡ none
 unfolding firstFrom
@@ -33,12 +34,12 @@ each-named index (suc m) h =
 
 -- ---- with TIF Y
 module _ (k : Card) (index : List ℕ) (count : ℕ) (w : indexWrong k index count ≡ false) (y : k .tif ≡ true)
-    (a : NoneAbove k index count) (e : EachPlaced k index count) where
+    (a : NoneAbove k (saidOf k index count)) (e : EachPlaced k (saidOf k index count) count) where
   long : length index ≡ tiles k
   long = index-long k index count w y
 
   entry-stored : (i : ℕ) → (getD index i 0 ≡ 0 → ⊥) → getD index i 0 ≤ count
-      → saidOf k index count i ≡ stored (getD index i 0)
+      → saidOf k index count i ≡ Said.Stored (getD index i 0)
   entry-stored i d h = said-in k index count i y ∙ said-stored count (getD index i 0) d h
 
   entry-most : (i : ℕ) → i < length index → getD index i 0 ≤ count
@@ -79,7 +80,7 @@ module _ (k : Card) (index : List ℕ) (count : ℕ) (w : indexWrong k index cou
   named-each n p q =
       let u = e n p q in
       occurs-at index (u .at) n (omega (arith, u .inside, long))
-      (entry-of count (getD index (u .at) 0) n (sym (said-in k index count (u .at) y) ∙ u .holds))
+      (entry-of count (getD index (u .at) 0) n (sym (said-in k index count (u .at) y) ∙ u .stores) .0)
 
   pub passes : judged count index (firstBad count index) ≡ Verdict.Accepted
   passes =

@@ -1,5 +1,5 @@
 -- What one entry says, and where it lies, the lengths being right. Assumes nothing.
-use mathlib.Core.Path.{_≡_, refl, sym, ap, _∙_}
+use mathlib.Core.Path.{_≡_, refl, sym, _∙_}
 use mathlib.Core.Bool.{Bool, true, false, cond, not, _||_, true≢false}
 use mathlib.Core.List.{List}
 use Prim.Native.Nat.{ℕ, _+_, _*_, _≤_, _<_}
@@ -9,9 +9,8 @@ use borrow.Author.Tests.{lt-ltb, le-ltb, eq-eqb, ne-eqb, ltb-false, eqb-true, eq
 use lib.Dec.{ltb, eqb}
 use lib.ListN.{length, getD}
 use Rattle.card.specs.declared.Card.{Card}
-use Rattle.tiles.specs.declared.NumberAnswer.{NumberAnswer}
-use Rattle.tiles.specs.Index.{tiles, countWrong, indexWrong, stored, missing, above, said, saidOf}
-use Rattle.tiles.specs.LookUp.{numberSaid}
+use Rattle.tiles.specs.declared.Said.{Said}
+use Rattle.tiles.specs.Index.{tiles, countWrong, indexWrong, said, saidOf}
 use Rattle.tiles.specs.Steps.{Sized}
 
 -- neither of two tests
@@ -49,13 +48,13 @@ module _ (k : Card) (index : List ℕ) (count : ℕ) (e : indexWrong k index cou
 
 -- ---- what an entry says
 module _ (count e : ℕ) where
-  pub said-missing : e ≡ 0 → said count e ≡ missing
+  pub said-missing : e ≡ 0 → said count e ≡ Said.Missing
   said-missing z = rw (eq-eqb e 0 z)
 
-  pub said-above : (e ≡ 0 → ⊥) → count < e → said count e ≡ above
+  pub said-above : (e ≡ 0 → ⊥) → count < e → said count e ≡ Said.Above
   said-above d h = rw (ne-eqb e 0 d, lt-ltb count e h)
 
-  pub said-stored : (e ≡ 0 → ⊥) → e ≤ count → said count e ≡ stored e
+  pub said-stored : (e ≡ 0 → ⊥) → e ≤ count → said count e ≡ Said.Stored e
   said-stored d h = rw (ne-eqb e 0 d, le-ltb count e h)
 
 module _ (k : Card) (index : List ℕ) (count t : ℕ) where
@@ -63,33 +62,31 @@ module _ (k : Card) (index : List ℕ) (count t : ℕ) where
   unfolding saidOf
   said-in y = rw y
 
-  pub said-all : k .tif ≡ false → saidOf k index count t ≡ stored (t + 1)
+  pub said-all : k .tif ≡ false → saidOf k index count t ≡ Said.Stored (t + 1)
   unfolding saidOf
   said-all y = rw y
 
--- ---- a stored number is 1 to count
-number-in : (t count e n : ℕ) → numberSaid t (said count e) ≡ NumberAnswer.Stored n → (1 ≤ n) × (n ≤ count)
-number-in t count e n = go (eqb e 0) (ltb count e) refl refl
+-- the entry of a stored tile: 1 to count
+pub entry-of : (count e n : ℕ) → said count e ≡ Said.Stored n → (e ≡ n) × (1 ≤ n) × (n ≤ count)
+entry-of count e n = go (eqb e 0) (ltb count e) refl refl
   where
     go : (a b : Bool) → eqb e 0 ≡ a → ltb count e ≡ b
-        → numberSaid t (cond a missing (cond b above (stored e))) ≡ NumberAnswer.Stored n → (1 ≤ n) × (n ≤ count)
+        → cond a Said.Missing (cond b Said.Above (Said.Stored e)) ≡ Said.Stored n → (e ≡ n) × (1 ≤ n) × (n ≤ count)
     go true b p q h = let z : _≡_ {A = ℕ} 0 1 = cc in absurd (omega arith)
     go false true p q h = let z : _≡_ {A = ℕ} 0 1 = cc in absurd (omega arith)
     go false false p q h =
         let m : e ≡ n = cc in
-        let l : e ≤ count = ltb-false count e q in
         let d : e ≡ 0 → ⊥ = eqb-false e 0 p in
-        (omega arith, omega arith)
+        (m, omega arith, omega (arith, ltb-false count e q))
 
-pub stored-number : (k : Card) (index : List ℕ) (count t n : ℕ) → indexWrong k index count ≡ false → t < tiles k
-    → numberSaid t (saidOf k index count t) ≡ NumberAnswer.Stored n
-    → (1 ≤ n) × (n ≤ count)
-stored-number k index count t n e h w = go (k .tif) refl
+-- a stored number is 1 to count
+pub stored-most : (k : Card) (index : List ℕ) (count t n : ℕ) → indexWrong k index count ≡ false → t < tiles k
+    → saidOf k index count t ≡ Said.Stored n → (1 ≤ n) × (n ≤ count)
+stored-most k index count t n e h w = go (k .tif) refl
   where
     go : (b : Bool) → k .tif ≡ b → (1 ≤ n) × (n ≤ count)
-    go true y = number-in t count (getD index t 0) n (ap (numberSaid t) (sym (said-in k index count t y)) ∙ w)
+    go true y = let r = entry-of count (getD index t 0) n (sym (said-in k index count t y) ∙ w) in (r .1, r .2)
     go false y =
-        let m : NumberAnswer.Stored (t + 1) ≡ NumberAnswer.Stored n =
-        ap (numberSaid t) (sym (said-all k index count t y)) ∙ w in
+        let m : Said.Stored (t + 1) ≡ Said.Stored n = sym (said-all k index count t y) ∙ w in
         let s : t + 1 ≡ n = cc in
         (omega arith, omega (arith, count-all k index count e y))

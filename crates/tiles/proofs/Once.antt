@@ -14,10 +14,11 @@ use lib.Seq.{getD-take, length-take-le}
 use Rattle.arc.specs.declared.Verdict.{Verdict}
 use Rattle.arc.specs.Refusals.{refusal}
 use Rattle.card.specs.declared.Card.{Card}
-use Rattle.tiles.specs.Index.{tiles, indexWrong, stored, missing, above, said}
+use Rattle.tiles.specs.declared.Said.{Said}
+use Rattle.tiles.specs.Index.{tiles, indexWrong, said, saidOf}
 use Rattle.tiles.specs.Check.{occurs, badAt, firstBad, allNamed, judged, checkOf, OnePlace, EachOnce, UpToCount}
 use Rattle.whole.specs.Lists.{firstFrom, oneMore}
-use Rattle.tiles.proofs.Entry.{neither, index-long, count-all, said-stored, said-in, said-all}
+use Rattle.tiles.proofs.Entry.{neither, index-long, count-all, said-stored, said-in, said-all, entry-of}
 use Rattle.tiles.proofs.Pass.{bad-again}
 
 -- ---- entries
@@ -83,15 +84,6 @@ module _ (index : List ℕ) (count : ℕ) (b : firstBad count index ≡ none) wh
       go (no p) (yes q) = absurd (not-again j i n d h q f e)
       go (no p) (no q) = omega (arith, lt-of-not-le p, lt-of-not-le q)
 
--- the entry of a stored tile
-pub entry-of : (count e n : ℕ) → said count e ≡ stored n → e ≡ n
-entry-of count e n = go (eqb e 0) (ltb count e)
-  where
-    go : (a b : Bool) → cond a missing (cond b above (stored e)) ≡ stored n → e ≡ n
-    go true b h = let z : _≡_ {A = ℕ} 0 1 = cc in absurd (omega arith)
-    go false true h = let z : _≡_ {A = ℕ} 0 1 = cc in absurd (omega arith)
-    go false false h = cc
-
 -- ---- by TIF
 module _ (k : Card) (index : List ℕ) (count n : ℕ) (p : 1 ≤ n) (q : n ≤ count) where
   -- what an accepted check says of a number
@@ -108,25 +100,25 @@ module _ (k : Card) (index : List ℕ) (count n : ℕ) (p : 1 ≤ n) (q : n ≤ 
       go none false e f h = let g = rw f at h in let z : _≡_ {A = ℕ} 0 1 = cc in absurd (omega arith)
       go none true e f h = record { first = e; named-is = named-each index count n f p q }
 
-  indexed : indexWrong k index count ≡ false → k .tif ≡ true → Good → OnePlace k index count n
+  indexed : indexWrong k index count ≡ false → k .tif ≡ true → Good → OnePlace k (saidOf k index count) n
   indexed w y g =
       let r = place index n (g .named-is) in
       let l : length index ≡ tiles k = index-long k index count w y in
       record {
         at = r .at;
         inside = omega (arith, r .inside);
-        holds = said-in k index count (r .at) y ∙ ap (said count) (r .holds) ∙ said-stored count n (λ z. omega arith) q;
+        stores = said-in k index count (r .at) y ∙ ap (said count) (r .holds) ∙ said-stored count n (λ z. omega arith) q;
         only = λ t h e. only-place index count (g .first) t (r .at) n (λ z. omega arith) (omega arith) (r .inside)
-            (entry-of count (getD index t 0) n (sym (said-in k index count t y) ∙ e)) (r .holds);
+            (entry-of count (getD index t 0) n (sym (said-in k index count t y) ∙ e) .0) (r .holds);
       }
 
-  listed-all : indexWrong k index count ≡ false → k .tif ≡ false → OnePlace k index count n
+  listed-all : indexWrong k index count ≡ false → k .tif ≡ false → OnePlace k (saidOf k index count) n
   listed-all w y =
       record {
         at = n - 1;
         inside = omega (arith, count-all k index count w y);
-        holds = let s : n - 1 + 1 ≡ n = omega arith in said-all k index count (n - 1) y ∙ ap stored s;
-        only = λ t h e. let m : stored (t + 1) ≡ stored n = sym (said-all k index count t y) ∙ e in
+        stores = let s : n - 1 + 1 ≡ n = omega arith in said-all k index count (n - 1) y ∙ ap Said.Stored s;
+        only = λ t h e. let m : Said.Stored (t + 1) ≡ Said.Stored n = sym (said-all k index count t y) ∙ e in
             let s : t + 1 ≡ n = cc in omega arith;
       }
 
@@ -139,16 +131,16 @@ each-once k index marks count a n p q = go (indexWrong k index count || ltb (len
 
     go : (x y : Bool) → indexWrong k index count || ltb (length marks) count ≡ x → k .tif ≡ y
         → cond x (Verdict.Refused (refusal 6)) (cond y (judged count index (firstBad count index)) Verdict.Accepted)
-        ≡ Verdict.Accepted → OnePlace k index count n
+        ≡ Verdict.Accepted → OnePlace k (saidOf k index count) n
     go true y e f h = let z : _≡_ {A = ℕ} 0 1 = cc in absurd (omega arith)
     go false true e f h = indexed k index count n p q (right e) f (good k index count n p q h)
     go false false e f h = listed-all k index count n p q (right e) f
 
 -- an entry that is not above the count does not say so
-not-above : (count e : ℕ) → ltb count e ≡ false → said count e ≡ above → ⊥
+not-above : (count e : ℕ) → ltb count e ≡ false → said count e ≡ Said.Above → ⊥
 not-above count e = go (eqb e 0) (ltb count e)
   where
-    go : (a b : Bool) → b ≡ false → cond a missing (cond b above (stored e)) ≡ above → ⊥
+    go : (a b : Bool) → b ≡ false → cond a Said.Missing (cond b Said.Above (Said.Stored e)) ≡ Said.Above → ⊥
     go true b p h = let z : _≡_ {A = ℕ} 0 1 = cc in omega arith
     go false true p h = true≢false p
     go false false p h = let z : _≡_ {A = ℕ} 0 1 = cc in omega arith
@@ -172,5 +164,5 @@ up-to-count k index marks count a t h above-is = go (indexWrong k index count ||
         not-above count (getD index t 0) (neither (ltb count (getD index t 0)) (not (eqb (getD index t 0) 0) && occurs (getD index t 0) (take t index)) g .0)
         (sym (said-in k index count t f) ∙ above-is)
     go false false e f j =
-        let m : stored (t + 1) ≡ above = sym (said-all k index count t f) ∙ above-is in
+        let m : Said.Stored (t + 1) ≡ Said.Above = sym (said-all k index count t f) ∙ above-is in
         let z : _≡_ {A = ℕ} 0 1 = cc in omega arith

@@ -5,8 +5,7 @@ use Prim.Native.Nat.{ℕ, _-_, _*_}
 use native.Mathlib.Omega.{arith}
 use lib.ListN.{take, drop, take-append-drop}
 use lib.Seq.{length-take-le}
-use Rattle.tiles.specs.LookUp.{tileBytes, partOf, InPlace, PartIs}
-use Rattle.tiles.specs.Steps.{partAt}
+use Rattle.tiles.specs.LookUp.{tileBytes, partAt, partOf, InPlace, PartIs}
 use Rattle.tiles.proofs.Pixel.{InStore, number-held, part-ends, part-length}
 
 in-place : (n count : ℕ) (store : List ℕ) → InStore n count store → InPlace count n (partAt n store) store

@@ -16,7 +16,8 @@ use Rattle.whole.specs.Lists.{firstFrom, oneMore}
 use Rattle.arc.specs.declared.Verdict.{Verdict}
 use Rattle.arc.specs.Refusals.{refusal, refusalAt}
 use Rattle.card.specs.declared.Card.{Card}
-use Rattle.tiles.specs.Index.{tiles, indexWrong, stored, above, saidOf}
+use Rattle.tiles.specs.declared.Said.{Said}
+use Rattle.tiles.specs.Index.{tiles, indexWrong, saidOf}
 
 abbrev pub occurs : ℕ → List ℕ → Bool
 occurs e [] = false
@@ -72,33 +73,34 @@ marksOf k index count marks =
 -- ---- what an accepted index is held to, both ways: proved in proofs/Once.antt and proofs/Accepts.antt
 
 -- the tile that stores n, and no other does
-pub record OnePlace (k : Card) (index : List ℕ) (count n : ℕ) : Type 0 where
+pub record OnePlace (k : Card) (says : ℕ → Said) (n : ℕ) : Type 0 where
   pub at : ℕ
   pub inside : at < tiles k
-  pub holds : saidOf k index count at ≡ stored n
-  pub only : (t : ℕ) → t < tiles k → saidOf k index count t ≡ stored n → t ≡ at
+  pub stores : says at ≡ Said.Stored n
+  pub only : (t : ℕ) → t < tiles k → says t ≡ Said.Stored n → t ≡ at
 
 -- each number 1 .. count is that of one tile
-abbrev pub EachPlaced : Card → List ℕ → ℕ → Type 0
-EachPlaced k index count = (n : ℕ) → 1 ≤ n → n ≤ count → OnePlace k index count n
+abbrev pub EachPlaced : Card → (ℕ → Said) → ℕ → Type 0
+EachPlaced k says count = (n : ℕ) → 1 ≤ n → n ≤ count → OnePlace k says n
 
 -- no tile's entry is above the count
-abbrev pub NoneAbove : Card → List ℕ → ℕ → Type 0
-NoneAbove k index count = (t : ℕ) → t < tiles k → saidOf k index count t ≡ above → ⊥
+abbrev pub NoneAbove : Card → (ℕ → Said) → Type 0
+NoneAbove k says = (t : ℕ) → t < tiles k → says t ≡ Said.Above → ⊥
 
 abbrev pub EachOnce : Type 0
 EachOnce =
     (k : Card) (index marks : List ℕ) (count : ℕ) → checkOf k index count marks ≡ Verdict.Accepted
-    → EachPlaced k index count
+    → EachPlaced k (saidOf k index count) count
 
 -- the lengths being right
 abbrev pub OnceAccepted : Type 0
 OnceAccepted =
     (k : Card) (index marks : List ℕ) (count : ℕ) → indexWrong k index count ≡ false → count ≤ length marks
-    → NoneAbove k index count → EachPlaced k index count → checkOf k index count marks ≡ Verdict.Accepted
+    → NoneAbove k (saidOf k index count) → EachPlaced k (saidOf k index count) count
+    → checkOf k index count marks ≡ Verdict.Accepted
 
 -- and an accepted index has no entry above the count
 abbrev pub UpToCount : Type 0
 UpToCount =
     (k : Card) (index marks : List ℕ) (count : ℕ) → checkOf k index count marks ≡ Verdict.Accepted
-    → NoneAbove k index count
+    → NoneAbove k (saidOf k index count)

@@ -1,5 +1,6 @@
 -- Looking up a pixel's tile: 6, 12, 13, 14, 15 (01, "Tiles"). Definitions, and what they are held to.
 --     storeWrong ..          the index, the count or the store is of the wrong length
+--     foundOf k says r c     the stored number of a pixel's tile, by what `says` has of each tile
 --     numberOf ..            what `stored_number` answers
 --     partOf ..              the bytes that `tile` hands back, none in a refusal
 --     bandsOf ..             what `bands` answers: red, green, blue
@@ -11,12 +12,13 @@ use lib.Dec.{eqb}
 use lib.ListN.{length, getD, take, drop}
 use lib.IntN.{ℤ, pos, natAbs}
 use Rattle.arc.specs.declared.Refusal.{Refusal}
-use Rattle.arc.specs.Refusals.{refusal, refusalAt, Report, answered, refusedWith}
+use Rattle.arc.specs.Refusals.{refusal, refusalAt, Report, answered, refusedWith, onVerdict}
 use Rattle.card.specs.declared.Card.{Card}
-use Rattle.card.specs.Grid.{inTiles, inChart}
+use Rattle.card.specs.Grid.{verdictOf}
 use Rattle.tiles.specs.declared.NumberAnswer.{NumberAnswer}
 use Rattle.tiles.specs.declared.BandsAnswer.{BandsAnswer}
-use Rattle.tiles.specs.Index.{indexWrong, Said, stored, missing, above, saidOf, tileOf}
+use Rattle.tiles.specs.declared.Said.{Said}
+use Rattle.tiles.specs.Index.{indexWrong, saidOf, tileOf}
 
 -- a tile's bytes: red, green, blue, each 128 rows of 128 (POR 0)
 abbrev pub tileBytes : ℕ
@@ -31,23 +33,28 @@ storeWrong k index count store = indexWrong k index count || not (eqb (length st
 
 -- 14, 15, the place of 15 being the tile
 abbrev pub numberSaid : ℕ → Said → NumberAnswer
-numberSaid t (stored n) = NumberAnswer.Stored n
-numberSaid t missing = NumberAnswer.Refused (refusal 14)
-numberSaid t above = NumberAnswer.Refused (refusalAt 15 t)
+numberSaid t (Said.Stored n) = NumberAnswer.Stored n
+numberSaid t Said.Missing = NumberAnswer.Refused (refusal 14)
+numberSaid t Said.Above = NumberAnswer.Refused (refusalAt 15 t)
 
--- 6, 12, 13, 14, 15
+-- 12, 13, 14, 15
+unfoldable pub foundOf : Card → (ℕ → Said) → ℤ → ℤ → NumberAnswer
+foundOf k says r c =
+    onVerdict (verdictOf k r c) NumberAnswer.Refused
+    (numberSaid (tileOf k (natAbs r) (natAbs c)) (says (tileOf k (natAbs r) (natAbs c))))
+
+-- 6, then 12, 13, 14, 15
 unfoldable pub numberOf : Card → List ℕ → ℕ → List ℕ → ℤ → ℤ → NumberAnswer
 numberOf k index count store r c =
     cond (storeWrong k index count store) (NumberAnswer.Refused (refusal 6))
-    (cond (inTiles k r c)
-    (cond (inChart k r c)
-    (numberSaid (tileOf k (natAbs r) (natAbs c)) (saidOf k index count (tileOf k (natAbs r) (natAbs c))))
-    (NumberAnswer.Refused (refusal 13)))
-    (NumberAnswer.Refused (refusal 12)))
+    (foundOf k (saidOf k index count) r c)
 
 -- the n-th stored tile's bytes, a part of the store
+abbrev pub partAt : ℕ → List ℕ → List ℕ
+partAt n store = take tileBytes (drop ((n - 1) * tileBytes) store)
+
 abbrev pub partIn : NumberAnswer → List ℕ → List ℕ
-partIn (NumberAnswer.Stored n) store = take tileBytes (drop ((n - 1) * tileBytes) store)
+partIn (NumberAnswer.Stored n) store = partAt n store
 partIn (NumberAnswer.Refused e) store = []
 
 unfoldable pub partOf : Card → List ℕ → ℕ → List ℕ → ℤ → ℤ → List ℕ

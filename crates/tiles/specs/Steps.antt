@@ -2,19 +2,14 @@
 --     Sized k                what a known card's tiles are bounded by
 --     marksPassed ..         what the marks hold after the pass over the entries
 --     Window ..              what a window is bounded by, past the length checks
---     afterVerdict v a       a pixel's refusal, else what its tile answers
---     partAt n store         the n-th stored tile's bytes
 use mathlib.Core.Path.{_≡_}
-use Prim.Native.Nat.{ℕ, _+_, _*_, _-_, _≤_}
+use Prim.Native.Nat.{ℕ, _+_, _≤_}
 use mathlib.Core.List.{List}
 use mathlib.Core.Bool.{true}
-use lib.ListN.{length, take, drop}
-use Rattle.arc.specs.declared.Verdict.{Verdict}
+use lib.ListN.{length}
 use Rattle.card.specs.declared.Card.{Card}
-use Rattle.tiles.specs.declared.NumberAnswer.{NumberAnswer}
 use Rattle.tiles.specs.Index.{tiles}
 use Rattle.tiles.specs.Check.{firstBad, before, marked}
-use Rattle.tiles.specs.LookUp.{tileBytes}
 
 pub record Sized (k : Card) : Type 0 where
   pub rows : k .nfl ≤ 999
@@ -31,11 +26,3 @@ pub record Window (k : Card) (index : List ℕ) (top left height width : ℕ) : 
   pub long : length index ≡ tiles k
   pub down : top + height ≤ k .nfl
   pub across : left + width ≤ k .nfc
-
--- 12 and 13 come before what the tile answers
-abbrev pub afterVerdict : Verdict → NumberAnswer → NumberAnswer
-afterVerdict Verdict.Accepted a = a
-afterVerdict (Verdict.Refused e) a = NumberAnswer.Refused e
-
-abbrev pub partAt : ℕ → List ℕ → List ℕ
-partAt n store = take tileBytes (drop ((n - 1) * tileBytes) store)

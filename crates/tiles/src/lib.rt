@@ -2,8 +2,11 @@
 use arc::Refusal;
 use card::Card;
 ghost use mathlib.Core.Path.{_≡_};
+ghost use mathlib.Core.Bool.{false};
+ghost use Prim.Native.Nat.{_<_};
+ghost use lib.ListN.{length, getD};
 ghost use Rattle.arc.specs.Refusals.{refusalAt};
-ghost use Rattle.tiles.specs.Index.{indexWrong};
+ghost use Rattle.tiles.specs.Index.{tiles, indexWrong, said, saidOf};
 ghost use Rattle.tiles.specs.Steps.{Sized};
 
 mod check;
@@ -19,6 +22,13 @@ pub use parts::BandsParts;
 pub use parts::NumberParts;
 pub use parts::WindowParts;
 pub use scan::window;
+
+// What is said of a tile: its stored number, that it is not stored, or that its entry is above the count.
+enum Said {
+    Stored(u64),
+    Missing,
+    Above,
+}
 
 // The stored number of a tile, from 1.
 pub enum NumberAnswer {
@@ -57,4 +67,30 @@ fn index_wrong(k: Card, index: &[u32], count: u64) -> bool
         return (length != tiles) | (tiles < count);
     }
     (length != 0) | (count != tiles)
+}
+
+// What a tile's entry says, with TIF Y (01, "Tiles").
+fn entry_says(index: &[u32], count: u64, tile: u64) -> Said
+    requires { ⌜ tile < length (now index) ⌝ }
+    ensures { λ r. ⌜ r ≡ said count (getD (now (index .entry)) tile 0) ⌝ }
+{
+    let e = index[tile as usize] as u64;
+    if e == 0 {
+        return Said::Missing;
+    }
+    if count < e {
+        return Said::Above;
+    }
+    Said::Stored(e)
+}
+
+// What the index says of a tile, the lengths being right (01, "Tiles").
+fn index_says(k: Card, index: &[u32], count: u64, tile: u64) -> Said
+    requires { ⌜ Sized k ⌝ ∗ ⌜ indexWrong k (now index) count ≡ false ⌝ ∗ ⌜ tile < tiles k ⌝ }
+    ensures { λ r. ⌜ r ≡ saidOf k (now (index .entry)) count tile ⌝ }
+{
+    if !k.tif {
+        return Said::Stored(tile + 1);
+    }
+    entry_says(index, count, tile)
 }

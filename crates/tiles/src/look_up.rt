@@ -1,39 +1,31 @@
 // Looking up a pixel's tile (01, "Tiles").
 use crate::BandsAnswer;
 use crate::NumberAnswer;
+use crate::Said;
 use crate::bad_entry;
+use crate::index_says;
 use crate::index_wrong;
 use arc::Tile;
 use arc::Verdict;
 use card::Card;
 ghost use mathlib.Core.Path.{_≡_};
-ghost use mathlib.Core.Bool.{false};
-ghost use Prim.Native.Nat.{_*_, _≤_, _<_};
+ghost use Prim.Native.Nat.{_*_, _≤_};
 ghost use lib.ListN.{length};
 ghost use Rattle.card.specs.Read.{Known};
-ghost use Rattle.tiles.specs.Index.{tiles, indexWrong, saidOf};
-ghost use Rattle.tiles.specs.LookUp.{tileBytes, numberSaid, numberOf, partOf, bandsOf};
-ghost use Rattle.tiles.specs.Steps.{Sized, partAt};
+ghost use Rattle.tiles.specs.LookUp.{tileBytes, numberSaid, numberOf, partAt, partOf, bandsOf};
 
 // A band of a tile: 128 rows of 128, POR 0 (01, "Tiles").
 const BAND: usize = 16_384;
 
-// The stored number of a tile (01, "Tiles"). Refuses 14, 15.
-fn number_of(k: Card, index: &[u32], count: u64, tile: u64) -> NumberAnswer
-    requires { ⌜ Sized k ⌝ ∗ ⌜ indexWrong k (now index) count ≡ false ⌝ ∗ ⌜ tile < tiles k ⌝ }
-    ensures { λ a. ⌜ a ≡ numberSaid tile (saidOf k (now (index .entry)) count tile) ⌝ }
+// The stored number of a tile, by what is said of it (01, "Tiles"). Refuses 14, 15.
+fn number_said(tile: u64, said: Said) -> NumberAnswer
+    ensures { λ a. ⌜ a ≡ numberSaid tile said ⌝ }
 {
-    if !k.tif {
-        return NumberAnswer::Stored(tile + 1);
+    match said {
+        Said::Stored(n) => NumberAnswer::Stored(n),
+        Said::Missing => NumberAnswer::Refused(arc::refused(14)),
+        Said::Above => NumberAnswer::Refused(bad_entry(tile)),
     }
-    let e = index[tile as usize] as u64;
-    if e == 0 {
-        return NumberAnswer::Refused(arc::refused(14));
-    }
-    if count < e {
-        return NumberAnswer::Refused(bad_entry(tile));
-    }
-    NumberAnswer::Stored(e)
 }
 
 // The stored number of a pixel's tile (01, "Tiles"). Refuses 6, 12, 13, 14, 15.
@@ -57,7 +49,7 @@ pub fn stored_number(
     match k.judge_pixel(row, column) {
         Verdict::Accepted => {
             let tile = whole::size(row) / Tile::SIDE * k.nfc + whole::size(column) / Tile::SIDE;
-            number_of(k, index, count, tile)
+            number_said(tile, index_says(k, index, count, tile))
         }
         Verdict::Refused(e) => NumberAnswer::Refused(e),
     }

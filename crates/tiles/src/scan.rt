@@ -1,12 +1,15 @@
 // The window of tiles (01, "Tiles").
+use crate::Said;
 use crate::WindowAnswer;
 use crate::bad_entry;
+use crate::entry_says;
 use crate::index_wrong;
 use card::Card;
 ghost use mathlib.Core.Path.{_≡_};
 ghost use Prim.Native.Nat.{_+_};
 ghost use lib.Dec.{ltb};
 ghost use Rattle.card.specs.Read.{Known};
+ghost use Rattle.tiles.specs.Index.{saidOf};
 ghost use Rattle.tiles.specs.Window.{windowTiles, scan, windowOf};
 ghost use Rattle.tiles.specs.Steps.{Window};
 
@@ -31,21 +34,23 @@ fn first_missing(
     width: u64,
 ) -> WindowAnswer
     requires { ⌜ Window k (now index) top left height width ⌝ }
-    ensures { λ r. ⌜ r ≡ scan k (now (index .entry)) count (windowTiles k top left height width) ⌝ }
+    ensures { λ r. ⌜ r ≡ scan (saidOf k (now (index .entry)) count) (windowTiles k top left height width) ⌝ }
 {
     let mut answer = WindowAnswer::AllStored;
     'rows: for r in 0..height {
         let start = (top + r) * k.nfc + left;
         for c in 0..width {
             let tile = start + c;
-            let e = index[tile as usize] as u64;
-            if e == 0 {
-                answer = WindowAnswer::Missing(tile);
-                break 'rows;
-            }
-            if count < e {
-                answer = WindowAnswer::Refused(bad_entry(tile));
-                break 'rows;
+            match entry_says(index, count, tile) {
+                Said::Stored(_) => {}
+                Said::Missing => {
+                    answer = WindowAnswer::Missing(tile);
+                    break 'rows;
+                }
+                Said::Above => {
+                    answer = WindowAnswer::Refused(bad_entry(tile));
+                    break 'rows;
+                }
             }
         }
     }

@@ -8,14 +8,14 @@ use lib.IntN.{natAbs}
 use mir.Syntax.{w64}
 use mir.ValLaws.{toZ-ofZ}
 use Rattle.arc.specs.declared.Verdict.{Verdict}
+use Rattle.arc.specs.Refusals.{onVerdict}
 use Rattle.card.specs.Grid.{verdictOf}
 use Rattle.tiles.specs.declared.NumberAnswer.{NumberAnswer}
 use Rattle.tiles.specs.Index.{tiles, tileOf, indexWrong, saidOf}
-use Rattle.tiles.specs.LookUp.{storeWrong, numberSaid, numberOf}
-use Rattle.tiles.specs.Steps.{afterVerdict}
+use Rattle.tiles.specs.LookUp.{numberSaid, foundOf, numberOf}
 use Rattle.tiles.proofs.Sized.{known-sized}
 use Rattle.tiles.proofs.Entry.{tiles-small, count-most}
-use Rattle.tiles.proofs.Pixel.{tile-in, verdict-in, number-by}
+use Rattle.tiles.proofs.Pixel.{tile-in}
 use borrow.Author.Needs.{needs}
 use Rattle.tiles.proofs.look_up.stored_number.Statement.{statement}
 use Rattle.tiles.proofs.look_up.stored_number.Tie as tie
@@ -37,22 +37,20 @@ number-is : (c : tie.After-judge-pixel) (v : Verdict) → c .judge-pixel .result
     let a = c .before .before .before .before .before .before .args in
     let t = tileOf (a .k) (natAbs (a .row)) (natAbs (a .column)) in
     numberOf (a .k) (a .index .now) (a .count) (a .store .now) (a .row) (a .column)
-    ≡ afterVerdict v (numberSaid t (saidOf (a .k) (a .index .now) (a .count) t))
+    ≡ onVerdict v NumberAnswer.Refused (numberSaid t (saidOf (a .k) (a .index .now) (a .count) t))
+unfolding numberOf foundOf
 number-is c v e =
     let a = c .before .before .before .before .before .before .args in
     let t = tileOf (a .k) (natAbs (a .row)) (natAbs (a .column)) in
-    let w : storeWrong (a .k) (a .index .now) (a .count) (a .store .now) ≡ false =
-    rw (right (c .before .before), eq-eqb _ _ (c .before .if2 .left)) in
-    number-by (a .k) (a .row) (a .column) (a .index .now) (a .count) (a .store .now) w
-    ∙ ap (λ (x : Verdict). afterVerdict x
-    (numberSaid t (saidOf (a .k) (a .index .now) (a .count) t))) (sym (verdict c) ∙ e)
+    rw (right (c .before .before), eq-eqb _ _ (c .before .if2 .left))
+    (ap (λ (x : Verdict). onVerdict x NumberAnswer.Refused (numberSaid t (saidOf (a .k) (a .index .now) (a .count) t)))
+    (sym (verdict c) ∙ e))
 
 -- an accepted pixel's tile
 inside : (c : tie.After-enum-told) → let a = c .before .before .before .before .before .before .before .before .args in
     tileOf (a .k) (natAbs (a .row)) (natAbs (a .column)) < tiles (a .k)
 inside c = let a = c .before .before .before .before .before .before .before .before .args in
-    tile-in (a .k) (a .row) (a .column)
-    (verdict-in (a .k) (a .row) (a .column) (sym (verdict (c .before .before)) ∙ c .enum-told .given .1))
+    tile-in (a .k) (a .row) (a .column) (sym (verdict (c .before .before)) ∙ c .enum-told .given .1)
 
 small : (c : tie.After-enum-told) → let a = c .before .before .before .before .before .before .before .before .args in
     tileOf (a .k) (natAbs (a .row)) (natAbs (a .column)) < 998001
@@ -118,8 +116,8 @@ size-requires-2 c κs = search needs
 add-tile : tie.Need-add-tile
 add-tile c = omega (arith, small (c .before .before .before), here c)
 
-number-of-requires : tie.Need-number-of-requires
-number-of-requires c κs = (
+index-says-requires : tie.Need-index-says-requires
+index-says-requires c κs = (
   known-sized _ (c .before .before .before .before .before .before .before .before .before .before .before .pre),
   (
     right (c .before .before .before .before .before .before .before),
@@ -127,16 +125,19 @@ number-of-requires c κs = (
   ),
 )
 
+number-said-requires : tie.Need-number-said-requires
+number-said-requires c κs = search needs
+
 enum-known-e : tie.Need-enum-known-e
 enum-known-e c = search needs
 
 returns-3 : tie.Need-returns-3
 returns-3 c =
-    let a = c .before .before .before .before .before .before .before .before .before .before .before .before .args in
-    c .number-of .ensures
-    ∙ ap (λ (t : ℕ). numberSaid t (saidOf (a .k) (a .index .now) (a .count) t)) (here (c .before))
-    ∙ sym (number-is (c .before .before .before .before .before .before) Verdict.Accepted
-    (c .before .before .before .before .enum-told .given .1))
+    let s = c .before .before in
+    let a = s .before .before .before .before .before .before .before .before .before .before .before .args in
+    c .number-said .ensures ∙ ap (numberSaid _) (c .before .index-says .ensures)
+    ∙ ap (λ (t : ℕ). numberSaid t (saidOf (a .k) (a .index .now) (a .count) t)) (here s)
+    ∙ sym (number-is (s .before .before .before .before .before) Verdict.Accepted (s .before .before .before .enum-told .given .1))
 
 returns-4 : tie.Need-returns-4
 returns-4 c = sym (number-is (c .before .before .before) (Verdict.Refused (c .before .e .given .0 .0))
@@ -158,7 +159,8 @@ stored-number-spec =
     mul-tile
     size-requires-2
     add-tile
-    number-of-requires
+    index-says-requires
+    number-said-requires
     enum-known-e
     returns-3
     returns-4)

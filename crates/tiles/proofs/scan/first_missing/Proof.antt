@@ -5,18 +5,22 @@ use Prim.Native.Nat.{ℕ, _+_, _-_, _*_, _≤_, _<_}
 use native.Mathlib.Omega.{arith}
 use native.Mathlib.Nat.{mul-le-mul}
 use lib.ListN.{length}
+use borrow.Author.Needs.{needs}
+use Rattle.tiles.specs.declared.Said.{Said}
 use Rattle.tiles.specs.declared.WindowAnswer.{WindowAnswer}
 use Rattle.whole.specs.Lists.{upFrom}
-use Rattle.tiles.specs.Window.{windowTiles, scan}
-use Rattle.tiles.proofs.Ahead.{enter, leave, done, advance, at-missing, at-above, within}
+use Rattle.tiles.specs.Index.{saidOf}
+use Rattle.tiles.specs.Window.{windowTiles, scanned, scan}
+use Rattle.tiles.proofs.Entry.{said-in}
+use Rattle.tiles.proofs.Ahead.{enter, leave, done, next, within}
 use Rattle.tiles.proofs.scan.first_missing.Statement.{statement}
 use Rattle.tiles.proofs.scan.first_missing.Tie as tie
 
 abbrev Inv-loop : tie.InvT-loop
 Inv-loop k index count top left height width answer₀ r start c₀ answer c =
     (answer ≡ WindowAnswer.AllStored) × (c ≤ width)
-    × (scan k index count (windowTiles k top left height width)
-    ≡ scan k index count (upFrom (start + c) (width - c) ++ windowTiles k (top + (r + 1)) left
+    × (scan (saidOf k index count) (windowTiles k top left height width)
+    ≡ scan (saidOf k index count) (upFrom (start + c) (width - c) ++ windowTiles k (top + (r + 1)) left
     (height - (r + 1)) width))
 
 abbrev μ-loop : tie.MeasureT-loop
@@ -25,8 +29,8 @@ abbrev μ-loop : tie.MeasureT-loop
 abbrev Inv-rows : tie.InvT-rows
 Inv-rows k index count top left height width answer₀ r₀ answer r =
     (answer ≡ WindowAnswer.AllStored) × (r ≤ height)
-    × (scan k index count (windowTiles k top left height width)
-    ≡ scan k index count (windowTiles k (top + r) left (height - r) width))
+    × (scan (saidOf k index count) (windowTiles k top left height width)
+    ≡ scan (saidOf k index count) (windowTiles k (top + r) left (height - r) width))
 
 abbrev μ-rows : tie.MeasureT-rows
 μ-rows k index count top left height width answer₀ r₀ answer r = height - r
@@ -56,6 +60,22 @@ inside c =
           (c .before .before .before .rows-test .taken) (c .loop-test .taken) (s .pre .across) (s .pre .down),
     )
 
+-- the scan of the whole, by what is said of the tile and the scan of what is left
+step : (c : tie.After-entry-says Inv-loop μ-loop Inv-rows μ-rows) (v : Said) → c .entry-says .result ≡ v →
+    let a = c .before .before .before .before .before .before .before .args in
+    let says = saidOf (a .k) (a .index .now) (a .count) in
+    let r = c .before .before .before .before .before .rows .r in
+    let i = c .before .before .loop .c in
+    scan says (windowTiles (a .k) (a .top) (a .left) (a .height) (a .width))
+    ≡ scanned (here (c .before)) v (scan says (upFrom ((a .top + r) * a .k .nfc + a .left + (i + 1)) (a .width - (i + 1))
+    ++ windowTiles (a .k) (a .top + (r + 1)) (a .left) (a .height - (r + 1)) (a .width)))
+step c v e =
+    let s = c .before .before .before .before .before .before .before in
+    let l = c .before .before .loop in
+    l .inv .2
+    ∙ next (saidOf (s .args .k) (s .args .index .now) (s .args .count)) _ (l .c) _ _ (c .before .loop-test .taken) v
+    (said-in _ _ _ _ (s .pre .indexed) ∙ sym (c .entry-says .ensures) ∙ e)
+
 rows-holds : tie.Need-rows-holds Inv-loop μ-loop Inv-rows μ-rows
 rows-holds c =
     let a = c .before .args in
@@ -84,21 +104,24 @@ loop-holds c =
       l .inv .0,
       omega arith,
       l .inv .2
-          ∙ enter (s .args .k) (s .args .index .now) (s .args .count) (s .args .top) (s .args .left) (l .r)
+          ∙ enter _ (s .args .k) (s .args .top) (s .args .left) (l .r)
           (s .args .height) (s .args .width) (c .before .rows-test .taken),
     )
 
 add-tile : tie.Need-add-tile Inv-loop μ-loop Inv-rows μ-rows
 add-tile c = omega (arith, inside c)
 
-mul-e : tie.Need-mul-e Inv-loop μ-loop Inv-rows μ-rows
-mul-e c = omega (arith, inside c)
+entry-says-requires : tie.Need-entry-says-requires Inv-loop μ-loop Inv-rows μ-rows
+entry-says-requires c κs = inside c
 
-shared-slice-read-e : tie.Need-shared-slice-read-e Inv-loop μ-loop Inv-rows μ-rows
-shared-slice-read-e c = inside (c .before)
+enum-told : tie.Need-enum-told Inv-loop μ-loop Inv-rows μ-rows
+enum-told c = search needs
 
-cast-e : tie.Need-cast-e Inv-loop μ-loop Inv-rows μ-rows
-cast-e c = omega (arith, c .shared-slice-known2 .given (here (c .before)))
+enum-told-2 : tie.Need-enum-told-2 Inv-loop μ-loop Inv-rows μ-rows
+enum-told-2 c = search needs
+
+enum-told-3 : tie.Need-enum-told-3 Inv-loop μ-loop Inv-rows μ-rows
+enum-told-3 c = search needs
 
 bad-entry-requires : tie.Need-bad-entry-requires Inv-loop μ-loop Inv-rows μ-rows
 bad-entry-requires c κs = tt
@@ -110,14 +133,11 @@ loop-less : tie.Need-loop-less Inv-loop μ-loop Inv-rows μ-rows
 loop-less c = omega arith
 
 loop-again : tie.Need-loop-again Inv-loop μ-loop Inv-rows μ-rows
-loop-again c =
-    let l = c .before .before .before .before .loop in (
-      l .inv .0,
-      omega arith,
-      l .inv .2
-          ∙ advance _ _ _ (c .before .before .before .before .before .before .before .before .before .pre .indexed) _
-          (l .c) _ _ (c .before .before .before .loop-test .taken) (c .before .if1 .left) (c .if2 .left),
-    )
+loop-again c = (
+  c .before .before .before .before .loop .inv .0,
+  omega arith,
+  step (c .before .before) (Said.Stored (c .enum-told .given .0 .0)) (c .enum-told .given .1),
+)
 
 add-r : tie.Need-add-r Inv-loop μ-loop Inv-rows μ-rows
 add-r c = omega arith
@@ -128,29 +148,21 @@ rows-less c = omega arith
 rows-again : tie.Need-rows-again Inv-loop μ-loop Inv-rows μ-rows
 rows-again c =
     let l = c .before .loop in
-    (l .inv .0, omega arith, l .inv .2 ∙ leave _ _ _ _ (l .c) _ _ (c .loop-test .left))
+    (l .inv .0, omega arith, l .inv .2 ∙ leave _ _ (l .c) _ _ (c .loop-test .left))
 
 returns : tie.Need-returns Inv-loop μ-loop Inv-rows μ-rows
 returns c =
     let a = c .before .before .before .args in
     let l = c .before .rows in
     l .inv .0 ∙ sym (l .inv .2
-    ∙ done (a .k) (a .index .now) (a .count) (a .top) (a .left) (l .r) (a .height) (a .width) (c .rows-test .left))
+    ∙ done _ (a .k) (a .top) (a .left) (l .r) (a .height) (a .width) (c .rows-test .left))
 
 returns-2 : tie.Need-returns-2 Inv-loop μ-loop Inv-rows μ-rows
-returns-2 c =
-    let l = c .before .before .before .loop in
-    sym (l .inv .2 ∙ at-missing _ _ _
-    (c .before .before .before .before .before .before .before .before .pre .indexed) _ (l .c) _ _
-    (c .before .before .loop-test .taken) (c .if1 .taken))
+returns-2 c = sym (step (c .before .before) Said.Missing (c .enum-told2 .given .1))
 
 returns-3 : tie.Need-returns-3 Inv-loop μ-loop Inv-rows μ-rows
-returns-3 c =
-    let l = c .before .before .before .before .before .loop in
-    ap WindowAnswer.Refused (c .bad-entry .ensures)
-    ∙ sym (l .inv .2 ∙ at-above _ _ _
-    (c .before .before .before .before .before .before .before .before .before .before .pre .indexed) _ (l .c) _ _
-    (c .before .before .before .before .loop-test .taken) (c .before .before .if1 .left) (c .before .if2 .taken))
+returns-3 c = ap WindowAnswer.Refused (c .bad-entry .ensures)
+    ∙ sym (step (c .before .before .before) Said.Above (c .before .enum-told3 .given .1))
 
 pub first-missing-spec : {M : Type 1} → statement M
 first-missing-spec =
@@ -166,9 +178,10 @@ first-missing-spec =
     add-start-2
     loop-holds
     add-tile
-    mul-e
-    shared-slice-read-e
-    cast-e
+    entry-says-requires
+    enum-told
+    enum-told-2
+    enum-told-3
     bad-entry-requires
     add-c
     loop-less

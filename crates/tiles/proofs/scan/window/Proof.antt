@@ -6,7 +6,7 @@ use borrow.Author.Tests.{ltb-false, not-true, not-false}
 use lib.Dec.{ltb}
 use Rattle.tiles.specs.declared.WindowAnswer.{WindowAnswer}
 use Rattle.tiles.specs.Index.{indexWrong}
-use Rattle.tiles.specs.Window.{windowTiles, windowOf}
+use Rattle.tiles.specs.Window.{windowTiles, viewOf, windowOf}
 use Rattle.tiles.proofs.Sized.{known-sized}
 use Rattle.tiles.proofs.Entry.{neither, index-long}
 use Rattle.tiles.proofs.Ahead.{scan-all}
@@ -46,12 +46,12 @@ refused-requires-2 : tie.Need-refused-requires-2
 refused-requires-2 c κs = search needs
 
 returns-2 : tie.Need-returns-2
-unfolding windowOf
+unfolding windowOf viewOf
 returns-2 c = rw (right (c .before .before .before .before), past (c .before .before) ∙ c .before .if2 .taken)
     (ap WindowAnswer.Refused (c .refused2 .ensures))
 
 returns-3 : tie.Need-returns-3
-unfolding windowOf
+unfolding windowOf viewOf
 returns-3 c =
     let a = c .before .before .before .before .before .before .before .before .args in
     rw (
@@ -74,7 +74,7 @@ first-missing-requires c κs =
     }
 
 returns-4 : tie.Need-returns-4
-unfolding windowOf
+unfolding windowOf viewOf
 returns-4 c = rw (
   right (c .before .before .before .before .before .before),
   past (c .before .before .before .before) ∙ c .before .before .before .if2 .left,
