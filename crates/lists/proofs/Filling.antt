@@ -15,12 +15,15 @@ use mir.Syntax.{w64}
 use mir.Val.{SFits, toZ, ofZ}
 use mir.ValLaws.{toZ-ofZ}
 use Rattle.arc.specs.Refusals.{Report}
+use Rattle.card.specs.declared.Card.{Card}
 use Rattle.card.specs.declared.PositionAnswer.{PositionAnswer}
 use Rattle.card.specs.declared.PixelAnswer.{PixelAnswer}
 use Rattle.whole.specs.Lists.{over, each}
-use Rattle.card.specs.Grid.{positionReport, pixelReport}
+use Rattle.card.specs.Grid.{positionOf, pixelOf, positionReport, pixelReport}
 use Rattle.card.proofs.Laid.{both}
-use Rattle.lists.specs.Lists.{reportValues, reportNumbers, pairs, listsFit}
+use Rattle.lists.specs.declared.Asked.{Asked}
+use Rattle.lists.specs.declared.Pair.{Pair}
+use Rattle.lists.specs.Lists.{pairs, listsFit, pairAt, reportAt, reportValues, reportNumbers}
 
 module _ {A : Type 0} where
   pub length-over : (xs out : List A) → length xs ≤ length out → length (over xs out) ≡ length out
@@ -105,11 +108,20 @@ module _ (f : ℕ → Report) where
               (ap (λ (k : ℕ). reportNumbers i f ++ k ∷ []) (sym en) ∙ ap (λ (k : ℕ). reportNumbers k f) (sym (add-one i)));
         }
 
+-- ---- a question put to a pair as the machine holds it
+pub pair-asked : {A : Type 0} (f : ℤ → ℤ → A) {x y : Pair} → SFits w64 (x .first) → SFits w64 (x .second) → x ≡ y
+    → f (toZ w64 (ofZ w64 (x .first))) (toZ w64 (ofZ w64 (x .second))) ≡ f (y .first) (y .second)
+pair-asked f {x} h k e = ap₂ f (toZ-ofZ w64 (x .first) h) (toZ-ofZ w64 (x .second) k) ∙ ap (λ (p : Pair). f (p .first) (p .second)) e
+
 -- ---- two value parts, in a refusal too
-pub position-values : (a : PositionAnswer) → length (positionReport a .values) ≡ 2
+position-values : (a : PositionAnswer) → length (positionReport a .values) ≡ 2
 position-values (PositionAnswer.At lat lon) = refl
 position-values (PositionAnswer.Refused r) = refl
 
-pub pixel-values : (a : PixelAnswer) → length (pixelReport a .values) ≡ 2
+pixel-values : (a : PixelAnswer) → length (pixelReport a .values) ≡ 2
 pixel-values (PixelAnswer.At row column) = refl
 pixel-values (PixelAnswer.Refused r) = refl
+
+pub report-values : (asked : Asked) (k : Card) (ps : List ℤ) (i : ℕ) → length (reportAt asked k ps i .values) ≡ 2
+report-values Asked.Positions k ps i = position-values (positionOf k (pairAt ps i .first) (pairAt ps i .second))
+report-values Asked.Pixels k ps i = pixel-values (pixelOf k (pairAt ps i .first) (pairAt ps i .second))

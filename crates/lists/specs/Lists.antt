@@ -5,6 +5,7 @@
 --     pairAt ps i            pair i of a list: its first number stands at 2i, its second at 2i + 1
 --     positionReportAt k ps i      the report of pixel i of the list, a pair of row and column
 --     pixelReportAt k qs i     the report of position i of the list, a pair of latitude and longitude
+--     reportAt asked k ps i  either of the two, as asked
 --     reportValues, reportNumbers  the value parts, and the numbers, of the first n reports
 --     valuesLeft, numbersLeft    what the list to fill and the numbers hold at the end
 use Prim.Native.Nat.{ℕ, _+_, _*_, _/_, _%_}
@@ -17,6 +18,7 @@ use Rattle.whole.specs.Lists.{each, over}
 use Rattle.arc.specs.declared.Verdict.{Verdict}
 use Rattle.arc.specs.Refusals.{refusal, Report}
 use Rattle.card.specs.declared.Card.{Card}
+use Rattle.lists.specs.declared.Asked.{Asked}
 use Rattle.lists.specs.declared.Pair.{Pair}
 use Rattle.card.specs.Grid.{positionOf, pixelOf, positionReport, pixelReport}
 
@@ -37,6 +39,10 @@ positionReportAt k ps i = positionReport (positionOf k (pairAt ps i .first) (pai
 
 abbrev pub pixelReportAt : Card → List ℤ → ℕ → Report
 pixelReportAt k qs i = pixelReport (pixelOf k (pairAt qs i .first) (pairAt qs i .second))
+
+abbrev pub reportAt : Asked → Card → List ℤ → ℕ → Report
+reportAt Asked.Positions k ps i = positionReportAt k ps i
+reportAt Asked.Pixels k ps i = pixelReportAt k ps i
 
 abbrev pub reportValues : ℕ → (ℕ → Report) → List ℤ
 reportValues n f = each n (λ i. f i .values)

@@ -5,10 +5,14 @@
 --     columnAxis k       the easting of column 0, what a column adds to it, and what its rounding starts from
 --     engineOf k         the engine of a card
 --     Made e             it is the engine of its card, and some accepted card gives that
+--     pairTold p         the report that the parts of a pair tell
 use mathlib.Core.Path.{_≡_}
 use Prim.Native.Nat.{ℕ, _+_, _-_, _*_, _/_, _%_}
+use mathlib.Core.List.{[], _∷_}
+use Rattle.arc.specs.Refusals.{Report}
 use Rattle.card.specs.declared.Card.{Card}
 use Rattle.card.specs.Read.{Known}
+use Rattle.lists.specs.declared.PairParts.{PairParts}
 use Rattle.lists.specs.declared.engine.Axis.{Axis}
 use Rattle.lists.specs.declared.engine.Engine.{Engine}
 
@@ -44,3 +48,6 @@ engineOf k =
 pub record Made (e : Engine) : Type 0 where
   pub known : Known (e .card)
   pub same : e ≡ engineOf (e .card)
+
+abbrev pub pairTold : PairParts → Report
+pairTold p = record { number = p .number; place = p .at; values = p .first ∷ p .second ∷ [] }
