@@ -5,6 +5,7 @@ pub mod Line
 pub mod Axes
 pub mod Regions
 pub mod Chain
+pub mod Places
 pub mod Answers
 pub mod Ranges
 pub mod Doubles
