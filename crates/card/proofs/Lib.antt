@@ -6,6 +6,7 @@ pub mod Axes
 pub mod Regions
 pub mod Chain
 pub mod Places
+pub mod Copies
 pub mod Answers
 pub mod Ranges
 pub mod Doubles

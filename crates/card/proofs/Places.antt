@@ -56,9 +56,10 @@ module _ (k : Card) (l : Laid k) where
 
 -- ---- what one later card answers
 
-record Told (k : Card) (u v lat lon : ℤ) : Type 0 where
+pub record Told (k : Card) (u v lat lon : ℤ) : Type 0 where
   pub gives : GivesWhere k u v lat lon
   pub only : GivesOnly k u v lat lon
+  pub back : (r c : ℤ) → pixelOf k lat lon ≡ PixelAnswer.At r c → positionOf k r c ≡ PositionAnswer.At lat lon
   pub refuses : RefusesWhere k u v lat lon
 
 -- the answers differ
@@ -90,19 +91,24 @@ module _ (k : Card) (l : Laid k) (u v lat lon : ℤ) where
             let x : r ≡ i = cc in
             let y : c ≡ j = cc in
             subst₂ (OnlyAt k u v) x y (h .1, λ i j. one-pixel k l u v r c i j tiles (h .1));
+        back = λ i j f.
+            let x : i ≡ r = cc in
+            let y : j ≡ c = cc in
+            ap₂ (positionOf k) x y ∙ h .2;
         refuses = (((λ f. no-pixel f p), (λ n. absurd (n tiled))), ((λ f. no-pixel f p), (λ n. absurd (n .1 has))));
       }
   told (PixelAnswer.Refused e) p h =
       record {
         gives = ((λ g. no-pixel p (g .given)), (λ g. absurd (h .0 g)));
         only = λ i j f. no-pixel p f;
+        back = λ i j f. no-pixel p f;
         refuses = refuses e p h;
       }
 
 -- the walk over one later card
 module _ (scale zone : ℕ) (first : Card) (p : Accepted scale zone first) (r c : ℤ) (within : inChart first r c ≡ true)
     (lat lon : ℤ) (answered : positionOf first r c ≡ PositionAnswer.At lat lon) where
-  pub visit-right : (k : Card) → Accepted scale zone k → Right (placeRow first r) (placeColumn first c) lat lon k (visit k lat lon)
+  visit-right : (k : Card) → Accepted scale zone k → Right (placeRow first r) (placeColumn first c) lat lon k (visit k lat lon)
   visit-right k q =
       let w = no-drift scale zone first (k ∷ []) (p, (q, tt)) r c within in
       let e = w .answered in
@@ -110,7 +116,7 @@ module _ (scale zone : ℕ) (first : Card) (p : Accepted scale zone first) (r c 
       let y : w .lon ≡ lon = cc in
       subst₂ (λ (x y : ℤ). Right (placeRow first r) (placeColumn first c) x y k (visit k x y)) x y (w .each .0)
 
-  told-by-place : (k : Card) → Accepted scale zone k → Told k (placeRow first r) (placeColumn first c) lat lon
+  pub told-by-place : (k : Card) → Accepted scale zone k → Told k (placeRow first r) (placeColumn first c) lat lon
   told-by-place k q = told k (accepted-laid scale zone k q) _ _ lat lon (pixelOf k lat lon) refl (visit-right k q)
 
   -- the position that goes on is the same
