@@ -11,8 +11,8 @@ use Rattle.arc.specs.declared.ConstantAnswer.{ConstantAnswer}
 use Rattle.arc.specs.declared.SpacingAnswer.{SpacingAnswer}
 use Rattle.arc.specs.Refusals.{refusal}
 use Rattle.arc.specs.Zones.{Row, table, hasZone, rowIn, tableRow}
-use Rattle.arc.specs.Spacing.{isScale, spacingAt, rowUnit, columnsIn, rowsOf, withRows, spacingOf, Scale, SpacingUnit, GridsIs}
-use Rattle.arc.proofs.Spaced.{scale-in, grid}
+use Rattle.arc.specs.Spacing.{isScale, spacingAt, rowUnit, columnsIn, rowsOf, withRows, spacingOf, SpacingUnit, GridsIs}
+use Rattle.arc.proofs.Spaced.{grid}
 
 -- the units of a table are in range
 abbrev unitsIn : List Row → Bool
@@ -37,7 +37,7 @@ unit-in (r ∷ rs) zone e =
 
 -- an answer that is no refusal comes from a good scale and a row
 pub record From (s zone a b : ℕ) : Type 0 where
-  pub scale : Scale s
+  pub scale : isScale s ≡ true
   pub of-row : Row
   pub is-row : tableRow zone ≡ some of-row
   pub is-a : a ≡ spacingAt (of-row .unit) s
@@ -48,7 +48,7 @@ answered-from s zone a b e = go (isScale s) (tableRow zone) refl refl e
   where
     go : (t : Bool) (o : Option Row) → isScale s ≡ t → tableRow zone ≡ o
         → cond t (withRows s (columnsIn s o)) (SpacingAnswer.Refused (refusal 1)) ≡ SpacingAnswer.Constants a b → From s zone a b
-    go true (some r) p q k = record { scale = scale-in s p; of-row = r; is-row = q; is-a = cc; is-b = cc }
+    go true (some r) p q k = record { scale = p; of-row = r; is-row = q; is-a = cc; is-b = cc }
     go true none p q k = let z : _≡_ {A = ℕ} 0 1 = cc in absurd (omega arith)
     go false o p q k = let z : _≡_ {A = ℕ} 0 1 = cc in absurd (omega arith)
 
@@ -62,11 +62,11 @@ answered-grids s zone a b e =
     }
 
 -- B alone
-pub rows-from : (s b : ℕ) → rowsOf s ≡ ConstantAnswer.Pixels b → Scale s × (b ≡ spacingAt rowUnit s)
+pub rows-from : (s b : ℕ) → rowsOf s ≡ ConstantAnswer.Pixels b → (isScale s ≡ true) × (b ≡ spacingAt rowUnit s)
 rows-from s b e = go (isScale s) refl e
   where
     go : (t : Bool) → isScale s ≡ t
         → cond t (ConstantAnswer.Pixels (spacingAt rowUnit s)) (ConstantAnswer.Refused (refusal 1)) ≡ ConstantAnswer.Pixels b
-        → Scale s × (b ≡ spacingAt rowUnit s)
-    go true p k = (scale-in s p, cc)
+        → (isScale s ≡ true) × (b ≡ spacingAt rowUnit s)
+    go true p k = (p, cc)
     go false p k = let z : _≡_ {A = ℕ} 0 1 = cc in absurd (omega arith)

@@ -2,7 +2,6 @@
 use mathlib.Core.Path.{sym, ap, _∙_}
 use borrow.Author.Tests.{not-true, not-false}
 use Rattle.arc.specs.declared.SpacingAnswer.{SpacingAnswer}
-use Rattle.arc.proofs.Spaced.{scale-in}
 use borrow.Author.Needs.{needs}
 use Rattle.arc.proofs.spacing.Statement.{statement}
 use Rattle.arc.proofs.spacing.Tie as tie
@@ -17,10 +16,10 @@ returns : tie.Need-returns
 returns c = rw (sym (c .before .before .is-scale .ensures) ∙ not-true _ (c .before .if1 .taken)) (ap SpacingAnswer.Refused (c .refused .ensures))
 
 rows-requires : tie.Need-rows-requires
-rows-requires c κs = scale-in (c .before .before .args .scale) (sym (c .before .is-scale .ensures) ∙ not-false _ (c .if1 .left))
+rows-requires c κs = sym (c .before .is-scale .ensures) ∙ not-false _ (c .if1 .left)
 
 columns-requires : tie.Need-columns-requires
-columns-requires c κs = scale-in (c .before .before .before .args .scale) (sym (c .before .before .is-scale .ensures) ∙ not-false _ (c .before .if1 .left))
+columns-requires c κs = sym (c .before .before .is-scale .ensures) ∙ not-false _ (c .before .if1 .left)
 
 enum-known-a : tie.Need-enum-known-a
 enum-known-a c = search needs
