@@ -14,7 +14,7 @@ use Rattle.arc.specs.Zones.{circle, quarter, isPolar, Row, from, to, rowAt}
 use Rattle.zones.specs.Basic.{holdsSize}
 use Rattle.zones.specs.Cover.{overlaps, coversIn, covers}
 use Rattle.zones.specs.Steps.{reaches}
-use Rattle.zones.proofs.Rows.{from-to, northern-at, southern-at, row-north, row-south, to-least}
+use Rattle.arc.proofs.Table.{from-to, northern-at, southern-at, row-north, row-south, to-least}
 use Rattle.zones.proofs.Covering.{covers-is}
 use Rattle.rectangle.specs.Rectangle.{coversSome, Covered}
 use Rattle.rectangle.specs.Steps.{meets}

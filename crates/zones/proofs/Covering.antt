@@ -19,7 +19,8 @@ use Rattle.whole.specs.Lists.{those, downFrom}
 use Rattle.zones.specs.Basic.{holdsSize, zoneOn, basicZone}
 use Rattle.zones.specs.Cover.{overlaps, coversIn, covers, firstZone, coverZones}
 use Rattle.zones.specs.Steps.{reaches, coverFrom, Rows}
-use Rattle.zones.proofs.Rows.{northern-at, southern-at, row-north, row-south, polar-at, last-at, from-to, place, is-place}
+use Rattle.arc.proofs.Table.{northern-at, southern-at, row-north, row-south, polar-at, last-at, from-to}
+use Rattle.zones.proofs.Rows.{place, is-place}
 use Rattle.zones.proofs.Order.{within, to-from}
 
 pub leb-ltb : (m n : ℕ) → leb m n ≡ not (ltb n m)
