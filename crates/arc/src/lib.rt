@@ -75,12 +75,11 @@ pub fn b_constant(scale: u64) -> ConstantAnswer
 pub fn spacing(scale: u64, zone: u64) -> SpacingAnswer
     ensures { λ r. ⌜ r ≡ spacingOf scale zone ⌝ }
 {
-    if !is_scale(scale) {
-        return SpacingAnswer::Refused(refused(1));
-    }
-    let b = zone::rows(scale);
-    match zone::columns(scale, zone) {
-        ConstantAnswer::Pixels(a) => SpacingAnswer::Constants { a, b },
+    match b_constant(scale) {
+        ConstantAnswer::Pixels(b) => match zone::columns(scale, zone) {
+            ConstantAnswer::Pixels(a) => SpacingAnswer::Constants { a, b },
+            ConstantAnswer::Refused(r) => SpacingAnswer::Refused(r),
+        },
         ConstantAnswer::Refused(r) => SpacingAnswer::Refused(r),
     }
 }

@@ -15,7 +15,6 @@ use arc::Zone8;
 use arc::Zone9;
 ghost use mathlib.Core.Path.{_≡_};
 ghost use Prim.Native.Nat.{_+_, _-_, _*_, _<_, _≤_};
-ghost use lib.IntN.{ℤ, pos, natAbs};
 ghost use Rattle.arc.specs.Zones.{quarter};
 ghost use Rattle.zones.specs.Basic.{rowHolding, basicZoneOf};
 ghost use Rattle.zones.specs.Cover.{firstZone, acceptedCover, coverAt, coverOf, refusedCover};

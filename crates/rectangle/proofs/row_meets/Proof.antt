@@ -7,7 +7,7 @@ use borrow.Author.Tests.{le-leb, lt-leb}
 use lib.Dec.{ltb, eqb}
 use Rattle.whole.proofs.Machine.{fits-mul}
 use Rattle.arc.specs.Zones.{half, isPolar, circle, rowAt, to}
-use Rattle.zones.proofs.Rows.{polar-at}
+use Rattle.arc.proofs.Table.{polar-at}
 use Rattle.rectangle.specs.Steps.{meets}
 use borrow.Author.Needs.{needs}
 use Rattle.rectangle.proofs.row_meets.Statement.{statement}

@@ -13,7 +13,7 @@ use Rattle.zones.specs.declared.CoverAnswer.{CoverAnswer}
 use Rattle.zones.specs.Cover.{acceptedCover}
 use Rattle.whole.specs.Lists.{padded, downFrom}
 use Rattle.zones.specs.Steps.{coverFrom}
-use Rattle.zones.proofs.Filled.{Sofar, finished}
+use Rattle.whole.proofs.Lists.{Sofar, finished}
 use Rattle.zones.proofs.Order.{within, limit-low, took, stopped}
 use Rattle.zones.proofs.cover_from.Statement.{statement}
 use Rattle.zones.proofs.cover_from.Tie as tie
