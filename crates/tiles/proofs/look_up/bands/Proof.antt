@@ -1,5 +1,5 @@
 -- The part is that of `tile`, and the three places lie in it. Assumes nothing.
-use mathlib.Core.Path.{_≡_, ap, ap₂, _∙_}
+use mathlib.Core.Path.{_≡_, refl, sym, ap, ap₂, _∙_}
 use mathlib.Core.List.{List}
 use Prim.Native.Nat.{ℕ, _+_, _*_, _%_}
 use native.Mathlib.Omega.{arith}
@@ -8,8 +8,7 @@ use lib.IntN.{natAbs}
 use mir.Syntax.{w64}
 use mir.ValLaws.{toZ-ofZ}
 use Rattle.tiles.specs.declared.BandsAnswer.{BandsAnswer}
-use Rattle.tiles.specs.LookUp.{partOf, bandsOf}
-use Rattle.tiles.proofs.Pixel.{InStore, part-ends, part-length, told, held}
+use Rattle.tiles.proofs.Pixel.{InStore, part-ends, part-length, bands-told, held}
 use borrow.Author.Needs.{needs}
 use Rattle.tiles.proofs.look_up.bands.Statement.{statement}
 use Rattle.tiles.proofs.look_up.bands.Tie as tie
@@ -18,7 +17,7 @@ use Rattle.tiles.proofs.look_up.bands.Tie as tie
 lies : (c : tie.After-known-told) → let a = c .before .before .before .before .before .before .args in
     InStore (c .before .n .given .0 .0) (a .count) (a .store .now)
 lies c = let s = c .before .before .before .before .before .before in
-    held _ _ _ _ _ _ (s .fits .row) (s .fits .column) (c .before .before .before .stored-number .ensures) (c .before .n .given .1)
+    held _ _ _ _ _ _ (s .fits .row) (s .fits .column) (c .before .before .before .stored-number .ensures) (c .before .n .given .1) _ refl
 
 long : (c : tie.After-part) → length (c .part .result .now) ≡ 49152
 long c = ap length (c .part .ensures) ∙ part-length _ _ _ (lies (c .before))
@@ -74,21 +73,19 @@ made : {p q : List ℕ} {r s c d : ℕ} → p ≡ q → r ≡ s → c ≡ d
 made e f g = ap₂ bandsAt e (ap₂ (λ (x y : ℕ). x % 128 * 128 + y % 128) f g)
 
 returns : tie.Need-returns
-unfolding bandsOf partOf
 returns c =
     let s = c .before .before .before .before .before .before .before .before .before .before .before .before in
     let n = c .before .before .before .before .before .before .before in
-    rw (told _ _ _ _ _ _ (s .fits .row) (s .fits .column) (n .before .before .stored-number .ensures) ∙ n .n .given .1)
-    (made (c .before .before .before .before .before .part .ensures)
+    made (c .before .before .before .before .before .part .ensures)
     (c .before .before .before .before .size .ensures ∙ ap natAbs (toZ-ofZ w64 (s .args .row) (s .fits .row)))
-    (c .before .before .before .size2 .ensures ∙ ap natAbs (toZ-ofZ w64 (s .args .column) (s .fits .column))))
+    (c .before .before .before .size2 .ensures ∙ ap natAbs (toZ-ofZ w64 (s .args .column) (s .fits .column)))
+    ∙ sym (bands-told _ _ _ _ _ _ (s .fits .row) (s .fits .column) (n .before .before .stored-number .ensures) (n .n .given .1))
 
 returns-2 : tie.Need-returns-2
-unfolding bandsOf
 returns-2 c =
-    let b = c .before .before .before in
-    let s = b .before .before .before in
-    rw (told _ _ _ _ _ _ (s .fits .row) (s .fits .column) (b .stored-number .ensures) ∙ c .before .e .given .1)
+    let n = c .before .before .before in
+    let s = n .before .before .before in
+    sym (bands-told _ _ _ _ _ _ (s .fits .row) (s .fits .column) (n .stored-number .ensures) (c .before .e .given .1))
 
 pub bands-spec : {M : Type 1} → statement M
 bands-spec =

@@ -1,10 +1,17 @@
 -- A stored number's part lies in the store; a refusal's is empty. Assumes nothing.
-use mathlib.Core.Path.{_∙_}
-use Rattle.tiles.specs.LookUp.{partOf}
-use Rattle.tiles.proofs.Pixel.{part-ends, told, held}
+use mathlib.Core.Path.{_≡_, refl, sym, _∙_}
+use Rattle.tiles.specs.declared.NumberAnswer.{NumberAnswer}
+use Rattle.tiles.specs.LookUp.{partIn, partOf}
+use Rattle.tiles.proofs.Pixel.{part-ends, part-told, held}
 use borrow.Author.Needs.{needs}
 use Rattle.tiles.proofs.look_up.tile.Statement.{statement}
 use Rattle.tiles.proofs.look_up.tile.Tie as tie
+
+-- the part, by what was answered
+part-is : (c : tie.After-stored-number) {x : NumberAnswer} → c .stored-number .result ≡ x → let a = c .before .before .before .args in
+    partOf (a .k) (a .index .now) (a .count) (a .store .now) (a .row) (a .column) ≡ partIn x (a .store .now)
+part-is c o = let s = c .before .before .before in
+    part-told _ _ _ _ _ _ (s .fits .row) (s .fits .column) (c .stored-number .ensures) o
 
 stored-number-requires : tie.Need-stored-number-requires
 stored-number-requires c κs = search needs
@@ -15,7 +22,7 @@ enum-known-n c = search needs
 part-requires : tie.Need-part-requires
 part-requires c κs =
     let s = c .before .before .before .before .before .before in
-    let h = held _ _ _ _ _ _ (s .fits .row) (s .fits .column) (c .before .before .before .stored-number .ensures) (c .before .n .given .1) in
+    let h = held _ _ _ _ _ _ (s .fits .row) (s .fits .column) (c .before .before .before .stored-number .ensures) (c .before .n .given .1) _ refl in
     (h .some, part-ends _ _ _ h)
 
 enum-told : tie.Need-enum-told
@@ -31,18 +38,10 @@ part-result-end : tie.Need-part-result-end
 part-result-end c = search needs
 
 returns : tie.Need-returns
-unfolding partOf
-returns c =
-    let b = c .before .before .before .before in
-    let s = b .before .before .before in
-    rw (told _ _ _ _ _ _ (s .fits .row) (s .fits .column) (b .stored-number .ensures) ∙ c .before .before .n .given .1) (c .part .ensures)
+returns c = c .part .ensures ∙ sym (part-is (c .before .before .before .before) (c .before .before .n .given .1))
 
 returns-2 : tie.Need-returns-2
-unfolding partOf
-returns-2 c =
-    let b = c .before .before .before in
-    let s = b .before .before .before in
-    rw (told _ _ _ _ _ _ (s .fits .row) (s .fits .column) (b .stored-number .ensures) ∙ c .before .enum-told .given .1)
+returns-2 c = sym (part-is (c .before .before .before) (c .before .enum-told .given .1))
 
 pub tile-spec : {M : Type 1} → statement M
 tile-spec =
