@@ -16,7 +16,7 @@ use Rattle.tiles.specs.declared.Said.{Said}
 use Rattle.tiles.specs.Index.{tiles, indexWrong, said, saidOf}
 use Rattle.tiles.specs.Check.{occurs, badAt, firstBad, allNamed, judged, checkOf, EachPlaced, NoneAbove, OnceAccepted}
 use Rattle.whole.specs.Lists.{firstFrom, oneMore}
-use Rattle.tiles.proofs.Entry.{index-long, said-above, said-stored, said-in, entry-of}
+use Rattle.tiles.proofs.Entry.{index-long, said-above, said-stored, said-in, entry-is}
 use Rattle.tiles.proofs.Pass.{good-none, good-new}
 use Rattle.tiles.proofs.Once.{occurs-at, place}
 
@@ -80,7 +80,7 @@ module _ (k : Card) (index : List ℕ) (count : ℕ) (w : indexWrong k index cou
   named-each n p q =
       let u = e n p q in
       occurs-at index (u .at) n (omega (arith, u .inside, long))
-      (entry-of count (getD index (u .at) 0) n (sym (said-in k index count (u .at) y) ∙ u .stores) .0)
+      (entry-is count (getD index (u .at) 0) (Said.Stored n) (sym (said-in k index count (u .at) y) ∙ u .stores) .0)
 
   pub passes : judged count index (firstBad count index) ≡ Verdict.Accepted
   passes =

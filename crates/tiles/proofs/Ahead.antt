@@ -8,7 +8,7 @@ use Rattle.card.specs.declared.Card.{Card}
 use Rattle.tiles.specs.declared.WindowAnswer.{WindowAnswer}
 use Rattle.tiles.specs.declared.Said.{Said}
 use Rattle.tiles.specs.Index.{saidOf}
-use Rattle.tiles.proofs.Entry.{said-all, tile-inside}
+use Rattle.tiles.proofs.Entry.{said-all}
 use Rattle.whole.specs.Lists.{upFrom}
 use Rattle.tiles.specs.Window.{windowTiles, scanned, scan}
 
@@ -49,9 +49,3 @@ module _ (says : ℕ → Said) where
   next s c width rest h v e =
       let f : s + c + 1 ≡ s + (c + 1) = omega arith in
       rw (row-step (s + c) (width - c) (width - (c + 1)) (omega arith), f, e)
-
--- the tile lies in the index
-pub within : (top r height across left width c down : ℕ) → r < height → c < width → left + width ≤ across
-    → top + height ≤ down → (top + r) * across + left + c < down * across
-within top r height across left width c down p q f g =
-    omega (arith, tile-inside (top + r) (left + c) down across (omega arith) (omega arith))

@@ -5,8 +5,8 @@ use mathlib.Core.List.{List, [], _∷_, _++_}
 use Prim.Native.Nat.{ℕ, zero, suc, _+_, _<_, _≤_}
 use native.Mathlib.Omega.{arith}
 use native.Mathlib.Decide.{ℕ-discrete}
-use borrow.Author.Tests.{eq-eqb, ne-eqb}
-use lib.Dec.{eqb}
+use borrow.Author.Tests.{eq-eqb, ne-eqb, lt-leb}
+use lib.Dec.{leb, eqb, leb·suc-suc}
 use Rattle.tiles.specs.Check.{occurs, allNamed}
 
 -- one entry more
@@ -60,18 +60,10 @@ counted-le l (suc n) = go (occurs (suc n) l) (counted-le l n)
     go false h = omega arith
 
 -- all of them, told by the count
-pub named-all : (l : List ℕ) (n : ℕ) → n ≤ counted l n → allNamed n l ≡ true
-named-all l zero h = refl
-named-all l (suc n) h = go (occurs (suc n) l) h (named-all l n)
+pub named-told : (l : List ℕ) (n : ℕ) → allNamed n l ≡ leb n (counted l n)
+named-told l zero = refl
+named-told l (suc n) = go (occurs (suc n) l) (named-told l n)
   where
-    go : (b : Bool) → suc n ≤ cond b 1 0 + counted l n → (n ≤ counted l n → allNamed n l ≡ true) → b && allNamed n l ≡ true
-    go true q w = w (omega arith)
-    go false q w = absurd (omega (arith, counted-le l n))
-
-pub named-not : (l : List ℕ) (n : ℕ) → counted l n < n → allNamed n l ≡ false
-named-not l zero h = absurd (omega arith)
-named-not l (suc n) h = go (occurs (suc n) l) h (named-not l n)
-  where
-    go : (b : Bool) → cond b 1 0 + counted l n < suc n → (counted l n < n → allNamed n l ≡ false) → b && allNamed n l ≡ false
-    go true q w = w (omega arith)
-    go false q w = refl
+    go : (b : Bool) → allNamed n l ≡ leb n (counted l n) → b && allNamed n l ≡ leb (suc n) (cond b 1 0 + counted l n)
+    go true e = let s : 1 + counted l n ≡ suc (counted l n) = omega arith in rw s (e ∙ sym (leb·suc-suc n (counted l n)))
+    go false e = sym (lt-leb (suc n) (0 + counted l n) (omega (arith, counted-le l n)))

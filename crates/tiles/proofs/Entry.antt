@@ -1,11 +1,11 @@
 -- What one entry says, and where it lies, the lengths being right. Assumes nothing.
-use mathlib.Core.Path.{_≡_, refl, sym, _∙_}
+use mathlib.Core.Path.{_≡_, refl, sym, subst, _∙_}
 use mathlib.Core.Bool.{Bool, true, false, cond, not, _||_, true≢false}
 use mathlib.Core.List.{List}
 use Prim.Native.Nat.{ℕ, _+_, _*_, _≤_, _<_}
 use native.Mathlib.Omega.{arith}
 use native.Mathlib.Nat.{add-mul, one-mul, mul-le-mul, mul-le-mul-right}
-use borrow.Author.Tests.{lt-ltb, le-ltb, eq-eqb, ne-eqb, ltb-false, eqb-true, eqb-false, not-false}
+use borrow.Author.Tests.{lt-ltb, le-ltb, eq-eqb, ne-eqb, ltb-true, ltb-false, eqb-true, eqb-false, not-false}
 use lib.Dec.{ltb, eqb}
 use lib.ListN.{length, getD}
 use Rattle.card.specs.declared.Card.{Card}
@@ -66,18 +66,19 @@ module _ (k : Card) (index : List ℕ) (count t : ℕ) where
   unfolding saidOf
   said-all y = rw y
 
--- the entry of a stored tile: 1 to count
-pub entry-of : (count e n : ℕ) → said count e ≡ Said.Stored n → (e ≡ n) × (1 ≤ n) × (n ≤ count)
-entry-of count e n = go (eqb e 0) (ltb count e) refl refl
+-- and what it is where that is said
+abbrev pub EntryIs : ℕ → ℕ → Said → Type 0
+EntryIs count e (Said.Stored n) = (e ≡ n) × (1 ≤ n) × (n ≤ count)
+EntryIs count e Said.Missing = e ≡ 0
+EntryIs count e Said.Above = count < e
+
+pub entry-is : (count e : ℕ) (v : Said) → said count e ≡ v → EntryIs count e v
+entry-is count e v h = subst (EntryIs count e) h (go (eqb e 0) (ltb count e) refl refl)
   where
-    go : (a b : Bool) → eqb e 0 ≡ a → ltb count e ≡ b
-        → cond a Said.Missing (cond b Said.Above (Said.Stored e)) ≡ Said.Stored n → (e ≡ n) × (1 ≤ n) × (n ≤ count)
-    go true b p q h = let z : _≡_ {A = ℕ} 0 1 = cc in absurd (omega arith)
-    go false true p q h = let z : _≡_ {A = ℕ} 0 1 = cc in absurd (omega arith)
-    go false false p q h =
-        let m : e ≡ n = cc in
-        let d : e ≡ 0 → ⊥ = eqb-false e 0 p in
-        (m, omega arith, omega (arith, ltb-false count e q))
+    go : (a b : Bool) → eqb e 0 ≡ a → ltb count e ≡ b → EntryIs count e (cond a Said.Missing (cond b Said.Above (Said.Stored e)))
+    go true b p q = eqb-true e 0 p
+    go false true p q = ltb-true count e q
+    go false false p q = let d = eqb-false e 0 p in (refl, omega arith, ltb-false count e q)
 
 -- a stored number is 1 to count
 pub stored-most : (k : Card) (index : List ℕ) (count t n : ℕ) → indexWrong k index count ≡ false → t < tiles k
@@ -85,7 +86,7 @@ pub stored-most : (k : Card) (index : List ℕ) (count t n : ℕ) → indexWrong
 stored-most k index count t n e h w = go (k .tif) refl
   where
     go : (b : Bool) → k .tif ≡ b → (1 ≤ n) × (n ≤ count)
-    go true y = let r = entry-of count (getD index t 0) n (sym (said-in k index count t y) ∙ w) in (r .1, r .2)
+    go true y = let r = entry-is count (getD index t 0) (Said.Stored n) (sym (said-in k index count t y) ∙ w) in (r .1, r .2)
     go false y =
         let m : Said.Stored (t + 1) ≡ Said.Stored n = sym (said-all k index count t y) ∙ w in
         let s : t + 1 ≡ n = cc in

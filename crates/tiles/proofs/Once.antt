@@ -7,7 +7,7 @@ use Prim.Native.Nat.{ℕ, zero, suc, _+_, _-_, _≤_, _<_}
 use native.Mathlib.Omega.{arith}
 use native.Mathlib.Nat.{lt-of-not-le}
 use native.Mathlib.Decide.{ℕ-discrete, decLt}
-use borrow.Author.Tests.{eq-eqb, eqb-true}
+use borrow.Author.Tests.{eq-eqb, eqb-true, ltb-false}
 use lib.Dec.{ltb, eqb}
 use lib.ListN.{length, getD, take}
 use lib.Seq.{getD-take, length-take-le}
@@ -16,9 +16,9 @@ use Rattle.arc.specs.Refusals.{refusal}
 use Rattle.card.specs.declared.Card.{Card}
 use Rattle.tiles.specs.declared.Said.{Said}
 use Rattle.tiles.specs.Index.{tiles, indexWrong, said, saidOf}
-use Rattle.tiles.specs.Check.{occurs, badAt, firstBad, allNamed, judged, checkOf, OnePlace, EachOnce, UpToCount}
+use Rattle.tiles.specs.Check.{occurs, badAt, firstBad, allNamed, judged, checkOf, EachPlaced, NoneAbove, EachOnce, UpToCount}
 use Rattle.whole.specs.Lists.{firstFrom, oneMore}
-use Rattle.tiles.proofs.Entry.{neither, index-long, count-all, said-stored, said-in, said-all, entry-of}
+use Rattle.tiles.proofs.Entry.{neither, index-long, count-all, said-stored, said-in, said-all, entry-is}
 use Rattle.tiles.proofs.Pass.{bad-again}
 
 -- ---- entries
@@ -84,85 +84,72 @@ module _ (index : List ℕ) (count : ℕ) (b : firstBad count index ≡ none) wh
       go (no p) (yes q) = absurd (not-again j i n d h q f e)
       go (no p) (no q) = omega (arith, lt-of-not-le p, lt-of-not-le q)
 
+-- ---- what an accepted check says
+record Checked (k : Card) (index : List ℕ) (count : ℕ) : Type 0 where
+  right : indexWrong k index count ≡ false
+  passes : k .tif ≡ true → (firstBad count index ≡ none) × (allNamed count index ≡ true)
+
+passed : (index : List ℕ) (count : ℕ) → judged count index (firstBad count index) ≡ Verdict.Accepted
+    → (firstBad count index ≡ none) × (allNamed count index ≡ true)
+passed index count = go (firstBad count index) (allNamed count index) refl refl
+  where
+    go : (o : Option ℕ) (b : Bool) → firstBad count index ≡ o → allNamed count index ≡ b
+        → judged count index o ≡ Verdict.Accepted → (firstBad count index ≡ none) × (allNamed count index ≡ true)
+    go (some i) b e f h = let z : _≡_ {A = ℕ} 0 1 = cc in absurd (omega arith)
+    go none false e f h = let g = rw f at h in let z : _≡_ {A = ℕ} 0 1 = cc in absurd (omega arith)
+    go none true e f h = (e, f)
+
+checked : (k : Card) (index marks : List ℕ) (count : ℕ) → checkOf k index count marks ≡ Verdict.Accepted → Checked k index count
+unfolding checkOf
+checked k index marks count = go (indexWrong k index count || ltb (length marks) count) refl
+  where
+    go : (x : Bool) → indexWrong k index count || ltb (length marks) count ≡ x
+        → cond x (Verdict.Refused (refusal 6)) (cond (k .tif) (judged count index (firstBad count index)) Verdict.Accepted)
+        ≡ Verdict.Accepted → Checked k index count
+    go true e h = let z : _≡_ {A = ℕ} 0 1 = cc in absurd (omega arith)
+    go false e h =
+        record {
+          right = neither (indexWrong k index count) (ltb (length marks) count) e .0;
+          passes = λ y. passed index count (rw y at h);
+        }
+
 -- ---- by TIF
-module _ (k : Card) (index : List ℕ) (count n : ℕ) (p : 1 ≤ n) (q : n ≤ count) where
-  -- what an accepted check says of a number
-  pub record Good : Type 0 where
-    pub first : firstBad count index ≡ none
-    pub named-is : occurs n index ≡ true
-
-  good : judged count index (firstBad count index) ≡ Verdict.Accepted → Good
-  good = go (firstBad count index) (allNamed count index) refl refl
-    where
-      go : (o : Option ℕ) (b : Bool) → firstBad count index ≡ o → allNamed count index ≡ b
-          → judged count index o ≡ Verdict.Accepted → Good
-      go (some i) b e f h = let z : _≡_ {A = ℕ} 0 1 = cc in absurd (omega arith)
-      go none false e f h = let g = rw f at h in let z : _≡_ {A = ℕ} 0 1 = cc in absurd (omega arith)
-      go none true e f h = record { first = e; named-is = named-each index count n f p q }
-
-  indexed : indexWrong k index count ≡ false → k .tif ≡ true → Good → OnePlace k (saidOf k index count) n
-  indexed w y g =
-      let r = place index n (g .named-is) in
-      let l : length index ≡ tiles k = index-long k index count w y in
+module _ (k : Card) (index : List ℕ) (count : ℕ) (w : Checked k index count) where
+  one-place : (y : Bool) → k .tif ≡ y → EachPlaced k (saidOf k index count) count
+  one-place true y n p q =
+      let g = w .passes y in
+      let r = place index n (named-each index count n (g .1) p q) in
+      let l : length index ≡ tiles k = index-long k index count (w .right) y in
       record {
         at = r .at;
         inside = omega (arith, r .inside);
         stores = said-in k index count (r .at) y ∙ ap (said count) (r .holds) ∙ said-stored count n (λ z. omega arith) q;
-        only = λ t h e. only-place index count (g .first) t (r .at) n (λ z. omega arith) (omega arith) (r .inside)
-            (entry-of count (getD index t 0) n (sym (said-in k index count t y) ∙ e) .0) (r .holds);
+        only = λ t h e. only-place index count (g .0) t (r .at) n (λ z. omega arith) (omega arith) (r .inside)
+            (entry-is count (getD index t 0) (Said.Stored n) (sym (said-in k index count t y) ∙ e) .0) (r .holds);
       }
-
-  listed-all : indexWrong k index count ≡ false → k .tif ≡ false → OnePlace k (saidOf k index count) n
-  listed-all w y =
+  one-place false y n p q =
       record {
         at = n - 1;
-        inside = omega (arith, count-all k index count w y);
+        inside = omega (arith, count-all k index count (w .right) y);
         stores = let s : n - 1 + 1 ≡ n = omega arith in said-all k index count (n - 1) y ∙ ap Said.Stored s;
         only = λ t h e. let m : Said.Stored (t + 1) ≡ Said.Stored n = sym (said-all k index count t y) ∙ e in
             let s : t + 1 ≡ n = cc in omega arith;
       }
 
+  none-above : (y : Bool) → k .tif ≡ y → NoneAbove k (saidOf k index count)
+  none-above true y t h a =
+      let e = getD index t 0 in
+      let l : length index ≡ tiles k = index-long k index count (w .right) y in
+      let g = none-of (badAt count index) 0 (length index) (w .passes y .0) t (omega arith) (omega arith) in
+      let b = ltb-false count e (neither (ltb count e) (not (eqb e 0) && occurs e (take t index)) g .0) in
+      let c = entry-is count e Said.Above (sym (said-in k index count t y) ∙ a) in
+      omega arith
+  none-above false y t h a =
+      let m : Said.Stored (t + 1) ≡ Said.Above = sym (said-all k index count t y) ∙ a in
+      let z : _≡_ {A = ℕ} 0 1 = cc in omega arith
+
 pub each-once : EachOnce
-unfolding checkOf
-each-once k index marks count a n p q = go (indexWrong k index count || ltb (length marks) count) (k .tif) refl refl a
-  where
-    right : indexWrong k index count || ltb (length marks) count ≡ false → indexWrong k index count ≡ false
-    right e = neither (indexWrong k index count) (ltb (length marks) count) e .0
-
-    go : (x y : Bool) → indexWrong k index count || ltb (length marks) count ≡ x → k .tif ≡ y
-        → cond x (Verdict.Refused (refusal 6)) (cond y (judged count index (firstBad count index)) Verdict.Accepted)
-        ≡ Verdict.Accepted → OnePlace k (saidOf k index count) n
-    go true y e f h = let z : _≡_ {A = ℕ} 0 1 = cc in absurd (omega arith)
-    go false true e f h = indexed k index count n p q (right e) f (good k index count n p q h)
-    go false false e f h = listed-all k index count n p q (right e) f
-
--- an entry that is not above the count does not say so
-not-above : (count e : ℕ) → ltb count e ≡ false → said count e ≡ Said.Above → ⊥
-not-above count e = go (eqb e 0) (ltb count e)
-  where
-    go : (a b : Bool) → b ≡ false → cond a Said.Missing (cond b Said.Above (Said.Stored e)) ≡ Said.Above → ⊥
-    go true b p h = let z : _≡_ {A = ℕ} 0 1 = cc in omega arith
-    go false true p h = true≢false p
-    go false false p h = let z : _≡_ {A = ℕ} 0 1 = cc in omega arith
+each-once k index marks count a = one-place k index count (checked k index marks count a) (k .tif) refl
 
 pub up-to-count : UpToCount
-unfolding checkOf
-up-to-count k index marks count a t h above-is = go (indexWrong k index count || ltb (length marks) count) (k .tif) refl refl a
-  where
-    entries : (o : Option ℕ) → firstBad count index ≡ o → judged count index o ≡ Verdict.Accepted → firstBad count index ≡ none
-    entries none e j = e
-    entries (some i) e j = let z : _≡_ {A = ℕ} 0 1 = cc in absurd (omega arith)
-
-    go : (x y : Bool) → indexWrong k index count || ltb (length marks) count ≡ x → k .tif ≡ y
-        → cond x (Verdict.Refused (refusal 6)) (cond y (judged count index (firstBad count index)) Verdict.Accepted)
-        ≡ Verdict.Accepted → ⊥
-    go true y e f j = let z : _≡_ {A = ℕ} 0 1 = cc in omega arith
-    go false true e f j =
-        let w = neither (indexWrong k index count) (ltb (length marks) count) e .0 in
-        let l : length index ≡ tiles k = index-long k index count w f in
-        let g = none-of (badAt count index) 0 (length index) (entries (firstBad count index) refl j) t (omega arith) (omega arith) in
-        not-above count (getD index t 0) (neither (ltb count (getD index t 0)) (not (eqb (getD index t 0) 0) && occurs (getD index t 0) (take t index)) g .0)
-        (sym (said-in k index count t f) ∙ above-is)
-    go false false e f j =
-        let m : Said.Stored (t + 1) ≡ Said.Above = sym (said-all k index count t f) ∙ above-is in
-        let z : _≡_ {A = ℕ} 0 1 = cc in omega arith
+up-to-count k index marks count a = none-above k index count (checked k index marks count a) (k .tif) refl

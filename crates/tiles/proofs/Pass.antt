@@ -1,22 +1,21 @@
 -- The entries before the place i are good and marked, so the first bad entry is one of the rest. Assumes nothing.
-use mathlib.Core.Path.{_≡_, refl, sym, ap, _∙_}
+use mathlib.Core.Path.{_≡_, refl, sym, ap, fun-ext, _∙_}
 use mathlib.Core.Bool.{Bool, true, false, cond, or-true}
 use mathlib.Core.List.{List, [], _∷_, _++_}
 use mathlib.Core.Option.{Option, some, none}
 use Prim.Native.Nat.{ℕ, suc, _+_, _-_, _<_, _≤_}
 use native.Mathlib.Omega.{arith}
 use native.Mathlib.Numerals.{add-one}
-use borrow.Author.Tests.{lt-ltb, le-ltb, ne-eqb}
+use borrow.Author.Tests.{lt-ltb, le-ltb, le-leb, lt-leb, ne-eqb}
 use lib.Dec.{ltb}
 use lib.ListN.{length, getD, take, drop, set, length-drop, length-append, List·getD-append}
 use lib.Seq.{take-suc, take-length}
 use Rattle.arc.specs.declared.Verdict.{Verdict}
 use Rattle.arc.specs.Refusals.{refusalAt}
-use Rattle.tiles.specs.Check.{occurs, badAt, firstBad, judged, listed, before, marked}
+use Rattle.tiles.specs.Check.{occurs, badAt, firstBad, judged, before, markAt, marked, marksPassed}
 use Rattle.whole.specs.Lists.{firstFrom, oneMore}
-use Rattle.tiles.specs.Steps.{marksPassed}
-use Rattle.tiles.proofs.Listed.{listed-length, listed-at, listed-same, listed-set}
-use Rattle.tiles.proofs.Counted.{occurs-other, occurs-last, named-all, named-not, counted, counted-none, counted-same, counted-new, counted-le}
+use Rattle.tiles.proofs.Listed.{listed, listed-length, listed-at, listed-set}
+use Rattle.tiles.proofs.Counted.{occurs-other, occurs-last, named-told, counted, counted-none, counted-same, counted-new, counted-le}
 
 -- ---- the first of which f holds, from i on
 module _ (f : ℕ → Bool) (i n : ℕ) where
@@ -50,32 +49,35 @@ module _ (count : ℕ) (index : List ℕ) (i : ℕ) where
 -- ---- the marks
 module _ (count : ℕ) (entries m : List ℕ) where
   pub marked-length : count ≤ length m → length (marked count entries m) ≡ length m
-  marked-length h = simp (length-append, length-drop)
-      (omega (arith, listed-length (λ j. cond (occurs (j + 1) entries) 1 0) count))
+  marked-length h = simp (length-append, length-drop) (omega (arith, listed-length (markAt entries) count))
 
   pub marked-at : (e : ℕ) → (e ≡ 0 → ⊥) → e ≤ count
       → getD (marked count entries m) (e - 1) 0 ≡ cond (occurs e entries) 1 0
   marked-at e d h =
-      let f : ℕ → ℕ = λ j. cond (occurs (j + 1) entries) 1 0 in
       let s : e - 1 + 1 ≡ e = omega arith in
-      List·getD-append (listed f count) (drop count m) 0 (e - 1) (omega (arith, listed-length f count))
-      ∙ listed-at f count (e - 1) (omega arith) ∙ ap (λ (x : ℕ). cond (occurs x entries) 1 0) s
+      List·getD-append (listed (markAt entries) count) (drop count m) 0 (e - 1)
+      (omega (arith, listed-length (markAt entries) count))
+      ∙ listed-at (markAt entries) count (e - 1) (omega arith) ∙ ap (λ (x : ℕ). cond (occurs x entries) 1 0) s
 
   pub marked-none : marked count (entries ++ (0 ∷ [])) m ≡ marked count entries m
-  marked-none =
-      ap (λ (l : List ℕ). l ++ drop count m)
-      (listed-same (λ j. cond (occurs (j + 1) (entries ++ (0 ∷ []))) 1 0) (λ j. cond (occurs (j + 1) entries) 1 0) count
-      (λ j h. ap (λ (b : Bool). cond b 1 0) (occurs-other (j + 1) 0 entries (λ e. omega arith))))
+  marked-none = ap (λ (f : ℕ → ℕ). listed f count ++ drop count m)
+      (fun-ext (λ j. ap (λ (b : Bool). cond b 1 0) (occurs-other (j + 1) 0 entries (λ e. omega arith))))
 
   pub marked-new : (e : ℕ) → (e ≡ 0 → ⊥) → e ≤ count
       → set (marked count entries m) (e - 1) 1 ≡ marked count (entries ++ (e ∷ [])) m
   marked-new e d h =
-      let f : ℕ → ℕ = λ j. cond (occurs (j + 1) entries) 1 0 in
-      let g : ℕ → ℕ = λ j. cond (occurs (j + 1) (entries ++ (e ∷ []))) 1 0 in
-      let one : g (e - 1) ≡ 1 = ap (λ (b : Bool). cond b 1 0) (occurs-last (e - 1 + 1) e entries (omega arith)) in
-      ap (λ (v : ℕ). set (marked count entries m) (e - 1) v) (sym one)
-      ∙ listed-set f g count (e - 1) (drop count m) (omega arith)
-      (λ j q r. ap (λ (b : Bool). cond b 1 0) (sym (occurs-other (j + 1) e entries (λ z. r (omega arith)))))
+      ap (λ (b : Bool). set (marked count entries m) (e - 1) (cond b 1 0)) (sym (occurs-last (e - 1 + 1) e entries (omega arith)))
+      ∙ listed-set (markAt entries) (markAt (entries ++ (e ∷ []))) count (e - 1) (drop count m) (omega arith)
+      (λ j r. ap (λ (b : Bool). cond b 1 0) (sym (occurs-other (j + 1) e entries (λ z. r (omega arith)))))
+
+-- a mark and what it marks
+mark-none : (b : Bool) → _≡_ {A = ℕ} (cond b 1 0) 0 → b ≡ false
+mark-none true e = absurd (omega arith)
+mark-none false e = refl
+
+mark-some : (b : Bool) → (_≡_ {A = ℕ} (cond b 1 0) 0 → ⊥) → b ≡ true
+mark-some true d = refl
+mark-some false d = absurd (d refl)
 
 -- ---- before the entry at i
 pub record Sofar (count : ℕ) (index m marks : List ℕ) (number i : ℕ) : Type 0 where
@@ -134,11 +136,7 @@ module _ (count : ℕ) (index m marks : List ℕ) (number i : ℕ) (w : Sofar co
 
     pub stop-again : (a : Verdict) → a ≡ Verdict.Refused (refusalAt 15 i) → getD index i 0 ≤ count
         → (getD index i 0 ≡ 0 → ⊥) → (getD marks (getD index i 0 - 1) 0 ≡ 0 → ⊥) → Ended count index m marks a
-    stop-again a e p d n = stopped a e (bad-again count index i d (told (occurs (getD index i 0) (take i index)) refl))
-      where
-        told : (b : Bool) → occurs (getD index i 0) (take i index) ≡ b → b ≡ true
-        told true o = refl
-        told false o = absurd (n (seen (getD index i 0) d p ∙ ap (λ (b : Bool). cond b 1 0) o))
+    stop-again a e p d n = stopped a e (bad-again count index i d (mark-some _ (λ z. n (seen (getD index i 0) d p ∙ z))))
 
     pub pass-none : getD index i 0 ≡ 0 → Sofar count index m marks number (i + 1)
     pass-none e =
@@ -151,19 +149,13 @@ module _ (count : ℕ) (index m marks : List ℕ) (number i : ℕ) (w : Sofar co
     pub pass-new : getD index i 0 ≤ count → (getD index i 0 ≡ 0 → ⊥) → getD marks (getD index i 0 - 1) 0 ≡ 0
         → Sofar count index m (set marks (getD index i 0 - 1) 1) (number + 1) (i + 1)
     pass-new p d n =
+        let o = mark-none _ (sym (seen (getD index i 0) d p) ∙ n) in
         passed _ _
         (ap (λ (l : List ℕ). set l (getD index i 0 - 1) 1) (w .marks-are)
         ∙ marked-new count (take i index) m (getD index i 0) d p)
         (ap (λ (x : ℕ). x + 1) (w .number-is)
-        ∙ sym (counted-new (take i index) (getD index i 0) count (omega arith) p new))
-        (good-new count index i p d new)
-      where
-        told : (b : Bool) → occurs (getD index i 0) (take i index) ≡ b → b ≡ false
-        told true o = absurd (omega (arith, sym n ∙ seen (getD index i 0) d p ∙ ap (λ (b : Bool). cond b 1 0) o))
-        told false o = refl
-
-        new : occurs (getD index i 0) (take i index) ≡ false
-        new = told (occurs (getD index i 0) (take i index)) refl
+        ∙ sym (counted-new (take i index) (getD index i 0) count (omega arith) p o))
+        (good-new count index i p d o)
 
   module _ (h : length index ≤ i) where
     whole : take i index ≡ index
@@ -185,9 +177,9 @@ module _ (count : ℕ) (index m marks : List ℕ) (number i : ℕ) (w : Sofar co
         let s : i ≡ length index = omega (arith, w .inside) in
         done a (e ∙ ap (λ (n : ℕ). Verdict.Refused (refusalAt 15 n)) s
         ∙ ap (λ (b : Bool). cond b Verdict.Accepted (Verdict.Refused (refusalAt 15 (length index))))
-        (sym (named-not index count (omega (arith, told)))))
+        (sym (named-told index count ∙ lt-leb count (counted index count) (omega (arith, told)))))
 
     pub done-all : count ≤ number → Ended count index m marks Verdict.Accepted
     done-all p = done Verdict.Accepted
         (ap (λ (b : Bool). cond b Verdict.Accepted (Verdict.Refused (refusalAt 15 (length index))))
-        (sym (named-all index count (omega (arith, told)))))
+        (sym (named-told index count ∙ le-leb count (counted index count) (omega (arith, told)))))

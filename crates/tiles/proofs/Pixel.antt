@@ -20,7 +20,7 @@ use Rattle.card.proofs.Regions.{Inside, tiles-inside}
 use Rattle.tiles.specs.declared.NumberAnswer.{NumberAnswer}
 use Rattle.tiles.specs.declared.Said.{Said}
 use Rattle.tiles.specs.Index.{tiles, indexWrong, saidOf, tileOf}
-use Rattle.tiles.specs.LookUp.{tileBytes, storeWrong, numberSaid, foundOf, numberOf, partAt, partOf}
+use Rattle.tiles.specs.LookUp.{tileBytes, storeWrong, numberSaid, foundOf, numberOf, partAt, partIn, partOf, inBand, bandsIn, bandsOf}
 use Rattle.tiles.proofs.Entry.{neither, tile-inside, stored-most}
 
 -- a pixel of the tiles
@@ -96,11 +96,19 @@ pub number-plain : (k : Card) (index : List ℕ) (count : ℕ) (store : List ℕ
     → numberOf k index count store (toZ w64 (ofZ w64 r)) (toZ w64 (ofZ w64 c)) ≡ numberOf k index count store r c
 number-plain k index count store r c f g = ap₂ (numberOf k index count store) (toZ-ofZ w64 r f) (toZ-ofZ w64 c g)
 
--- what was answered, of row and column as they are held
+-- ---- what was answered, of row and column as they are held
 module _ (k : Card) (index : List ℕ) (count : ℕ) (store : List ℕ) (r c : ℤ) (f : SFits w64 r) (g : SFits w64 c) {a : NumberAnswer}
-    (e : a ≡ numberOf k index count store (toZ w64 (ofZ w64 r)) (toZ w64 (ofZ w64 c))) where
-  pub told : numberOf k index count store r c ≡ a
-  told = sym (e ∙ number-plain k index count store r c f g)
+    (e : a ≡ numberOf k index count store (toZ w64 (ofZ w64 r)) (toZ w64 (ofZ w64 c))) {x : NumberAnswer} (o : a ≡ x) where
+  told : numberOf k index count store r c ≡ x
+  told = sym (e ∙ number-plain k index count store r c f g) ∙ o
 
-  pub held : {n : ℕ} → a ≡ NumberAnswer.Stored n → InStore n count store
-  held {n} o = number-held k index count store r c n (told ∙ o)
+  pub part-told : partOf k index count store r c ≡ partIn x store
+  unfolding partOf
+  part-told = ap (λ (v : NumberAnswer). partIn v store) told
+
+  pub bands-told : bandsOf k index count store r c ≡ bandsIn x (partIn x store) (inBand r c)
+  unfolding bandsOf partOf
+  bands-told = ap (λ (v : NumberAnswer). bandsIn v (partIn v store) (inBand r c)) told
+
+  pub held : (n : ℕ) → x ≡ NumberAnswer.Stored n → InStore n count store
+  held n q = number-held k index count store r c n (told ∙ q)

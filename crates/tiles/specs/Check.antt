@@ -4,6 +4,7 @@
 --     firstBad count index   the first such entry's place
 --     allNamed count index   each number 1 .. count occurs
 --     checkOf ..             what `index_check` answers
+--     marked count entries marks    the marks by these entries: mark k − 1 is 1 where k is among them
 --     marksOf ..             what the marks then hold
 use mathlib.Core.Path.{_≡_}
 use Prim.Native.Nat.{ℕ, zero, suc, _+_, _≤_, _<_}
@@ -11,8 +12,8 @@ use mathlib.Core.List.{List, [], _∷_, _++_}
 use mathlib.Core.Bool.{Bool, true, false, cond, not, _&&_, _||_}
 use mathlib.Core.Option.{Option, some, none}
 use lib.Dec.{ltb, eqb}
-use lib.ListN.{length, getD, take, drop}
-use Rattle.whole.specs.Lists.{firstFrom, oneMore}
+use lib.ListN.{length, getD, take, drop, replicate}
+use Rattle.whole.specs.Lists.{each, firstFrom, oneMore}
 use Rattle.arc.specs.declared.Verdict.{Verdict}
 use Rattle.arc.specs.Refusals.{refusal, refusalAt}
 use Rattle.card.specs.declared.Card.{Card}
@@ -47,28 +48,28 @@ checkOf k index count marks =
     cond (indexWrong k index count || ltb (length marks) count) (Verdict.Refused (refusal 6))
     (cond (k .tif) (judged count index (firstBad count index)) Verdict.Accepted)
 
--- f 0, f 1, .., f (n − 1)
-abbrev pub listed : (ℕ → ℕ) → ℕ → List ℕ
-listed f zero = []
-listed f (suc n) = listed f n ++ (f n ∷ [])
-
 -- the entries before the refused one, all where none is refused
 abbrev pub before : List ℕ → Option ℕ → List ℕ
 before index (some i) = take i index
 before index none = index
 
--- mark k − 1 is 1 if k occurs among these entries, else 0, for k up to the count; marks beyond stay
-abbrev pub marked : ℕ → List ℕ → List ℕ → List ℕ
-marked count entries marks = listed (λ j. cond (occurs (j + 1) entries) 1 0) count ++ drop count marks
+-- 1 where j + 1 is among these entries, else 0
+abbrev pub markAt : List ℕ → ℕ → ℕ
+markAt entries j = cond (occurs (j + 1) entries) 1 0
 
-abbrev pub allMarked : ℕ → List ℕ → List ℕ
-allMarked count marks = listed (λ j. 1) count ++ drop count marks
+-- these for the numbers 1 .. count; marks beyond stay
+abbrev pub marked : ℕ → List ℕ → List ℕ → List ℕ
+marked count entries marks = each count (λ j. markAt entries j ∷ []) ++ drop count marks
+
+-- by the entries before the refused one
+abbrev pub marksPassed : ℕ → List ℕ → List ℕ → List ℕ
+marksPassed count index marks = marked count (before index (firstBad count index)) marks
 
 -- unchanged on 6; with N all are 1
 unfoldable pub marksOf : Card → List ℕ → ℕ → List ℕ → List ℕ
 marksOf k index count marks =
     cond (indexWrong k index count || ltb (length marks) count) marks
-    (cond (k .tif) (marked count (before index (firstBad count index)) marks) (allMarked count marks))
+    (cond (k .tif) (marksPassed count index marks) (replicate count 1 ++ drop count marks))
 
 -- ---- what an accepted index is held to, both ways: proved in proofs/Once.antt and proofs/Accepts.antt
 

@@ -1,6 +1,5 @@
 -- What only the code needs: what it is held to on the way. Definitions only.
 --     Sized k                what a known card's tiles are bounded by
---     marksPassed ..         what the marks hold after the pass over the entries
 --     Window ..              what a window is bounded by, past the length checks
 use mathlib.Core.Path.{_≡_}
 use Prim.Native.Nat.{ℕ, _+_, _≤_}
@@ -9,15 +8,10 @@ use mathlib.Core.Bool.{true}
 use lib.ListN.{length}
 use Rattle.card.specs.declared.Card.{Card}
 use Rattle.tiles.specs.Index.{tiles}
-use Rattle.tiles.specs.Check.{firstBad, before, marked}
 
 pub record Sized (k : Card) : Type 0 where
   pub rows : k .nfl ≤ 999
   pub columns : k .nfc ≤ 999
-
--- the entries before the first bad one are marked
-abbrev pub marksPassed : ℕ → List ℕ → List ℕ → List ℕ
-marksPassed count index marks = marked count (before index (firstBad count index)) marks
 
 -- a window of an image with TIF Y, the lengths being right
 pub record Window (k : Card) (index : List ℕ) (top left height width : ℕ) : Type 0 where

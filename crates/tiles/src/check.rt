@@ -8,8 +8,7 @@ ghost use mathlib.Core.List.{[], _++_};
 ghost use Prim.Native.Nat.{_≤_};
 ghost use lib.ListN.{length, drop, replicate};
 ghost use Rattle.card.specs.Read.{Known};
-ghost use Rattle.tiles.specs.Check.{firstBad, judged, marked, checkOf, marksOf};
-ghost use Rattle.tiles.specs.Steps.{marksPassed};
+ghost use Rattle.tiles.specs.Check.{firstBad, judged, marked, marksPassed, checkOf, marksOf};
 
 // Fills the first `count` marks (01, "Tiles").
 fn fill(marks: &mut [u8], count: usize, value: u8)

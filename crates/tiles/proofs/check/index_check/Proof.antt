@@ -7,9 +7,9 @@ use native.Mathlib.Omega.{arith}
 use borrow.Author.Tests.{lt-ltb, le-ltb, not-true, not-false}
 use Rattle.arc.specs.declared.Verdict.{Verdict}
 use Rattle.tiles.specs.Index.{indexWrong}
-use Rattle.tiles.specs.Check.{occurs, before, firstBad, listed, checkOf, marksOf}
+use Rattle.tiles.specs.Check.{before, firstBad, markAt, checkOf, marksOf}
 use Rattle.tiles.proofs.Sized.{known-sized}
-use Rattle.tiles.proofs.Listed.{filled-length, filled-rest, filled-listed}
+use Rattle.tiles.proofs.Listed.{listed, filled-length, filled-rest, filled-listed}
 use borrow.Author.Needs.{needs}
 use Rattle.tiles.proofs.check.index_check.Statement.{statement}
 use Rattle.tiles.proofs.check.index_check.Tie as tie
@@ -52,11 +52,7 @@ returns-3 c =
       right (c .before .before .before .before .before .before .before),
       le-ltb _ _ (c .before .before .before .before .before .before .if2 .left),
       not-true (a .k .tif) (c .before .before .before .before .if3 .taken),
-    ) (
-      refl,
-      filled-listed 1 (a .count) (a .marks .now) (c .before .before .fill .last .0)
-          (c .before .before .before .before .before .before .if2 .left) (c .before .before .fill .ensures),
-    )
+    ) (refl, c .before .before .fill .ensures)
 
 fill-requires-2 : tie.Need-fill-requires-2
 fill-requires-2 c κs = search needs
@@ -66,11 +62,8 @@ mark-entries-requires c κs =
     let a = c .before .before .before .before .before .before .before .before .before .before .before .before .args in
     let l = c .before .before .before .fill2 .last .0 in
     let h = c .before .before .before .before .before .before .before .if2 .left in
-    let e = c .before .before .before .fill2 .ensures in (
-      omega (arith, filled-length 0 (a .count) (a .marks .now) l h e),
-      filled-listed 0 (a .count) (a .marks .now) l h e
-          ∙ ap (λ (s : List ℕ). listed (λ j. 0) (a .count) ++ s) (sym (filled-rest 0 (a .count) (a .marks .now) l h e)),
-    )
+    let e = c .before .before .before .fill2 .ensures in
+    (omega (arith, filled-length 0 (a .count) (a .marks .now) l h e), filled-listed 0 (a .count) (a .marks .now) l h e)
 
 same-length-2 : tie.Need-same-length-2
 same-length-2 c = search needs
@@ -85,7 +78,7 @@ returns-4 c =
     let n : List ℕ = before (a .index .now) (firstBad (a .count) (a .index .now)) in
     rw (right (h .before), le-ltb _ _ (h .if2 .left), not-false (a .k .tif) (f .before .before .if3 .left)) (
       p .0,
-      p .1 ∙ ap (λ (s : List ℕ). listed (λ j. cond (occurs (j + 1) n) 1 0) (a .count) ++ s)
+      p .1 ∙ ap (λ (s : List ℕ). listed (markAt n) (a .count) ++ s)
           (filled-rest 0 (a .count) (a .marks .now) (f .fill2 .last .0) (h .if2 .left) (f .fill2 .ensures)),
     )
 

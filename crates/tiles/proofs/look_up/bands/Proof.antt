@@ -1,5 +1,5 @@
 -- The part is that of `tile`, and the three places lie in it. Assumes nothing.
-use mathlib.Core.Path.{_≡_, sym, ap, ap₂, _∙_}
+use mathlib.Core.Path.{_≡_, refl, sym, ap, ap₂, _∙_}
 use mathlib.Core.List.{List}
 use Prim.Native.Nat.{ℕ, _+_, _*_, _%_}
 use native.Mathlib.Omega.{arith}
@@ -7,33 +7,20 @@ use lib.ListN.{length, getD}
 use lib.IntN.{natAbs}
 use mir.Syntax.{w64}
 use mir.ValLaws.{toZ-ofZ}
-use Rattle.tiles.specs.declared.NumberAnswer.{NumberAnswer}
 use Rattle.tiles.specs.declared.BandsAnswer.{BandsAnswer}
-use Rattle.tiles.specs.LookUp.{numberOf, partOf, bandsOf}
-use Rattle.tiles.proofs.Pixel.{InStore, number-held, part-ends, part-length, number-plain}
+use Rattle.tiles.proofs.Pixel.{InStore, part-ends, part-length, bands-told, held}
 use borrow.Author.Needs.{needs}
 use Rattle.tiles.proofs.look_up.bands.Statement.{statement}
 use Rattle.tiles.proofs.look_up.bands.Tie as tie
 
--- what the stored number is
-told : (c : tie.After-stored-number) → let a = c .before .before .before .args in
-    c .stored-number .result ≡ numberOf (a .k) (a .index .now) (a .count) (a .store .now) (a .row) (a .column)
-told c = let s = c .before .before .before in
-    c .stored-number .ensures
-    ∙ number-plain (s .args .k) (s .args .index .now) (s .args .count) (s .args .store .now) (s .args .row)
-    (s .args .column) (s .fits .row) (s .fits .column)
-
-stored-at : (c : tie.After-known-told) → let a = c .before .before .before .before .before .before .args in
-    numberOf (a .k) (a .index .now) (a .count) (a .store .now) (a .row) (a .column)
-    ≡ NumberAnswer.Stored (c .before .n .given .0 .0)
-stored-at c = sym (told (c .before .before .before)) ∙ c .before .n .given .1
-
-held : (c : tie.After-known-told) → let a = c .before .before .before .before .before .before .args in
+-- the number lies in the store
+lies : (c : tie.After-known-told) → let a = c .before .before .before .before .before .before .args in
     InStore (c .before .n .given .0 .0) (a .count) (a .store .now)
-held c = number-held _ _ _ _ _ _ _ (stored-at c)
+lies c = let s = c .before .before .before .before .before .before in
+    held _ _ _ _ _ _ (s .fits .row) (s .fits .column) (c .before .before .before .stored-number .ensures) (c .before .n .given .1) _ refl
 
 long : (c : tie.After-part) → length (c .part .result .now) ≡ 49152
-long c = ap length (c .part .ensures) ∙ part-length _ _ _ (held (c .before))
+long c = ap length (c .part .ensures) ∙ part-length _ _ _ (lies (c .before))
 
 stored-number-requires : tie.Need-stored-number-requires
 stored-number-requires c κs = search needs
@@ -42,7 +29,7 @@ enum-known-n : tie.Need-enum-known-n
 enum-known-n c = search needs
 
 part-requires : tie.Need-part-requires
-part-requires c κs = let h = held c in (h .some, part-ends _ _ _ h)
+part-requires c κs = let h = lies c in (h .some, part-ends _ _ _ h)
 
 size-requires : tie.Need-size-requires
 size-requires c κs = search needs
@@ -86,17 +73,19 @@ made : {p q : List ℕ} {r s c d : ℕ} → p ≡ q → r ≡ s → c ≡ d
 made e f g = ap₂ bandsAt e (ap₂ (λ (x y : ℕ). x % 128 * 128 + y % 128) f g)
 
 returns : tie.Need-returns
-unfolding bandsOf partOf
 returns c =
     let s = c .before .before .before .before .before .before .before .before .before .before .before .before in
-    rw (stored-at (c .before .before .before .before .before .before))
-    (made (c .before .before .before .before .before .part .ensures)
+    let n = c .before .before .before .before .before .before .before in
+    made (c .before .before .before .before .before .part .ensures)
     (c .before .before .before .before .size .ensures ∙ ap natAbs (toZ-ofZ w64 (s .args .row) (s .fits .row)))
-    (c .before .before .before .size2 .ensures ∙ ap natAbs (toZ-ofZ w64 (s .args .column) (s .fits .column))))
+    (c .before .before .before .size2 .ensures ∙ ap natAbs (toZ-ofZ w64 (s .args .column) (s .fits .column)))
+    ∙ sym (bands-told _ _ _ _ _ _ (s .fits .row) (s .fits .column) (n .before .before .stored-number .ensures) (n .n .given .1))
 
 returns-2 : tie.Need-returns-2
-unfolding bandsOf
-returns-2 c = rw (sym (told (c .before .before .before)) ∙ c .before .e .given .1)
+returns-2 c =
+    let n = c .before .before .before in
+    let s = n .before .before .before in
+    sym (bands-told _ _ _ _ _ _ (s .fits .row) (s .fits .column) (n .stored-number .ensures) (c .before .e .given .1))
 
 pub bands-spec : {M : Type 1} → statement M
 bands-spec =

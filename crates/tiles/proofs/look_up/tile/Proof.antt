@@ -1,28 +1,17 @@
 -- A stored number's part lies in the store; a refusal's is empty. Assumes nothing.
-use mathlib.Core.Path.{_≡_, sym, _∙_}
+use mathlib.Core.Path.{_≡_, refl, sym, _∙_}
 use Rattle.tiles.specs.declared.NumberAnswer.{NumberAnswer}
-use Rattle.tiles.specs.LookUp.{numberOf, partOf}
-use Rattle.tiles.proofs.Pixel.{InStore, number-held, part-ends, number-plain}
+use Rattle.tiles.specs.LookUp.{partIn, partOf}
+use Rattle.tiles.proofs.Pixel.{part-ends, part-told, held}
 use borrow.Author.Needs.{needs}
 use Rattle.tiles.proofs.look_up.tile.Statement.{statement}
 use Rattle.tiles.proofs.look_up.tile.Tie as tie
 
--- what the stored number is
-told : (c : tie.After-stored-number) → let a = c .before .before .before .args in
-    c .stored-number .result ≡ numberOf (a .k) (a .index .now) (a .count) (a .store .now) (a .row) (a .column)
-told c = let s = c .before .before .before in
-    c .stored-number .ensures
-    ∙ number-plain (s .args .k) (s .args .index .now) (s .args .count) (s .args .store .now) (s .args .row)
-    (s .args .column) (s .fits .row) (s .fits .column)
-
-stored-at : (c : tie.After-known-told) → let a = c .before .before .before .before .before .before .args in
-    numberOf (a .k) (a .index .now) (a .count) (a .store .now) (a .row) (a .column)
-    ≡ NumberAnswer.Stored (c .before .n .given .0 .0)
-stored-at c = sym (told (c .before .before .before)) ∙ c .before .n .given .1
-
-held : (c : tie.After-known-told) → let a = c .before .before .before .before .before .before .args in
-    InStore (c .before .n .given .0 .0) (a .count) (a .store .now)
-held c = number-held _ _ _ _ _ _ _ (stored-at c)
+-- the part, by what was answered
+part-is : (c : tie.After-stored-number) {x : NumberAnswer} → c .stored-number .result ≡ x → let a = c .before .before .before .args in
+    partOf (a .k) (a .index .now) (a .count) (a .store .now) (a .row) (a .column) ≡ partIn x (a .store .now)
+part-is c o = let s = c .before .before .before in
+    part-told _ _ _ _ _ _ (s .fits .row) (s .fits .column) (c .stored-number .ensures) o
 
 stored-number-requires : tie.Need-stored-number-requires
 stored-number-requires c κs = search needs
@@ -31,7 +20,10 @@ enum-known-n : tie.Need-enum-known-n
 enum-known-n c = search needs
 
 part-requires : tie.Need-part-requires
-part-requires c κs = let h = held c in (h .some, part-ends _ _ _ h)
+part-requires c κs =
+    let s = c .before .before .before .before .before .before in
+    let h = held _ _ _ _ _ _ (s .fits .row) (s .fits .column) (c .before .before .before .stored-number .ensures) (c .before .n .given .1) _ refl in
+    (h .some, part-ends _ _ _ h)
 
 enum-told : tie.Need-enum-told
 enum-told c = search needs
@@ -46,12 +38,10 @@ part-result-end : tie.Need-part-result-end
 part-result-end c = search needs
 
 returns : tie.Need-returns
-unfolding partOf
-returns c = rw (stored-at (c .before)) (c .part .ensures)
+returns c = c .part .ensures ∙ sym (part-is (c .before .before .before .before) (c .before .before .n .given .1))
 
 returns-2 : tie.Need-returns-2
-unfolding partOf
-returns-2 c = rw (sym (told (c .before .before .before)) ∙ c .before .enum-told .given .1)
+returns-2 c = sym (part-is (c .before .before .before) (c .before .enum-told .given .1))
 
 pub tile-spec : {M : Type 1} → statement M
 tile-spec =

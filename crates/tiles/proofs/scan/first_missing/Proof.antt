@@ -11,8 +11,8 @@ use Rattle.tiles.specs.declared.WindowAnswer.{WindowAnswer}
 use Rattle.whole.specs.Lists.{upFrom}
 use Rattle.tiles.specs.Index.{saidOf}
 use Rattle.tiles.specs.Window.{windowTiles, scanned, scan}
-use Rattle.tiles.proofs.Entry.{said-in}
-use Rattle.tiles.proofs.Ahead.{enter, leave, done, next, within}
+use Rattle.tiles.proofs.Entry.{tile-inside, said-in}
+use Rattle.tiles.proofs.Ahead.{enter, leave, done, next}
 use Rattle.tiles.proofs.scan.first_missing.Statement.{statement}
 use Rattle.tiles.proofs.scan.first_missing.Tie as tie
 
@@ -51,14 +51,10 @@ inside : (c : tie.In-loop Inv-loop μ-loop Inv-rows μ-rows)
     → here c < length (c .before .before .before .before .before .before .args .index .now)
 inside c =
     let s = c .before .before .before .before .before .before in
-    let a = s .args in
-    omega (
-      arith,
-      s .pre .long,
-      within (a .top) (c .before .before .before .before .rows .r) (a .height) (a .k .nfc) (a .left) (a .width)
-          (c .before .loop .c) (a .k .nfl)
-          (c .before .before .before .rows-test .taken) (c .loop-test .taken) (s .pre .across) (s .pre .down),
-    )
+    let r = c .before .before .before .before .rows .r in
+    let h : s .args .top + r < s .args .k .nfl = omega (arith, s .pre .down, c .before .before .before .rows-test .taken) in
+    let g : s .args .left + c .before .loop .c < s .args .k .nfc = omega (arith, s .pre .across, c .loop-test .taken) in
+    omega (arith, s .pre .long, tile-inside (s .args .top + r) (s .args .left + c .before .loop .c) _ _ h g)
 
 -- the scan of the whole, by what is said of the tile and the scan of what is left
 step : (c : tie.After-entry-says Inv-loop μ-loop Inv-rows μ-rows) (v : Said) → c .entry-says .result ≡ v →
