@@ -5,7 +5,7 @@ use Prim.Native.Nat.{ℕ, zero, suc, _+_, _*_, _%_, _≤_, _<_}
 use native.Mathlib.Nat.{add-mul, zero-mul}
 use native.Mathlib.Numerals.{add-one}
 use native.Mathlib.Omega.{arith}
-use mathlib.Core.Bool.{true, _&&_}
+use mathlib.Core.Bool.{true, _&&_, and-eq-true-iff}
 use borrow.Author.Tests.{leb-true}
 use lib.Dec.{leb, eqb}
 use lib.ListN.{length, set, drop, length-append, length-drop}
@@ -20,9 +20,9 @@ use Rattle.card.specs.declared.PositionAnswer.{PositionAnswer}
 use Rattle.card.specs.declared.PixelAnswer.{PixelAnswer}
 use Rattle.whole.specs.Lists.{over, each}
 use Rattle.card.specs.Grid.{positionOf, pixelOf, positionReport, pixelReport}
-use Rattle.card.proofs.Laid.{both}
 use Rattle.lists.specs.declared.Asked.{Asked}
 use Rattle.lists.specs.declared.Pair.{Pair}
+use Rattle.lists.specs.Steps.{pairTold}
 use Rattle.lists.specs.Lists.{pairs, listsFit, pairAt, reportAt, reportValues, reportNumbers}
 
 module _ {A : Type 0} where
@@ -45,7 +45,8 @@ module _ {A : Type 0} where
 -- ---- the lengths fit
 pub lists-fit : (p o n : ℕ) → listsFit p o n ≡ true → (p ≤ o) × (pairs p ≤ n)
 lists-fit p o n e =
-    let t = both (eqb (p % 2) 0 && leb p o) (leb (pairs p) n) e in (leb-true p o (both (eqb (p % 2) 0) (leb p o) (t .0) .1), leb-true (pairs p) n (t .1))
+    let t = and-eq-true-iff (eqb (p % 2) 0 && leb p o) (leb (pairs p) n) .0 e in
+    (leb-true p o (and-eq-true-iff (eqb (p % 2) 0) (leb p o) .0 (t .0) .1), leb-true (pairs p) n (t .1))
 
 -- after i turns of n
 pub record Filled (f : ℕ → Report) (n : ℕ) (out : List ℤ) (num : List ℕ) (i : ℕ) (now : List ℤ) (nums : List ℕ) : Type 0 where
@@ -108,10 +109,16 @@ module _ (f : ℕ → Report) where
               (ap (λ (k : ℕ). reportNumbers i f ++ k ∷ []) (sym en) ∙ ap (λ (k : ℕ). reportNumbers k f) (sym (add-one i)));
         }
 
--- ---- a question put to a pair as the machine holds it
-pub pair-asked : {A : Type 0} (f : ℤ → ℤ → A) {x y : Pair} → SFits w64 (x .first) → SFits w64 (x .second) → x ≡ y
-    → f (toZ w64 (ofZ w64 (x .first))) (toZ w64 (ofZ w64 (x .second))) ≡ f (y .first) (y .second)
-pair-asked f {x} h k e = ap₂ f (toZ-ofZ w64 (x .first) h) (toZ-ofZ w64 (x .second) k) ∙ ap (λ (p : Pair). f (p .first) (p .second)) e
+-- ---- what is told of a pair, each signed number as the machine holds it: p is the pair handed in, x and y the value parts of the answer
+module _ {A : Type 0} (report : A → Report) (f : ℤ → ℤ → A) (p : Pair) (n at : ℕ) (x y : ℤ)
+    (first : SFits w64 (p .first)) (second : SFits w64 (p .second)) (fx : SFits w64 x) (fy : SFits w64 y) where
+  pub pair-told : {a : A} {q : Pair} → record { number = n; place = at; values = x ∷ y ∷ [] } ≡ report a
+      → a ≡ f (toZ w64 (ofZ w64 (p .first))) (toZ w64 (ofZ w64 (p .second))) → p ≡ q
+      → pairTold (record { number = n; at = at; first = toZ w64 (ofZ w64 x); second = toZ w64 (ofZ w64 y) }) ≡ report (f (q .first) (q .second))
+  pair-told told asked same =
+      ap₂ (λ (u v : ℤ). pairTold (record { number = n; at = at; first = u; second = v })) (toZ-ofZ w64 x fx) (toZ-ofZ w64 y fy)
+      ∙ told
+      ∙ ap report (asked ∙ ap₂ f (toZ-ofZ w64 (p .first) first) (toZ-ofZ w64 (p .second) second) ∙ ap (λ (r : Pair). f (r .first) (r .second)) same)
 
 -- ---- two value parts, in a refusal too
 position-values : (a : PositionAnswer) → length (positionReport a .values) ≡ 2

@@ -1,9 +1,6 @@
 -- The engine's answer to the pair, in parts. Assumes nothing.
-use mathlib.Core.Path.{_≡_, ap, _∙_}
-use mir.Syntax.{w64}
-use mir.ValLaws.{toZ-ofZ}
 use Rattle.card.specs.Grid.{positionReport, pixelReport, positionOf, pixelOf}
-use Rattle.lists.proofs.Filling.{pair-asked}
+use Rattle.lists.proofs.Filling.{pair-told}
 use borrow.Author.Needs.{needs}
 use Rattle.lists.proofs.answer_pair.Statement.{statement}
 use Rattle.lists.proofs.answer_pair.Tie as tie
@@ -34,32 +31,22 @@ returns c =
     let d = c .before .before in
     let f = d .before .before .before in
     let p = c .before .into-parts .result in
-    rw (
-      f .enum-told .given .1,
-      toZ-ofZ w64 (p .lat) (record { sfits = c .struct-told3 .given .1 .1 .0 .1 }),
-      toZ-ofZ w64 (p .lon) (record { sfits = c .struct-told3 .given .1 .1 .1 .0 .1 }),
-    )
-    (c .before .into-parts .ensures
-    ∙ ap positionReport
-    (d .position .ensures
-    ∙ pair-asked (positionOf (f .before .before .before .args .e .card)) (record { sfits = d .before .before .struct-told .given .0 .1 })
-    (record { sfits = d .before .struct-told2 .given .1 .0 .1 }) (f .before .before .pair-at .ensures)))
+    rw (f .enum-told .given .1)
+    (pair-told positionReport (positionOf _) _ _ _ (p .lat) (p .lon)
+    (record { sfits = d .before .before .struct-told .given .0 .1 }) (record { sfits = d .before .struct-told2 .given .1 .0 .1 })
+    (record { sfits = c .struct-told3 .given .1 .1 .0 .1 }) (record { sfits = c .struct-told3 .given .1 .1 .1 .0 .1 })
+    (c .before .into-parts .ensures) (d .position .ensures) (f .before .before .pair-at .ensures))
 
 returns-2 : tie.Need-returns-2
 returns-2 c =
     let d = c .before .before in
     let f = d .before .before .before in
     let p = c .before .into-parts2 .result in
-    rw (
-      f .enum-told2 .given .1,
-      toZ-ofZ w64 (p .row) (record { sfits = c .struct-told6 .given .1 .1 .0 .1 }),
-      toZ-ofZ w64 (p .column) (record { sfits = c .struct-told6 .given .1 .1 .1 .0 .1 }),
-    )
-    (c .before .into-parts2 .ensures
-    ∙ ap pixelReport
-    (d .pixel .ensures
-    ∙ pair-asked (pixelOf (f .before .before .before .args .e .card)) (record { sfits = d .before .before .struct-told4 .given .0 .1 })
-    (record { sfits = d .before .struct-told5 .given .1 .0 .1 }) (f .before .before .pair-at .ensures)))
+    rw (f .enum-told2 .given .1)
+    (pair-told pixelReport (pixelOf _) _ _ _ (p .row) (p .column)
+    (record { sfits = d .before .before .struct-told4 .given .0 .1 }) (record { sfits = d .before .struct-told5 .given .1 .0 .1 })
+    (record { sfits = c .struct-told6 .given .1 .1 .0 .1 }) (record { sfits = c .struct-told6 .given .1 .1 .1 .0 .1 })
+    (c .before .into-parts2 .ensures) (d .pixel .ensures) (f .before .before .pair-at .ensures))
 
 pub answer-pair-spec : {M : Type 1} → statement M
 answer-pair-spec =
