@@ -9,7 +9,8 @@ use borrow.Author.Tests.{lt-ltb, le-ltb, le-leb, lt-leb}
 use mathlib.Core.Bool.{true}
 use Rattle.card.specs.declared.Card.{Card}
 use Rattle.whole.specs.Lists.{over}
-use Rattle.text.specs.Steps.{splice, Put}
+use Rattle.text.specs.Steps.{Put}
+use Rattle.text.proofs.Splices.{front-length, front-left}
 use Rattle.printing.specs.Lines.{upTo, numbersOf}
 use Rattle.printing.specs.Printed.{badLine, tooLong}
 use Rattle.printing.specs.Run.{lineAt, nextAt, closed, openedCard, openingOf}
@@ -18,21 +19,14 @@ use Rattle.printing.specs.declared.OpeningAnswer.{OpeningAnswer}
 use Rattle.printing.proofs.Scan.{upTo-take, line-part}
 
 module _ {x s t : List ℕ} {r : ℕ} (p : Put x 0 s t r) where
-  pub front-length : r ≡ length x
-  front-length = p .ends ∙ zero-add (length x)
-
-  pub front-left : t ≡ over x s
-  unfolding splice
-  front-left = p .holds ∙ rw zero-add
-
   -- nothing follows
   pub stops : (a : OpeningAnswer) → a ≡ stopped r → Opens (closed x) s t a
-  stops a e = record { answer = e ∙ ap stopped front-length; left = front-left }
+  stops a e = record { answer = e ∙ ap stopped (front-length p); left = front-left p }
 
   -- lines follow
   pub follows : (k : Card) (n : ℕ)
       → Opens (record { text = x; more = true; card = k; next = n }) s t (record { length = r; more = true; card = k; next = n })
-  follows k n = record { answer = rw front-length; left = front-left }
+  follows k n = record { answer = rw (front-length p); left = front-left p }
 
 -- ---- the tests of an opening
 

@@ -2,9 +2,8 @@
 use mathlib.Core.Path.{_≡_}
 use Prim.Native.Nat.{ℕ, _+_, _-_, _≤_, _<_}
 use native.Mathlib.Omega.{arith}
-use mathlib.Core.Bool.{true, false, _&&_}
+use mathlib.Core.Bool.{true, false, and-eq-true-iff}
 use mathlib.Core.List.{List}
-use lib.Dec.{leb, ltb}
 use lib.ListN.{length, take, drop}
 use borrow.Author.Tests.{leb-true, ltb-true, le-leb, lt-ltb}
 use Rattle.card.specs.declared.Card.{Card}
@@ -15,8 +14,8 @@ use Rattle.printing.specs.Printed.{lineFor}
 use Rattle.printing.specs.Run.{lineAt}
 use Rattle.printing.specs.Steps.{served, textAt, lineAnswer}
 use Rattle.printing.specs.declared.LineAnswer.{LineAnswer}
-use Rattle.printing.proofs.Scan.{both, line-part}
-use Rattle.printing.proofs.Openings.{front-length, front-left}
+use Rattle.printing.proofs.Scan.{line-part}
+use Rattle.text.proofs.Splices.{front-length, front-left}
 
 pub record IsServed (s : List ℕ) (at : ℕ) (out : List ℕ) : Type 0 where
   pub small : length s ≤ 65536
@@ -25,8 +24,8 @@ pub record IsServed (s : List ℕ) (at : ℕ) (out : List ℕ) : Type 0 where
 
 pub is-served : (s : List ℕ) (at : ℕ) (out : List ℕ) → served s at out ≡ true → IsServed s at out
 is-served s at out t =
-    let b = both (leb (length s) 65536 && ltb at (length s)) (leb 64 (length out)) t in
-    let d = both (leb (length s) 65536) (ltb at (length s)) (b .0) in
+    let b = and-eq-true-iff _ _ .0 t in
+    let d = and-eq-true-iff _ _ .0 (b .0) in
     record { small = leb-true (length s) 65536 (d .0); starts = ltb-true at (length s) (d .1); roomy = leb-true 64 (length out) (b .1) }
 
 module _ (k : Card) (s : List ℕ) (at : ℕ) (out : List ℕ) where

@@ -1,18 +1,17 @@
 -- Every text that is printed at once fits 64 bytes, and lines follow only an accepted card. Assumes nothing.
 use mathlib.Core.Path.{_≡_, refl}
-use Prim.Native.Nat.{ℕ, _+_, _≤_}
+use Prim.Native.Nat.{ℕ, _≤_}
 use native.Mathlib.Omega.{arith}
 use mathlib.Core.Bool.{Bool, true, false, cond, false≢true}
 use mathlib.Core.List.{List, []}
 use mathlib.Core.Option.{Option, some, none}
 use lib.Dec.{leb, ltb}
-use lib.IntN.{ℤ, pos}
+use lib.IntN.{pos}
 use lib.ListN.{length, length-append}
 use borrow.Author.Tests.{ltb-false}
 use Rattle.arc.specs.declared.Verdict.{Verdict}
 use Rattle.card.specs.declared.Card.{Card}
 use Rattle.card.specs.declared.PositionAnswer.{PositionAnswer}
-use Rattle.text.specs.Text.{bytes, angleText}
 use Rattle.card.specs.Grid.{positionOf}
 use Rattle.card.specs.Read.{readOf, Accepted, Known}
 use Rattle.printing.specs.Lines.{Pair, numbersOf}
@@ -21,12 +20,9 @@ use Rattle.printing.specs.Run.{lineAt, nextAt, Opened, closed, openedWit
 use Rattle.printing.specs.Steps.{openingFor, openingAnswer, served, textAt, lineAnswer}
 use Rattle.printing.specs.declared.OpeningAnswer.{OpeningAnswer}
 use Rattle.printing.specs.declared.LineAnswer.{LineAnswer}
-use Rattle.printing.proofs.Digits.{length-digits, decimal-short, decimal-most}
+use Rattle.text.proofs.Digits.{decimal-short, decimal-most}
+use Rattle.text.proofs.Angles.{length-angle}
 use Rattle.printing.proofs.Pairs.{pair-below}
-
-length-angle : (d : ℕ) (z : ℤ) → length (angleText d z) ≡ d + 8
-unfolding angleText
-length-angle d z = simp (length-append, length-digits) (omega arith)
 
 answer-short : (a : PositionAnswer) → length (answerText a) ≤ 29
 answer-short (PositionAnswer.At lat lon) = simp (length-append, length-angle) (omega arith)

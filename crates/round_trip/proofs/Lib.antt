@@ -1,7 +1,4 @@
 pub mod Bytes
-pub mod Digits
-pub mod Runs
-pub mod Angles
 pub mod Table
 pub mod Tiles
 pub mod Records

@@ -28,8 +28,8 @@ use Rattle.card.specs.Read.{numberIn, tileStoring, cardOf, acceptedCard, withVa
 use Rattle.card.specs.Write.{counted, valuesOf, cardText}
 use Rattle.card.specs.RoundTrips.{recordOf, ReadBack, ReadsBack}
 use Rattle.round_trip.proofs.Bytes.{and-both}
-use Rattle.round_trip.proofs.Digits.{number-digits}
-use Rattle.round_trip.proofs.Angles.{angle-of-text}
+use Rattle.text.proofs.Digits.{number-digits}
+use Rattle.text.proofs.Angles.{angle-of-text}
 use Rattle.round_trip.proofs.Table.{count-held, angle-held, a-name, a-flag, Along, done, _then_, along-at, Held, Text, length-written, texts, walks}
 use Rattle.round_trip.proofs.Tiles.{tile-at, stored-within}
 use Rattle.round_trip.proofs.Records.{extents, Good, n-on, m-on, sizes, inverted, text-out}
