@@ -23,11 +23,10 @@ use Rattle.origin.proofs.Axis.{tileAngle, stored-is}
 use Rattle.origin.proofs.Stored.{counted, counted-is, axis}
 use Rattle.text.specs.Text.{number, angleOf}
 use Rattle.card.specs.declared.Card.{Card}
-use Rattle.card.specs.declared.Subfield.{Subfield}
 use Rattle.card.specs.declared.Extents.{Extents}
 use Rattle.card.specs.declared.PlaceAnswer.{PlaceAnswer}
 use Rattle.card.specs.declared.PositionAnswer.{PositionAnswer}
-use Rattle.card.specs.Layout.{STR, ARV, BRV, LSO, PSO, layout, bytesOf, rightKind, rightValue, judge, judgeField, orElse, walk}
+use Rattle.card.specs.Layout.{Subfield, STR, ARV, BRV, LSO, PSO, layout, bytesOf, rightKind, rightValue, judge, judgeField, orElse, walk}
 use Rattle.card.specs.Read.{tileStoring, cardOf, refusedCard, withOrigin, withValues, readIn, Accepted}
 use Rattle.card.specs.NoDrift.{HasPlace}
 use Rattle.card.specs.Grid.{placeRow, placeColumn, extentsOf, verdictOf, inTiles, inChart, latitudeOf, longitudeOf, rowOf, columnOf, placeOf, positionOf, pixelOf}
