@@ -31,7 +31,7 @@ use Rattle.card.proofs.Regions.{Within, tiles-inside, chart-tiles}
 
 -- ---- columns round the circle, in naturals: v and s columns from 180° west
 
-mod-add : (x y t a : ℕ) → x % a ≡ y % a → (x + t) % a ≡ (y + t) % a
+pub mod-add : (x y t a : ℕ) → x % a ≡ y % a → (x + t) % a ≡ (y + t) % a
 mod-add x y t a e = sym (mod-add-mod x a t) ∙ ap (λ (n : ℕ). (n + t) % a) e ∙ mod-add-mod y a t
 
 module _ (a v s : ℕ) (g : Grid a) (h : s ≤ a) where

@@ -1,7 +1,7 @@
--- Answers look at nothing of a card but A, B, n, m and the extents. Two pixels of one position are the pixel that one of the cards gives
--- for it, so demand 3's walk has both places the same; and two pixels of one place are one pixel. Assumes nothing.
+-- Two pixels of one position are the pixel that one of the cards gives for it, so demand 3's walk has both places the same; and two pixels
+-- of one place are one pixel. A tile is at least 207 hundredths, and a stored angle is within half a hundredth. Assumes nothing.
 use mathlib.Core.Path.{_≡_, refl, sym, ap, ap₂, _∙_, subst⁻¹, subst₂}
-use mathlib.Core.Bool.{true, false, _&&_}
+use mathlib.Core.Bool.{true, _&&_}
 use mathlib.Core.List.{List, [], _∷_}
 use mathlib.Core.Logic.{_⊎_, inl, inr}
 use mathlib.Core.Option.{Option, some, none}
@@ -23,71 +23,26 @@ use Rattle.origin.proofs.Axis.{tileAngle, stored-is}
 use Rattle.origin.proofs.Stored.{counted, counted-is, axis}
 use Rattle.text.specs.Text.{number, angleOf}
 use Rattle.card.specs.declared.Card.{Card}
-use Rattle.card.specs.declared.Extents.{Extents}
 use Rattle.card.specs.declared.PlaceAnswer.{PlaceAnswer}
 use Rattle.card.specs.declared.PositionAnswer.{PositionAnswer}
 use Rattle.card.specs.Layout.{Subfield, STR, ARV, BRV, LSO, PSO, layout, bytesOf, rightKind, rightValue, judge, judgeField, orElse, walk}
 use Rattle.card.specs.Read.{tileStoring, cardOf, refusedCard, withOrigin, withValues, readIn, Accepted}
 use Rattle.card.specs.NoDrift.{HasPlace}
-use Rattle.card.specs.Grid.{placeRow, placeColumn, extentsOf, verdictOf, inTiles, inChart, latitudeOf, longitudeOf, rowOf, columnOf, placeOf, positionOf, pixelOf}
+use Rattle.card.specs.Grid.{placeRow, placeColumn, inTiles, inChart, placeOf, positionOf}
 use Rattle.card.specs.Places.{GivesPixel}
-use Rattle.card.specs.Copies.{Copies, Alike, AnswerAlike, PlaceAlike, BytesAlike, Moved, RoundedAgain}
+use Rattle.card.specs.Copies.{Copies, PlaceAlike, BytesAlike, Moved, RoundedAgain}
 use Rattle.card.specs.Copies.{SameIn, others, LSOMoved, PSOMoved, MovedRefused}
 use Rattle.card.proofs.Found.{tile-stores}
 use Rattle.card.proofs.Acceptance.{constantsIn, rowTile, columnTile, ReadTo, read-to}
-use Rattle.card.proofs.Laid.{judged-at, accepted-laid, same-spacing}
+use Rattle.card.proofs.Laid.{judged-at, accepted-laid}
 use Rattle.card.proofs.Regions.{chart-tiles}
 use Rattle.card.proofs.Chain.{no-drift}
 use Rattle.card.proofs.Places.{Told, told-by-place}
 
--- ---- copies
-
--- what answers look at
-abbrev seen : ℕ → ℕ → ℤ → ℤ → Extents → Card
-seen a b n m e =
-    record {
-      scale = 0;
-      zone = 0;
-      a = a;
-      b = b;
-      n = n;
-      m = m;
-      nul = e .nul;
-      nus = e .nus;
-      nll = e .nll;
-      nls = e .nls;
-      nfl = e .nfl;
-      nfc = e .nfc;
-      bad = [];
-      tif = false;
-      north = 0;
-      east = 0;
-    }
-
-abbrev seenOf : Card → Card
-seenOf k = seen (k .a) (k .b) (k .n) (k .m) (extentsOf k)
-
-seen-alike : (k : Card) → Alike k (seenOf k)
-unfolding latitudeOf longitudeOf rowOf columnOf placeOf positionOf pixelOf
-seen-alike k = record { place = λ r c. refl; position = λ r c. refl; pixel = λ r c. refl; verdict = λ r c. refl }
-
-pub answer-alike : AnswerAlike
-answer-alike scale zone j k p q h =
-    let s = same-spacing scale zone j k p q in
-    let e : seenOf j ≡ seenOf k = rw (s .0, s .1, h .same-n, h .same-m, h .same-extents) in
-    let x = seen-alike j in
-    let y = seen-alike k in
-    record {
-      place = λ r c. x .place r c ∙ ap (λ (k : Card). placeOf k r c) e ∙ sym (y .place r c);
-      position = λ r c. x .position r c ∙ ap (λ (k : Card). positionOf k r c) e ∙ sym (y .position r c);
-      pixel = λ r c. x .pixel r c ∙ ap (λ (k : Card). pixelOf k r c) e ∙ sym (y .pixel r c);
-      verdict = λ r c. x .verdict r c ∙ ap (λ (k : Card). verdictOf k r c) e ∙ sym (y .verdict r c);
-    }
-
 -- ---- places and positions
 
 module _ (k : Card) (r c : ℤ) where
-  placed : inTiles k r c ≡ true → placeOf k r c ≡ PlaceAnswer.At (placeRow k r) (placeColumn k c)
+  pub placed : inTiles k r c ≡ true → placeOf k r c ≡ PlaceAnswer.At (placeRow k r) (placeColumn k c)
   unfolding placeOf
   placed t = rw t
 

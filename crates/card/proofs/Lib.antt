@@ -7,6 +7,7 @@ pub mod Regions
 pub mod Chain
 pub mod Places
 pub mod Copies
+pub mod Alike
 pub mod Answers
 pub mod Ranges
 pub mod Doubles

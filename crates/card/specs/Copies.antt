@@ -1,8 +1,9 @@
 -- What makes two cards copies of one chart as far as any answer goes, and what a stored angle rounded again is worth
--- (01, "Origins and the zone grid"). Definitions and claims; the proof is proofs/Copies.antt.
+-- (01, "Origins and the zone grid"). Definitions and claims; the proof is proofs/Copies.antt, and of AnswerAlike and AlikeExactly proofs/Alike.antt.
 --     Copies j k             the same n and m, and the same extents: BAD and TIF may differ
 --     Alike j k              every question on a pixel or a position is answered alike
 --     AnswerAlike            copies of one scale and zone answer alike
+--     AlikeExactly           cards of one scale and zone answer alike exactly where their upper left pixels have one place and the extents are the same
 --     PlaceAlike             on any two cards of one scale and zone, pixels of one place have one position, and pixels of one position one place
 --     SameIn fs s t          s and t have the same bytes in each of the subfields fs
 --     BytesAlike             the same bytes in LSO, PSO and the extents make copies
@@ -15,7 +16,7 @@ use mathlib.Core.List.{List, [], _∷_}
 use mathlib.Core.Logic.{_⊎_, _↔_}
 use mathlib.Core.Option.{none}
 use Prim.Native.Nat.{ℕ, _≤_}
-use lib.IntN.{ℤ, natAbs, _-ℤ_}
+use lib.IntN.{ℤ, pos, natAbs, _-ℤ_}
 use lib.ListN.{length}
 use Rattle.arc.specs.Refusals.{refusal, onVerdict}
 use Rattle.arc.specs.Spacing.{Grid}
@@ -42,6 +43,12 @@ pub record Alike (j k : Card) : Type 0 where
 
 abbrev pub AnswerAlike : Type 0
 AnswerAlike = (scale zone : ℕ) (j k : Card) → Accepted scale zone j → Accepted scale zone k → Copies j k → Alike j k
+
+-- the same, in both directions: n is the same and 128m is the same modulo A, so m may also be A/256 on one card and −A/256 on the other
+abbrev pub AlikeExactly : Type 0
+AlikeExactly =
+    (scale zone : ℕ) (j k : Card) → Accepted scale zone j → Accepted scale zone k
+    → Alike j k ↔ ((placeOf j (pos 0) (pos 0) ≡ placeOf k (pos 0) (pos 0)) × (extentsOf j ≡ extentsOf k))
 
 -- two cuts, each with its own n, m and extents, and a pixel of each one's chart rectangle
 abbrev pub PlaceAlike : Type 0
