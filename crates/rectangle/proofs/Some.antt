@@ -9,10 +9,6 @@ use Rattle.whole.specs.Lists.{someFrom}
 use Rattle.zones.specs.Cover.{covers}
 use Rattle.rectangle.specs.Rectangle.{SomeIs}
 
-either : (x y : Bool) → x || y ≡ true → (x ≡ false → y ≡ true)
-either true y e f = let z : _≡_ {A = ℕ} 0 1 = cc in absurd (omega arith)
-either false y e f = e
-
 module _ (f : ℤ → Bool) where
   moved : (z : ℤ) (k : ℕ) → sucℤ z +ℤ pos k ≡ z +ℤ pos (suc k)
   moved z k = sucℤ-+ℤ z (pos k) ∙ sym (+ℤ-sucℤ z (pos k))

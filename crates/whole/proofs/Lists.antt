@@ -1,8 +1,8 @@
 -- Laws of the lists of specs/Lists.antt: members, and a list of slots that is filled from the front. Assumes nothing.
-use mathlib.Core.Path.{_≡_, sym, ap, _∙_}
+use mathlib.Core.Path.{_≡_, sym, ap, ap₂, _∙_}
 use mathlib.Core.Bool.{Bool, true, false, cond}
 use mathlib.Core.List.{List, [], _∷_, _++_, append-nil, map}
-use Prim.Native.Nat.{ℕ, zero, suc, _+_, _-_, _≤_, _<_}
+use Prim.Native.Nat.{ℕ, zero, suc, _+_, _-_, _<_}
 use native.Mathlib.Omega.{arith}
 use lib.ListN.{length, getD, set, replicate, length-append}
 use lib.Seq.{set-append-seam, append-snoc}
@@ -56,9 +56,9 @@ module _ (f : ℕ → Bool) (k : ℕ) (whole rest slots : List ℕ) (n z : ℕ) 
         count = w .count;
       }
 
--- nothing more to come
-pub finished : (f : ℕ → Bool) (k : ℕ) (whole rest slots : List ℕ) (n : ℕ) → Sofar f k whole rest slots n → those f rest ≡ []
-    → (slots ≡ padded k whole) × (n ≡ length whole)
-finished f k whole rest slots n w e =
+-- nothing more to come: the answer made of count and slots
+pub finished : {A : Type 0} (made : ℕ → List ℕ → A) (f : ℕ → Bool) (k : ℕ) (whole rest slots : List ℕ) (n : ℕ) → Sofar f k whole rest slots n
+    → those f rest ≡ [] → made n slots ≡ made (length whole) (padded k whole)
+finished made f k whole rest slots n w e =
     let s : w .so ≡ whole = sym (append-nil (w .so)) ∙ ap (λ (l : List ℕ). w .so ++ l) (sym e) ∙ w .joined in
-    (w .filled ∙ ap (padded k) s, w .count ∙ ap length s)
+    ap₂ made (w .count ∙ ap length s) (w .filled ∙ ap (padded k) s)

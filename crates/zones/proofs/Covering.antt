@@ -10,15 +10,17 @@ use borrow.Author.Tests.{ltb-true, ltb-false, le-leb, lt-leb, eq-eqb}
 use lib.Dec.{leb, ltb, eqb}
 use lib.IntN.{ℤ, pos, natAbs}
 use lib.Signed.{ltZ}
-use Rattle.arc.specs.Zones.{circle, tableRow, from, to, rowAt}
+use Rattle.whole.specs.Whole.{outside}
+use Rattle.whole.proofs.Held.{outsides}
+use Rattle.arc.specs.Zones.{circle, quarter, tableRow, from, to, rowAt}
 use Rattle.arc.specs.declared.ConstantAnswer.{ConstantAnswer}
-use Rattle.arc.specs.Spacing.{rowsOf, rowUnit}
+use Rattle.arc.specs.Spacing.{isScale, rowsOf, rowUnit, spacingAt}
 use Rattle.arc.proofs.Spaced.{grid, rows-least}
 use Rattle.arc.proofs.Answered.{rows-from}
 use Rattle.whole.specs.Lists.{those, downFrom}
 use Rattle.zones.specs.Basic.{holdsSize, zoneOn, basicZone}
 use Rattle.zones.specs.Cover.{overlaps, coversIn, covers, firstZone, coverZones}
-use Rattle.zones.specs.Steps.{reaches, coverFrom, Rows}
+use Rattle.zones.specs.Steps.{reaches, coverFrom, Rows, Rowed}
 use Rattle.arc.proofs.Table.{northern-at, southern-at, row-north, row-south, polar-at, last-at, from-to}
 use Rattle.zones.proofs.Rows.{place, is-place}
 use Rattle.zones.proofs.Order.{within, to-from}
@@ -107,9 +109,15 @@ first-small lat = go (ltZ lat (pos 0))
     go true = omega arith
     go false = omega arith
 
--- B of an answered scale
+-- what `cover_from` is handed for a latitude in range
+pub rowed : (b : ℕ) (lat : ℤ) → Rows b → outside quarter lat ≡ false → Rowed b (firstZone lat) (place (natAbs lat) .at) (natAbs lat)
+rowed b lat g e =
+    let p = place (natAbs lat) in
+    record { rows = g; zone = first-small lat; in-table = p .in-list; low = p .low; high = outsides quarter lat .0 e }
+
+-- B of a served scale, and of an answered one
+pub scale-rows : (s : ℕ) → isScale s ≡ true → Rows (spacingAt rowUnit s)
+scale-rows s g = record { least = rows-least s g; most = grid rowUnit s g (record { least = omega arith; most = omega arith }) .most }
+
 pub rows-of : (s b : ℕ) → rowsOf s ≡ ConstantAnswer.Pixels b → Rows b
-rows-of s b e =
-    let f = rows-from s b e in
-    let g = grid rowUnit s (f .0) (record { least = omega arith; most = omega arith }) in
-    record { least = omega (arith, f .1, rows-least s (f .0)); most = omega (arith, f .1, g .most) }
+rows-of s b e = let f = rows-from s b e in rw (f .1) (scale-rows s (f .0))

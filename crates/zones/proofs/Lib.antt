@@ -2,4 +2,5 @@ pub mod Holding
 pub mod Rows
 pub mod Order
 pub mod Covering
+pub mod Lying
 pub mod Six

@@ -3,6 +3,7 @@
 use mathlib.Core.Path.{_≡_, refl, sym, ap, _∙_, subst}
 use mathlib.Core.Bool.{Bool, true, false}
 use mathlib.Core.List.{List, []}
+use mathlib.Core.Logic.{⊎-elim}
 use Prim.Native.Nat.{ℕ, zero, suc, _+_, _-_, _*_, _≤_, _<_}
 use native.Mathlib.Nat.{mul-le-mul-left, mul-le-mul-right}
 use native.Mathlib.Omega.{arith}
@@ -15,6 +16,7 @@ use Rattle.whole.specs.Lists.{those, downFrom}
 use Rattle.zones.specs.Steps.{reaches, coverFrom, Rowed}
 use Rattle.whole.proofs.Lists.{agree, Sofar, taken}
 use Rattle.arc.proofs.Table.{from-to, polar-at}
+use Rattle.zones.proofs.Rows.{place}
 
 pub next-from : (i : ℕ) → i < 8 → from (rowAt (suc i)) ≡ to (rowAt i)
 next-from i h = sym (agree to from (take 8 table) (drop 1 table) noRow noRow refl i h) ∙ ap to (getD-take 8 table i noRow h)
@@ -28,6 +30,26 @@ to-from i (suc j) h k = go (eqb i j) refl (λ l. to-from i j l (omega arith))
         let g : to (rowAt i) ≡ to (rowAt j) = ap (λ (n : ℕ). to (rowAt n)) (eqb-true i j e) in
         omega (arith, next-from j (omega arith))
     go false e f = omega (arith, f (omega (arith, eqb-false i j e)), next-from j (omega arith), from-to j (omega arith))
+
+-- a search from the Equator for the row that holds a size, at a row no farther: it stands there, or goes on
+module _ (size row : ℕ) (h : row ≤ place size .at) where
+  pub stands : size < to (rowAt row) → row ≡ place size .at
+  stands l = go (ltb row (place size .at)) refl
+    where
+      go : (t : Bool) → ltb row (place size .at) ≡ t → row ≡ place size .at
+      go true e =
+          absurd (omega (arith, to-from row (place size .at) (ltb-true row (place size .at) e) (place size .in-list), place size .low))
+      go false e = omega (arith, ltb-false row (place size .at) e)
+
+  pub goes-on : row < 8 → to (rowAt row) ≤ size → row < place size .at
+  goes-on k l = go (ltb row (place size .at)) refl
+    where
+      go : (t : Bool) → ltb row (place size .at) ≡ t → row < place size .at
+      go true e = ltb-true row (place size .at) e
+      go false e =
+          let s : row ≡ place size .at = omega (arith, ltb-false row (place size .at) e) in
+          let q : to (rowAt row) ≡ to (rowAt (place size .at)) = ap (λ (n : ℕ). to (rowAt n)) s in
+          ⊎-elim (λ x. absurd (omega arith)) (λ x. absurd (omega arith)) (place size .high)
 
 -- six rows on, the limits are at least 18° apart
 six : (i : ℕ) → i < 3 → to (rowAt i) + 6480000 ≤ from (rowAt (i + 6))

@@ -6,16 +6,14 @@ use Prim.Native.Nat.{ℕ, zero, suc, _+_, _-_, _≤_}
 use native.Mathlib.Omega.{arith}
 use lib.ListN.{length}
 use lib.IntN.{natAbs}
-use Rattle.whole.proofs.Held.{outsides}
-use Rattle.arc.specs.Zones.{quarter, rowAt}
+use Rattle.arc.specs.Zones.{rowAt}
 use Rattle.arc.specs.Spacing.{rowUnit, spacingAt}
-use Rattle.arc.proofs.Spaced.{grid, rows-least}
 use Rattle.whole.specs.Lists.{those, downFrom}
 use Rattle.zones.specs.Cover.{firstZone, AtMostSix}
 use Rattle.zones.specs.Steps.{reaches, coverFrom, Rowed}
 use Rattle.zones.proofs.Rows.{place}
 use Rattle.zones.proofs.Order.{within, near-enough}
-use Rattle.zones.proofs.Covering.{cover-is, first-small}
+use Rattle.zones.proofs.Covering.{cover-is, rowed, scale-rows}
 
 -- of the n rows from the Equator on, those that reach the size are no more than n less the rows six or more below i
 module _ (b first i size : ℕ) (g : Rowed b first i size) where
@@ -37,14 +35,6 @@ module _ (b first i size : ℕ) (g : Rowed b first i size) where
 
 pub six-at-most : AtMostSix
 six-at-most s g lat e =
-    let p = place (natAbs lat) in
-    let u = grid rowUnit s g (record { least = omega arith; most = omega arith }) in
-    subst⁻¹ (λ (l : List ℕ). length l ≤ 6) (cover-is (spacingAt rowUnit s) lat)
-    (at-most-six (spacingAt rowUnit s) (firstZone lat) (p .at) (natAbs lat)
-    (record {
-      rows = record { least = rows-least s g; most = u .most };
-      zone = first-small lat;
-      in-table = p .in-list;
-      low = p .low;
-      high = outsides quarter lat .0 e;
-    }))
+    let b : ℕ = spacingAt rowUnit s in
+    subst⁻¹ (λ (l : List ℕ). length l ≤ 6) (cover-is b lat)
+    (at-most-six b (firstZone lat) (place (natAbs lat) .at) (natAbs lat) (rowed b lat (scale-rows s g) e))

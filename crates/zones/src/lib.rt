@@ -4,21 +4,11 @@ use arc::ConstantAnswer;
 use arc::Overlap;
 use arc::Refusal;
 use arc::Verdict;
-use arc::Zone1;
-use arc::Zone2;
-use arc::Zone3;
-use arc::Zone4;
-use arc::Zone5;
-use arc::Zone6;
-use arc::Zone7;
-use arc::Zone8;
-use arc::Zone9;
 ghost use mathlib.Core.Path.{_≡_};
-ghost use Prim.Native.Nat.{_+_, _-_, _*_, _<_, _≤_};
-ghost use Rattle.arc.specs.Zones.{quarter};
+ghost use Prim.Native.Nat.{_+_};
 ghost use Rattle.zones.specs.Basic.{rowHolding, basicZoneOf};
-ghost use Rattle.zones.specs.Cover.{firstZone, acceptedCover, coverAt, coverOf, refusedCover};
-ghost use Rattle.zones.specs.Steps.{coverFrom, Rows, Rowed};
+ghost use Rattle.zones.specs.Cover.{acceptedCover, coverAt, coverOf, refusedCover};
+ghost use Rattle.zones.specs.Steps.{locatedOf, coverFrom, Rows, Rowed};
 
 mod parts;
 
@@ -37,51 +27,57 @@ pub struct CoverAnswer {
     pub zones: [u64; 6],
 }
 
-// The northern zone whose limits hold a size of latitude (001, Table 3-1).
-fn northern(size: u64) -> u64
-    requires { ⌜ size ≤ quarter ⌝ }
-    ensures { λ r. ⌜ r ≡ rowHolding size .northern ⌝ }
+// Where a latitude in range lies: its hemisphere's first zone, the place of the row that holds it, and its size.
+enum Located {
+    At { first: u64, row: u64, size: u64 },
+    Outside,
+}
+
+// The place, 0 to 8, of the row whose limits hold a size of latitude (001, Table 3-1).
+fn row_holding(size: u64) -> u64
+    ensures { λ r. ⌜ r + 1 ≡ rowHolding size .northern ⌝ }
 {
-    if size < Zone1::POLEWARD {
-        return 1;
+    let mut row = 0;
+    while row < 8 {
+        if size < arc::poleward(row) {
+            break;
+        }
+        row += 1;
     }
-    if size < Zone2::POLEWARD {
-        return 2;
+    row
+}
+
+// A latitude by its row. Row i has the zones 1 + i and 10 + i.
+fn locate(lat: i64) -> Located
+    ensures { λ r. ⌜ r ≡ locatedOf lat ⌝ }
+{
+    let size = whole::size(lat);
+    if Circle::QUARTER < size {
+        return Located::Outside;
     }
-    if size < Zone3::POLEWARD {
-        return 3;
+    let row = row_holding(size);
+    if lat < 0 {
+        return Located::At {
+            first: 10,
+            row,
+            size,
+        };
     }
-    if size < Zone4::POLEWARD {
-        return 4;
+    Located::At {
+        first: 1,
+        row,
+        size,
     }
-    if size < Zone5::POLEWARD {
-        return 5;
-    }
-    if size < Zone6::POLEWARD {
-        return 6;
-    }
-    if size < Zone7::POLEWARD {
-        return 7;
-    }
-    if size < Zone8::POLEWARD {
-        return 8;
-    }
-    9
 }
 
 // The basic zone of a latitude. Refuses 4.
 pub fn basic_zone(lat: i64) -> ZoneAnswer
     ensures { λ r. ⌜ r ≡ basicZoneOf lat ⌝ }
 {
-    let size = whole::size(lat);
-    if Circle::QUARTER < size {
-        return ZoneAnswer::Refused(arc::refused(4));
+    match locate(lat) {
+        Located::At { first, row, .. } => ZoneAnswer::Zone(first + row),
+        Located::Outside => ZoneAnswer::Refused(arc::refused(4)),
     }
-    let zone = northern(size);
-    if lat < 0 {
-        return ZoneAnswer::Zone(zone + 9);
-    }
-    ZoneAnswer::Zone(zone)
 }
 
 // A refusal of a cover, its slots 0.
@@ -93,13 +89,6 @@ fn no_cover(r: Refusal) -> CoverAnswer
         length: 0,
         zones: [0; 6],
     }
-}
-
-// 1 or 10: the hemisphere's first zone.
-fn first_zone(lat: i64) -> u64
-    ensures { λ r. ⌜ r ≡ firstZone lat ⌝ }
-{
-    if lat < 0 { 10 } else { 1 }
 }
 
 // The zones from row `row` equatorward that cover a size which that row holds.
@@ -132,12 +121,10 @@ fn cover_at(b: u64, lat: i64) -> CoverAnswer
     requires { ⌜ Rows b ⌝ }
     ensures { λ r. ⌜ r ≡ coverAt b lat ⌝ }
 {
-    let size = whole::size(lat);
-    if Circle::QUARTER < size {
-        return no_cover(arc::refused(4));
+    match locate(lat) {
+        Located::At { first, row, size } => cover_from(b, first, row as usize, size),
+        Located::Outside => no_cover(arc::refused(4)),
     }
-    let row = (northern(size) - 1) as usize;
-    cover_from(b, first_zone(lat), row, size)
 }
 
 // The zones that cover a latitude at scale 1:S, the basic zone first, then equatorward. Refuses 1, 4.

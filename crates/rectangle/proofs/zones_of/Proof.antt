@@ -1,15 +1,12 @@
 -- Each turn takes the next zone or passes it by, and the list so far with what the rest adds is the whole. Assumes nothing.
-use mathlib.Core.Path.{_≡_, sym, _∙_, ap₂}
-use mathlib.Core.List.{List}
+use mathlib.Core.Path.{_≡_, sym, _∙_}
 use mathlib.Core.Logic.{⊎-elim}
-use lib.ListN.{length as count}
 use Rattle.arc.specs.declared.Verdict.{Verdict}
-use Rattle.whole.specs.Lists.{upFrom, padded}
+use Rattle.whole.specs.Lists.{upFrom}
 use Rattle.whole.proofs.Lists.{Sofar, finished}
-use Rattle.rectangle.specs.Rectangle.{coversSome, rectangleZones, acceptedRectangle}
+use Rattle.rectangle.specs.Rectangle.{coversSome, rectangleZones}
 use Rattle.rectangle.proofs.Turn.{begun, took, left-out}
-use Rattle.rectangle.specs.declared.RectangleAnswer.{RectangleAnswer}
-use Prim.Native.Nat.{ℕ, _-_, _≤_, _<_}
+use Prim.Native.Nat.{_-_, _≤_, _<_}
 use native.Mathlib.Omega.{arith}
 use lib.IntN.{pos, _-ℤ_}
 use Rattle.arc.specs.Zones.{quarter}
@@ -70,16 +67,11 @@ loop-again c =
     ))
     (c .if1 .came)
 
-made : (l zs : List ℕ) (n : ℕ) → (zs ≡ padded 18 l) × (n ≡ count l)
-    → _≡_ {A = RectangleAnswer} (record { verdict = Verdict.Accepted; length = n; zones = zs }) (acceptedRectangle l)
-made l zs n p = ap₂ (λ (x : List ℕ) (y : ℕ). record { verdict = Verdict.Accepted; length = y; zones = x }) (p .0) (p .1)
-
 returns : tie.Need-returns Inv-loop μ-loop
 returns c =
-    let a = c .before .before .args in
     let l = c .before .loop in
     let e : 19 - l .zone ≡ 0 = omega arith in
-    made (rectangleZones (a .b) (pos (a .south) -ℤ pos quarter) (pos (a .north) -ℤ pos quarter)) _ _ (finished _ 18 _ _ _ _ (l .inv .3) (rw e))
+    finished (λ n zs. record { verdict = Verdict.Accepted; length = n; zones = zs }) _ 18 _ _ _ _ (l .inv .3) (rw e)
 
 pub zones-of-spec : {M : Type 1} → statement M
 zones-of-spec =

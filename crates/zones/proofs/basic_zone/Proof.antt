@@ -1,69 +1,46 @@
--- The size is tested as the range is, `northern` finds the row, and its southern zone is nine more. Assumes nothing.
-use mathlib.Core.Path.{_≡_, sym, ap, _∙_}
+-- The basic zone by its row's place. Assumes nothing.
+use mathlib.Core.Path.{sym, ap, ap₂, _∙_}
+use Prim.Native.Nat.{_+_}
 use native.Mathlib.Omega.{arith}
 use lib.IntN.{natAbs}
-use mir.Syntax.{w64}
-use mir.ValLaws.{toZ-ofZ}
-use Rattle.whole.proofs.Signed.{outside-size, inside-size}
 use Rattle.zones.specs.declared.ZoneAnswer.{ZoneAnswer}
-use Rattle.zones.specs.Basic.{rowHolding}
-use Rattle.arc.specs.Zones.{quarter}
-use Rattle.zones.proofs.Rows.{northern-is, southern-is, place}
-use Prim.Native.Nat.{ℕ, _+_}
+use Rattle.zones.proofs.Rows.{place}
+use Rattle.zones.proofs.Covering.{basic-is, first-small}
+use Rattle.zones.proofs.Lying.{Lies, located-outside, located-at}
 use borrow.Author.Needs.{needs}
 use Rattle.zones.proofs.basic_zone.Statement.{statement}
 use Rattle.zones.proofs.basic_zone.Tie as tie
 
-size-requires : tie.Need-size-requires
-size-requires c κs = search needs
+locate-requires : tie.Need-locate-requires
+locate-requires c κs = search needs
+
+enum-known-first : tie.Need-enum-known-first
+enum-known-first c = search needs
+
+lies : (c : tie.After-known-told) → let g = c .before .first .given .0 in Lies (c .before .before .before .before .args .lat) (g .0) (g .1 .0) (g .1 .1 .0)
+lies c = let s = c .before .before .before .before in
+    located-at (s .args .lat) (s .fits .lat) (c .before .before .before .locate .ensures) (c .before .first .given .1)
+
+add-t6 : tie.Need-add-t6
+add-t6 c = let l = lies c in let z = c .before .before .before .before .args .lat in
+    omega (arith, l .is-first, l .is-row, first-small z, place (natAbs z) .in-list)
+
+enum-told : tie.Need-enum-told
+enum-told c = search needs
 
 refused-requires : tie.Need-refused-requires
 refused-requires c κs = search needs
 
-sized : (c : tie.After-size) → c .size .result ≡ natAbs (c .before .args .lat)
-sized c = c .size .ensures ∙ ap natAbs (toZ-ofZ w64 (c .before .args .lat) (c .before .fits .lat))
-
 returns : tie.Need-returns
-returns c =
-    rw (outside-size quarter (c .before .before .before .args .lat) _ (sized (c .before .before)) (c .before .if1 .taken))
-    (ap ZoneAnswer.Refused (c .refused .ensures))
-
-northern-requires : tie.Need-northern-requires
-northern-requires c κs = search needs
-
-add-t6 : tie.Need-add-t6
-add-t6 c =
-    omega (
-      arith,
-      c .before .northern .ensures,
-      northern-is (c .before .before .before .size .result),
-      place (c .before .before .before .size .result) .in-list,
-    )
+returns c = let l = lies c in
+    rw (l .test) (ap ZoneAnswer.Zone (ap₂ _+_ (l .is-first) (l .is-row) ∙ sym (basic-is (c .before .before .before .before .args .lat))))
 
 returns-2 : tie.Need-returns-2
-returns-2 c =
-    let z = c .before .before .before .before .args .lat in
-    rw (
-      inside-size quarter (c .before .before .before .before .args .lat) _ (sized (c .before .before .before))
-          (c .before .before .if1 .left),
-      rw (toZ-ofZ w64 z (c .before .before .before .before .fits .lat)) at (c .if2 .taken),
-    )
-    (ap ZoneAnswer.Zone
-    (ap (λ (n : ℕ). n + 9) (c .before .northern .ensures)
-    ∙ sym (southern-is (c .before .before .before .size .result))
-    ∙ ap (λ (n : ℕ). rowHolding n .southern) (sized (c .before .before .before))))
-
-returns-3 : tie.Need-returns-3
-returns-3 c =
-    let z = c .before .before .before .before .args .lat in
-    rw (
-      inside-size quarter (c .before .before .before .before .args .lat) _ (sized (c .before .before .before))
-          (c .before .before .if1 .left),
-      rw (toZ-ofZ w64 z (c .before .before .before .before .fits .lat)) at (c .if2 .left),
-    )
-    (ap ZoneAnswer.Zone (c .before .northern .ensures ∙ ap (λ (n : ℕ). rowHolding n .northern) (sized (c .before .before .before))))
+returns-2 c = let s = c .before .before .before .before in
+    rw (located-outside (s .args .lat) (s .fits .lat) (c .before .before .before .locate .ensures) (c .before .enum-told .given .1))
+    (ap ZoneAnswer.Refused (c .refused .ensures))
 
 pub basic-zone-spec : {M : Type 1} → statement M
 basic-zone-spec =
     tie.close
-    (tie.spec size-requires refused-requires returns northern-requires add-t6 returns-2 returns-3)
+    (tie.spec locate-requires enum-known-first add-t6 enum-told refused-requires returns returns-2)

@@ -1,17 +1,16 @@
 -- Each turn takes the next zone equatorward while it reaches the size, and the list so far with what the rest adds is the whole. It is left at the
 -- Equator or at the first zone that does not reach it, after which none does. Assumes nothing.
-use mathlib.Core.Path.{_≡_, refl, ap₂}
+use mathlib.Core.Path.{_≡_, refl}
 use mathlib.Core.List.{List, _∷_, []}
 use Prim.Native.Nat.{ℕ, _+_, _≤_, _<_, _-_}
 use native.Mathlib.Omega.{arith}
 use borrow.Author.Needs.{needs}
-use lib.ListN.{set, length as count}
+use lib.ListN.{set}
 use Rattle.whole.proofs.Machine.{fits-mul}
 use Rattle.arc.specs.Zones.{quarter}
 use Rattle.arc.specs.declared.Verdict.{Verdict}
 use Rattle.zones.specs.declared.CoverAnswer.{CoverAnswer}
-use Rattle.zones.specs.Cover.{acceptedCover}
-use Rattle.whole.specs.Lists.{padded, downFrom}
+use Rattle.whole.specs.Lists.{downFrom}
 use Rattle.zones.specs.Steps.{coverFrom}
 use Rattle.whole.proofs.Lists.{Sofar, finished}
 use Rattle.zones.proofs.Order.{within, limit-low, took, stopped}
@@ -79,24 +78,18 @@ loop-less c = omega arith
 loop-again : tie.Need-loop-again Inv-loop μ-loop
 loop-again c = (omega arith, omega arith, turn c .1)
 
-made : (l zs : List ℕ) (n : ℕ) → (zs ≡ padded 6 l) × (n ≡ count l)
-    → _≡_ {A = CoverAnswer} (record { verdict = Verdict.Accepted; length = n; zones = zs }) (acceptedCover l)
-made l zs n p = ap₂ (λ (x : List ℕ) (y : ℕ). record { verdict = Verdict.Accepted; length = y; zones = x }) (p .0) (p .1)
+abbrev made : ℕ → List ℕ → CoverAnswer
+made n zs = record { verdict = Verdict.Accepted; length = n; zones = zs }
 
 returns : tie.Need-returns Inv-loop μ-loop
-returns c =
-    let a = c .before .before .args in
-    let e : c .before .loop .left ≡ 0 = omega arith in
-    made (coverFrom (a .b) (a .first) (a .row) (a .size)) _ _ (finished _ 6 _ _ _ _ (c .before .loop .inv .2) (rw e))
+returns c = let e : c .before .loop .left ≡ 0 = omega arith in finished made _ 6 _ _ _ _ (c .before .loop .inv .2) (rw e)
 
 returns-2 : tie.Need-returns-2 Inv-loop μ-loop
 returns-2 c =
-    let a = c .before .before .before .before .args in
     let i = c .before .before .before .loop .inv in
-    made (coverFrom (a .b) (a .first) (a .row) (a .size)) _ _
-    (finished _ 6 _ _ _ _ (i .2)
+    finished made _ 6 _ _ _ _ (i .2)
     (stopped _ _ _ _ (c .before .before .before .before .pre) (c .before .before .before .loop .left) (omega arith) (i .0) _
-    (c .before .poleward .ensures) (c .if1 .taken)))
+    (c .before .poleward .ensures) (c .if1 .taken))
 
 pub cover-from-spec : {M : Type 1} → statement M
 cover-from-spec =
