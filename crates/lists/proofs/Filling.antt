@@ -5,7 +5,7 @@ use Prim.Native.Nat.{ℕ, zero, suc, _+_, _*_, _%_, _≤_, _<_}
 use native.Mathlib.Nat.{add-mul, zero-mul}
 use native.Mathlib.Numerals.{add-one}
 use native.Mathlib.Omega.{arith}
-use mathlib.Core.Bool.{true, _&&_}
+use mathlib.Core.Bool.{true, _&&_, and-eq-true-iff}
 use borrow.Author.Tests.{leb-true}
 use lib.Dec.{leb, eqb}
 use lib.ListN.{length, set, drop, length-append, length-drop}
@@ -19,7 +19,6 @@ use Rattle.card.specs.declared.PositionAnswer.{PositionAnswer}
 use Rattle.card.specs.declared.PixelAnswer.{PixelAnswer}
 use Rattle.whole.specs.Lists.{over, each}
 use Rattle.card.specs.Grid.{positionReport, pixelReport}
-use Rattle.card.proofs.Laid.{both}
 use Rattle.lists.specs.Lists.{reportValues, reportNumbers, pairs, listsFit}
 
 module _ {A : Type 0} where
@@ -42,7 +41,7 @@ module _ {A : Type 0} where
 -- ---- the lengths fit
 pub lists-fit : (p o n : ℕ) → listsFit p o n ≡ true → (p ≤ o) × (pairs p ≤ n)
 lists-fit p o n e =
-    let t = both (eqb (p % 2) 0 && leb p o) (leb (pairs p) n) e in (leb-true p o (both (eqb (p % 2) 0) (leb p o) (t .0) .1), leb-true (pairs p) n (t .1))
+    let t = and-eq-true-iff (eqb (p % 2) 0 && leb p o) (leb (pairs p) n) .0 e in (leb-true p o (and-eq-true-iff (eqb (p % 2) 0) (leb p o) .0 (t .0) .1), leb-true (pairs p) n (t .1))
 
 -- after i turns of n
 pub record Filled (f : ℕ → Report) (n : ℕ) (out : List ℤ) (num : List ℕ) (i : ℕ) (now : List ℤ) (nums : List ℕ) : Type 0 where

@@ -3,9 +3,7 @@ pub mod Digits
 pub mod Runs
 pub mod Angles
 pub mod Table
-pub mod Tiles
 pub mod Records
 pub mod ReadBack
-pub mod Readings
 pub mod WriteBack
 pub mod Aligned
