@@ -1,5 +1,5 @@
 -- What an answered pair of constants is: the scale is good, the zone has a row, and its unit is one of the table's. Assumes nothing.
-use mathlib.Core.Path.{_≡_, refl}
+use mathlib.Core.Path.{_≡_, refl, ap}
 use mathlib.Core.Bool.{Bool, true, false, cond, _&&_}
 use mathlib.Core.List.{List, [], _∷_}
 use mathlib.Core.Option.{Option, some, none}
@@ -7,12 +7,13 @@ use Prim.Native.Nat.{ℕ, _≤_}
 use native.Mathlib.Omega.{arith}
 use borrow.Author.Tests.{leb-true}
 use lib.Dec.{leb}
+use Rattle.arc.specs.declared.Refusal.{Refusal}
 use Rattle.arc.specs.declared.ConstantAnswer.{ConstantAnswer}
 use Rattle.arc.specs.declared.SpacingAnswer.{SpacingAnswer}
 use Rattle.arc.specs.Refusals.{refusal}
 use Rattle.arc.specs.Zones.{Row, table, hasZone, rowIn, tableRow}
-use Rattle.arc.specs.Spacing.{isScale, spacingAt, rowUnit, columnsIn, rowsOf, withRows, spacingOf, Scale, SpacingUnit, GridsIs}
-use Rattle.arc.proofs.Spaced.{scale-in, grid}
+use Rattle.arc.specs.Spacing.{isScale, spacingAt, rowUnit, columnsIn, columnsOf, rowsOf, withRows, spacingOf, SpacingUnit, GridsIs}
+use Rattle.arc.proofs.Spaced.{grid}
 
 -- the units of a table are in range
 abbrev unitsIn : List Row → Bool
@@ -37,7 +38,7 @@ unit-in (r ∷ rs) zone e =
 
 -- an answer that is no refusal comes from a good scale and a row
 pub record From (s zone a b : ℕ) : Type 0 where
-  pub scale : Scale s
+  pub scale : isScale s ≡ true
   pub of-row : Row
   pub is-row : tableRow zone ≡ some of-row
   pub is-a : a ≡ spacingAt (of-row .unit) s
@@ -48,7 +49,7 @@ answered-from s zone a b e = go (isScale s) (tableRow zone) refl refl e
   where
     go : (t : Bool) (o : Option Row) → isScale s ≡ t → tableRow zone ≡ o
         → cond t (withRows s (columnsIn s o)) (SpacingAnswer.Refused (refusal 1)) ≡ SpacingAnswer.Constants a b → From s zone a b
-    go true (some r) p q k = record { scale = scale-in s p; of-row = r; is-row = q; is-a = cc; is-b = cc }
+    go true (some r) p q k = record { scale = p; of-row = r; is-row = q; is-a = cc; is-b = cc }
     go true none p q k = let z : _≡_ {A = ℕ} 0 1 = cc in absurd (omega arith)
     go false o p q k = let z : _≡_ {A = ℕ} 0 1 = cc in absurd (omega arith)
 
@@ -62,11 +63,19 @@ answered-grids s zone a b e =
     }
 
 -- B alone
-pub rows-from : (s b : ℕ) → rowsOf s ≡ ConstantAnswer.Pixels b → Scale s × (b ≡ spacingAt rowUnit s)
+pub rows-from : (s b : ℕ) → rowsOf s ≡ ConstantAnswer.Pixels b → (isScale s ≡ true) × (b ≡ spacingAt rowUnit s)
 rows-from s b e = go (isScale s) refl e
   where
     go : (t : Bool) → isScale s ≡ t
         → cond t (ConstantAnswer.Pixels (spacingAt rowUnit s)) (ConstantAnswer.Refused (refusal 1)) ≡ ConstantAnswer.Pixels b
-        → Scale s × (b ≡ spacingAt rowUnit s)
-    go true p k = (scale-in s p, cc)
+        → (isScale s ≡ true) × (b ≡ spacingAt rowUnit s)
+    go true p k = (p, cc)
     go false p k = let z : _≡_ {A = ℕ} 0 1 = cc in absurd (omega arith)
+
+pub rows-refused : (s zone : ℕ) (r : Refusal) → rowsOf s ≡ ConstantAnswer.Refused r → spacingOf s zone ≡ SpacingAnswer.Refused r
+rows-refused s zone r e = go (isScale s) e
+  where
+    go : (t : Bool) → cond t (ConstantAnswer.Pixels (spacingAt rowUnit s)) (ConstantAnswer.Refused (refusal 1)) ≡ ConstantAnswer.Refused r
+        → cond t (withRows s (columnsOf s zone)) (SpacingAnswer.Refused (refusal 1)) ≡ SpacingAnswer.Refused r
+    go true k = let z : _≡_ {A = ℕ} 0 1 = cc in absurd (omega arith)
+    go false k = let q : refusal 1 ≡ r = cc in ap SpacingAnswer.Refused q

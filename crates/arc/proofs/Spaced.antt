@@ -1,7 +1,7 @@
 -- Laws of the spacing constants (001, 3.4.6), for every unit and every scale: the smallest whole number not below n / s,
 -- as the code divides, is q with n ≤ q s < n + s. Assumes nothing.
 use mathlib.Core.Path.{_≡_, ap, _∙_}
-use mathlib.Core.Bool.{Bool, true, false, _&&_}
+use mathlib.Core.Bool.{true, and-eq-true-iff}
 use Prim.Native.Nat.{ℕ, _+_, _-_, _*_, _/_, _≤_, _<_}
 use native.Mathlib.Nat.{div-add-mod', mod-lt, mul-assoc, lt-of-mul-lt-mul-right, add-mul, mul-le-mul-left, zero-mul}
 use native.Mathlib.Omega.{arith}
@@ -10,18 +10,16 @@ use lib.Dec.{leb}
 use lib.IntN.{pos, natAbs}
 use Rattle.whole.specs.Whole.{ceilDiv}
 use Rattle.whole.proofs.Signed.{Is, is-nat, is-same, is-ceil, is-size}
-use Rattle.arc.specs.Spacing.{isScale, spacingAt, Scale, SpacingUnit, Spaced, Grid, SpacingIs, SpacingFalls, RowsAtLeast}
+use Rattle.arc.specs.Spacing.{isScale, spacingAt, SpacingUnit, Spaced, Grid, SpacingIs, SpacingFalls, RowsAtLeast}
 
--- the test as a fact
-pub scale-in : (s : ℕ) → isScale s ≡ true → Scale s
-scale-in s e = go (leb 5000 s) (leb s 20000000) (leb-true 5000 s) (leb-true s 20000000) e
-  where
-    go : (x y : Bool) → (x ≡ true → 5000 ≤ s) → (y ≡ true → s ≤ 20000000) → x && y ≡ true → Scale s
-    go true true f g t = record { least = f t; most = g t }
-    go true false f g t = let z : _≡_ {A = ℕ} 0 1 = cc in absurd (omega arith)
-    go false y f g t = let z : _≡_ {A = ℕ} 0 1 = cc in absurd (omega arith)
+-- the test's two ends
+pub scale-least : (s : ℕ) → isScale s ≡ true → 5000 ≤ s
+scale-least s g = leb-true 5000 s (and-eq-true-iff (leb 5000 s) (leb s 20000000) .0 g .0)
 
-module _ (u s : ℕ) (g : Scale s) where
+pub scale-most : (s : ℕ) → isScale s ≡ true → s ≤ 20000000
+scale-most s g = leb-true s 20000000 (and-eq-true-iff (leb 5000 s) (leb s 20000000) .0 g .1)
+
+module _ (u s : ℕ) (g : isScale s ≡ true) where
   q : ℕ
   q = (u * 1000000 + (s - 1)) / s
 
@@ -31,7 +29,7 @@ module _ (u s : ℕ) (g : Scale s) where
   divides =
       let x : ℕ = u * 1000000 in
       let e : Is (ceilDiv (pos x) s) ((x + (s - 1)) / s) 0 =
-      is-ceil (pos x) s x 0 (omega (arith, g .least)) (is-same (pos x) x 0 x (0 * s) (is-nat x) (omega (arith, zero-mul s))) in
+      is-ceil (pos x) s x 0 (omega (arith, scale-least s g)) (is-same (pos x) x 0 x (0 * s) (is-nat x) (omega (arith, zero-mul s))) in
       let f : natAbs (ceilDiv (pos x) s) ≡ (x + (s - 1)) / s - 0 + (0 - (x + (s - 1)) / s) = is-size (ceilDiv (pos x) s) ((x + (s - 1)) / s) 0 e in
       ap (λ (n : ℕ). 512 * n) (omega arith)
 
@@ -39,11 +37,11 @@ module _ (u s : ℕ) (g : Scale s) where
   unfolding q
   enough =
       let n : ℕ = u * 1000000 + (s - 1) in
-      omega (arith, div-add-mod' n s, mod-lt n {m = s} (omega (arith, g .least)), g .least)
+      omega (arith, div-add-mod' n s, mod-lt n {m = s} (omega (arith, scale-least s g)), scale-least s g)
 
   close : q * s < u * 1000000 + s
   unfolding q
-  close = omega (arith, div-add-mod' (u * 1000000 + (s - 1)) s, g .least)
+  close = omega (arith, div-add-mod' (u * 1000000 + (s - 1)) s, scale-least s g)
 
   -- a product with s carries over
   carried : spacingAt u s * s ≡ 512 * (q * s)
@@ -62,7 +60,7 @@ module _ (u s : ℕ) (g : Scale s) where
   unfolding q
   spaced w =
       let e : spacingAt u s ≡ 512 * q = divides in
-      let h : q < 156401 = below 156401 (omega (arith, w .most, g .least)) in
+      let h : q < 156401 = below 156401 (omega (arith, w .most, scale-least s g)) in
       let l : 1 ≤ q = at-least 1 (omega (arith, w .least)) in
       record {
         whole = omega arith;
@@ -76,7 +74,7 @@ module _ (u s : ℕ) (g : Scale s) where
   unfolding q
   grid w =
       let e : spacingAt u s ≡ 512 * q = divides in
-      let h : q < 156401 = below 156401 (omega (arith, w .most, g .least)) in
+      let h : q < 156401 = below 156401 (omega (arith, w .most, scale-least s g)) in
       let p = spaced w in
       record { whole = p .whole; some = p .some; most = omega arith }
 
@@ -97,6 +95,6 @@ falls u s t w g k h =
 pub rows-least : RowsAtLeast
 unfolding q
 rows-least s g =
-    let l : 40 ≤ q 782 s g = at-least 782 s g 40 (omega (arith, g .most)) in
+    let l : 40 ≤ q 782 s g = at-least 782 s g 40 (omega (arith, scale-most s g)) in
     let e : spacingAt 782 s ≡ 512 * q 782 s g = divides 782 s g in
     omega arith

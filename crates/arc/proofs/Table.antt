@@ -1,16 +1,51 @@
--- A zone number against the two zones of a row: it is one of them, or it is neither. Assumes nothing.
-use mathlib.Core.Path.{_≡_, sym, ap, _∙_}
-use mathlib.Core.Bool.{false, _||_}
+-- The table by a row's place in it, 0 to 8: each column of the table is one equation that computes; and a zone number against
+-- the two zones of a row. Assumes nothing.
+use mathlib.Core.Path.{_≡_, refl, sym, ap, _∙_}
+use mathlib.Core.Bool.{true, false, _||_}
+use mathlib.Core.List.{map}
 use mathlib.Core.Logic.{_⊎_, inl, inr, ⊎-elim}
-use Prim.Native.Nat.{ℕ, _≤_}
-use borrow.Author.Tests.{ne-eqb}
-use lib.Dec.{eqb}
+use mathlib.Core.Option.{some}
+use Prim.Native.Nat.{ℕ, _+_, _≤_, _<_}
+use native.Mathlib.Nat.{zero-add}
+use borrow.Author.Tests.{ltb-true, ne-eqb}
+use lib.Dec.{ltb, eqb}
 use lib.ListN.{List·getD-eq-default}
-use Rattle.arc.specs.Zones.{table, noRow, rowAt}
+use Rattle.whole.specs.Lists.{upFrom}
+use Rattle.whole.proofs.Lists.{agree, upFrom-at}
+use Rattle.arc.specs.Zones.{Row, table, tableRow, isPolar, from, to, rowAt, noRow}
 
--- what holds at both zones holds at one of them
-pub either : {A : Type 0} (f : ℕ → A) (n s zone : ℕ) {x : A} → (zone ≡ n) ⊎ (zone ≡ s) → x ≡ f n → x ≡ f s → x ≡ f zone
-either f n s zone w p q = ⊎-elim (λ e. p ∙ ap f (sym e)) (λ e. q ∙ ap f (sym e)) w
+module _ (i : ℕ) (h : i < 9) where
+  -- a column of the table as a function of the row's place
+  column : {C : Type 0} (f : Row → C) (g : ℕ → C) (a : ℕ) → map f table ≡ map g (upFrom a 9) → f (rowAt i) ≡ g (a + i)
+  column f g a e = agree f g table (upFrom a 9) noRow 0 e i h ∙ ap g (upFrom-at a 9 i 0 h)
+
+  pub northern-at : rowAt i .northern ≡ 1 + i
+  northern-at = column (λ (r : Row). r .northern) (λ (n : ℕ). n) 1 refl
+
+  pub southern-at : rowAt i .southern ≡ 10 + i
+  southern-at = column (λ (r : Row). r .southern) (λ (n : ℕ). n) 10 refl
+
+  pub row-north : tableRow (1 + i) ≡ some (rowAt i)
+  row-north = sym (column some tableRow 1 refl)
+
+  pub row-south : tableRow (10 + i) ≡ some (rowAt i)
+  row-south = sym (column some tableRow 10 refl)
+
+  pub polar-at : isPolar (rowAt i .northern) ≡ eqb i 8
+  polar-at = column (λ (r : Row). isPolar (r .northern)) (λ (n : ℕ). eqb n 8) 0 refl ∙ ap (λ (n : ℕ). eqb n 8) (zero-add i)
+
+  pub last-at : eqb (rowAt i .poleward) 90 ≡ eqb i 8
+  last-at = column (λ (r : Row). eqb (r .poleward) 90) (λ (n : ℕ). eqb n 8) 0 refl ∙ ap (λ (n : ℕ). eqb n 8) (zero-add i)
+
+  pub from-to : from (rowAt i) < to (rowAt i)
+  from-to = ltb-true (from (rowAt i)) (to (rowAt i)) (column (λ (r : Row). ltb (from r) (to r)) (λ (n : ℕ). true) 0 refl)
+
+  pub to-least : 1 < to (rowAt i)
+  to-least = ltb-true 1 (to (rowAt i)) (column (λ (r : Row). ltb 1 (to r)) (λ (n : ℕ). true) 0 refl)
+
+  -- a zone of the row, on either side of the Equator
+  pub zone-row : (zone : ℕ) → (zone ≡ 1 + i) ⊎ (zone ≡ 10 + i) → tableRow zone ≡ some (rowAt i)
+  zone-row zone w = ⊎-elim (λ e. ap tableRow e ∙ row-north) (λ e. ap tableRow e ∙ row-south) w
 
 pub neither : (n s zone : ℕ) → ((zone ≡ n) ⊎ (zone ≡ s) → ⊥) → eqb zone n || eqb zone s ≡ false
 neither n s zone f = rw (ne-eqb zone n (λ e. f (inl e)), ne-eqb zone s (λ e. f (inr e)))

@@ -9,7 +9,7 @@
 --     rowsOf S           what `b_constant` answers: refusal 1
 --     spacingOf S zone   what `spacing` answers: refusals 1, 2
 use mathlib.Core.Path.{_≡_}
-use mathlib.Core.Bool.{Bool, cond, _&&_}
+use mathlib.Core.Bool.{Bool, true, cond, _&&_}
 use mathlib.Core.List.{[], _∷_}
 use mathlib.Core.Option.{Option, some, none}
 use Prim.Native.Nat.{ℕ, _+_, _*_, _/_, _≤_, _<_}
@@ -70,10 +70,6 @@ spacingTold p = record { number = p .number; place = p .at; values = pos (p .a) 
 
 -- ---- what a spacing is held to, for every unit and scale: proved in proofs/Spaced.antt
 
-pub record Scale (s : ℕ) : Type 0 where
-  pub least : 5000 ≤ s
-  pub most : s ≤ 20000000
-
 pub record SpacingUnit (u : ℕ) : Type 0 where
   pub least : 1 ≤ u
   pub most : u ≤ 782
@@ -101,12 +97,12 @@ abbrev pub GridsIs : Type 0
 GridsIs = (s zone a b : ℕ) → spacingOf s zone ≡ SpacingAnswer.Constants a b → Grids a b
 
 abbrev pub SpacingIs : Type 0
-SpacingIs = (u s : ℕ) → SpacingUnit u → Scale s → Spaced u s (spacingAt u s)
+SpacingIs = (u s : ℕ) → SpacingUnit u → isScale s ≡ true → Spaced u s (spacingAt u s)
 
 -- a larger S never has more pixels
 abbrev pub SpacingFalls : Type 0
-SpacingFalls = (u s t : ℕ) → SpacingUnit u → Scale s → Scale t → s ≤ t → spacingAt u t ≤ spacingAt u s
+SpacingFalls = (u s t : ℕ) → SpacingUnit u → isScale s ≡ true → isScale t ≡ true → s ≤ t → spacingAt u t ≤ spacingAt u s
 
 -- B is at least 20,480
 abbrev pub RowsAtLeast : Type 0
-RowsAtLeast = (s : ℕ) → Scale s → 20480 ≤ spacingAt rowUnit s
+RowsAtLeast = (s : ℕ) → isScale s ≡ true → 20480 ≤ spacingAt rowUnit s

@@ -13,8 +13,10 @@ pub use limits::poleward;
 pub use parts::ConstantParts;
 pub use parts::SpacingParts;
 pub use units::Circle;
+pub use units::Overlap;
 pub use units::Scales;
 pub use units::Tile;
+pub use units::is_polar;
 pub use units::is_scale;
 pub use zone::Meridian;
 pub use zone::Zone1;
@@ -73,12 +75,11 @@ pub fn b_constant(scale: u64) -> ConstantAnswer
 pub fn spacing(scale: u64, zone: u64) -> SpacingAnswer
     ensures { λ r. ⌜ r ≡ spacingOf scale zone ⌝ }
 {
-    if !is_scale(scale) {
-        return SpacingAnswer::Refused(refused(1));
-    }
-    let b = zone::rows(scale);
-    match zone::columns(scale, zone) {
-        ConstantAnswer::Pixels(a) => SpacingAnswer::Constants { a, b },
+    match b_constant(scale) {
+        ConstantAnswer::Pixels(b) => match zone::columns(scale, zone) {
+            ConstantAnswer::Pixels(a) => SpacingAnswer::Constants { a, b },
+            ConstantAnswer::Refused(r) => SpacingAnswer::Refused(r),
+        },
         ConstantAnswer::Refused(r) => SpacingAnswer::Refused(r),
     }
 }

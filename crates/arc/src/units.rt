@@ -1,6 +1,7 @@
 // Constants of the whole system.
 ghost use mathlib.Core.Path.{_≡_};
 ghost use Rattle.arc.specs.Spacing.{isScale};
+ghost use Rattle.arc.specs.Zones.{isPolar};
 
 // The circle, in hundredths of an arc-second (01, "Units and the zone table").
 pub struct Circle;
@@ -13,6 +14,11 @@ impl Circle {
     pub const QUARTER: u64 = 32_400_000;
 
     pub const DEGREE: u64 = 360_000;
+
+    // The limits of a latitude and a longitude on either side, as `whole::count_from` takes them.
+    pub const LATITUDE: u32 = Self::QUARTER as u32;
+
+    pub const LONGITUDE: u32 = Self::HALF as u32;
 }
 
 // A tile (01, "Tiles").
@@ -22,6 +28,17 @@ impl Tile {
     pub const SIDE: u64 = 128;
 
     pub const BYTES: u64 = 49_152;
+
+    // 128 × H: a tile's side in hundredths of an arc-second, times A or B.
+    pub const ANGLE: u64 = Self::SIDE * Circle::H;
+}
+
+// The overlap of a zone poleward: 1024 rows (001, 3.3.3).
+pub struct Overlap;
+
+impl Overlap {
+    // 1024 × H: the overlap in hundredths of an arc-second, times B.
+    pub const ANGLE: u64 = 1024 * Circle::H;
 }
 
 // The scales served: 1:LEAST to 1:MOST.
@@ -38,4 +55,11 @@ pub fn is_scale(scale: u64) -> bool
     ensures { λ r. ⌜ r ≡ isScale scale ⌝ }
 {
     (Scales::LEAST <= scale) & (scale <= Scales::MOST)
+}
+
+// Zone 9 or 18 (01, "Units and the zone table").
+pub fn is_polar(zone: u64) -> bool
+    ensures { λ r. ⌜ r ≡ isPolar zone ⌝ }
+{
+    (zone == 9) | (zone == 18)
 }

@@ -3,8 +3,9 @@ use crate::Circle;
 use crate::ConstantAnswer;
 use crate::refused;
 ghost use mathlib.Core.Path.{_≡_};
+ghost use mathlib.Core.Bool.{true};
 ghost use Prim.Native.Nat.{_≤_};
-ghost use Rattle.arc.specs.Spacing.{spacingAt, rowUnit, columnsOf, Scale};
+ghost use Rattle.arc.specs.Spacing.{isScale, spacingAt, rowUnit, columnsOf};
 
 // B, the same in every zone (001, Table 3-3).
 pub struct Meridian;
@@ -13,7 +14,7 @@ impl Meridian {
     pub const UNIT: u64 = 782;
 
     fn spacing(scale: u64) -> u64
-        requires { ⌜ Scale scale ⌝ }
+        requires { ⌜ isScale scale ≡ true ⌝ }
         ensures { λ r. ⌜ r ≡ spacingAt rowUnit scale ⌝ }
     {
         spacing_of(Self::UNIT, scale)
@@ -31,7 +32,7 @@ impl Zone1 {
     pub const UNIT: u64 = 722;
 
     fn spacing(scale: u64) -> u64
-        requires { ⌜ Scale scale ⌝ }
+        requires { ⌜ isScale scale ≡ true ⌝ }
         ensures { λ r. ⌜ r ≡ spacingAt 722 scale ⌝ }
     {
         spacing_of(Self::UNIT, scale)
@@ -49,7 +50,7 @@ impl Zone2 {
     pub const UNIT: u64 = 591;
 
     fn spacing(scale: u64) -> u64
-        requires { ⌜ Scale scale ⌝ }
+        requires { ⌜ isScale scale ≡ true ⌝ }
         ensures { λ r. ⌜ r ≡ spacingAt 591 scale ⌝ }
     {
         spacing_of(Self::UNIT, scale)
@@ -67,7 +68,7 @@ impl Zone3 {
     pub const UNIT: u64 = 480;
 
     fn spacing(scale: u64) -> u64
-        requires { ⌜ Scale scale ⌝ }
+        requires { ⌜ isScale scale ≡ true ⌝ }
         ensures { λ r. ⌜ r ≡ spacingAt 480 scale ⌝ }
     {
         spacing_of(Self::UNIT, scale)
@@ -85,7 +86,7 @@ impl Zone4 {
     pub const UNIT: u64 = 389;
 
     fn spacing(scale: u64) -> u64
-        requires { ⌜ Scale scale ⌝ }
+        requires { ⌜ isScale scale ≡ true ⌝ }
         ensures { λ r. ⌜ r ≡ spacingAt 389 scale ⌝ }
     {
         spacing_of(Self::UNIT, scale)
@@ -103,7 +104,7 @@ impl Zone5 {
     pub const UNIT: u64 = 319;
 
     fn spacing(scale: u64) -> u64
-        requires { ⌜ Scale scale ⌝ }
+        requires { ⌜ isScale scale ≡ true ⌝ }
         ensures { λ r. ⌜ r ≡ spacingAt 319 scale ⌝ }
     {
         spacing_of(Self::UNIT, scale)
@@ -121,7 +122,7 @@ impl Zone6 {
     pub const UNIT: u64 = 268;
 
     fn spacing(scale: u64) -> u64
-        requires { ⌜ Scale scale ⌝ }
+        requires { ⌜ isScale scale ≡ true ⌝ }
         ensures { λ r. ⌜ r ≡ spacingAt 268 scale ⌝ }
     {
         spacing_of(Self::UNIT, scale)
@@ -139,7 +140,7 @@ impl Zone7 {
     pub const UNIT: u64 = 215;
 
     fn spacing(scale: u64) -> u64
-        requires { ⌜ Scale scale ⌝ }
+        requires { ⌜ isScale scale ≡ true ⌝ }
         ensures { λ r. ⌜ r ≡ spacingAt 215 scale ⌝ }
     {
         spacing_of(Self::UNIT, scale)
@@ -157,7 +158,7 @@ impl Zone8 {
     pub const UNIT: u64 = 161;
 
     fn spacing(scale: u64) -> u64
-        requires { ⌜ Scale scale ⌝ }
+        requires { ⌜ isScale scale ≡ true ⌝ }
         ensures { λ r. ⌜ r ≡ spacingAt 161 scale ⌝ }
     {
         spacing_of(Self::UNIT, scale)
@@ -175,7 +176,7 @@ impl Zone9 {
     pub const UNIT: u64 = 782;
 
     fn spacing(scale: u64) -> u64
-        requires { ⌜ Scale scale ⌝ }
+        requires { ⌜ isScale scale ≡ true ⌝ }
         ensures { λ r. ⌜ r ≡ spacingAt 782 scale ⌝ }
     {
         spacing_of(Self::UNIT, scale)
@@ -184,7 +185,7 @@ impl Zone9 {
 
 // 512 times the smallest whole number not below unit × 1,000,000 / scale (001, 3.4.6).
 fn spacing_of(unit: u64, scale: u64) -> u64
-    requires { ⌜ Scale scale ⌝ ∗ ⌜ unit ≤ 782 ⌝ }
+    requires { ⌜ isScale scale ≡ true ⌝ ∗ ⌜ unit ≤ 782 ⌝ }
     ensures { λ r. ⌜ r ≡ spacingAt unit scale ⌝ }
 {
     512 * ((unit * 1_000_000 + (scale - 1)) / scale)
@@ -192,7 +193,7 @@ fn spacing_of(unit: u64, scale: u64) -> u64
 
 // A of a zone. Refuses 2.
 pub fn columns(scale: u64, zone: u64) -> ConstantAnswer
-    requires { ⌜ Scale scale ⌝ }
+    requires { ⌜ isScale scale ≡ true ⌝ }
     ensures { λ r. ⌜ r ≡ columnsOf scale zone ⌝ }
 {
     match zone {
@@ -211,7 +212,7 @@ pub fn columns(scale: u64, zone: u64) -> ConstantAnswer
 
 // B.
 pub fn rows(scale: u64) -> u64
-    requires { ⌜ Scale scale ⌝ }
+    requires { ⌜ isScale scale ≡ true ⌝ }
     ensures { λ r. ⌜ r ≡ spacingAt rowUnit scale ⌝ }
 {
     Meridian::spacing(scale)

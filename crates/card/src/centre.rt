@@ -17,7 +17,7 @@ fn short_way(east: u64, centre: u64) -> i64
 {
     whole::difference(
         ((east + 194_400_000 - centre) % Circle::H) as u32,
-        64_800_000,
+        Circle::LONGITUDE,
     )
 }
 

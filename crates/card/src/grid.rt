@@ -109,7 +109,7 @@ impl Card {
     {
         whole::difference(
             nearest((self.north - row) * Circle::H, self.b) as u32,
-            32_400_000,
+            Circle::LATITUDE,
         )
     }
 
@@ -119,7 +119,7 @@ impl Card {
         ensures { λ r. ⌜ r ≡ longitudeOf self (pos column) ⌝ }
     {
         let east = nearest((self.east + column) * Circle::H, self.a) % Circle::H;
-        whole::difference(east as u32, 64_800_000)
+        whole::difference(east as u32, Circle::LONGITUDE)
     }
 
     // The row at a latitude counted from the South Pole, before the bounds are looked at (001, 3.4.4).

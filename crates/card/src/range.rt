@@ -1,4 +1,5 @@
 // Positions in range, counted in naturals (01, "Numbers given in refusal").
+use arc::Circle;
 use arc::Refusal;
 use whole::Counted;
 ghost use mathlib.Core.Path.{_≡_};
@@ -44,10 +45,10 @@ impl Ranged {
 pub fn count_position(lat: i64, lon: i64) -> Ranged
     ensures { λ r. ⌜ r ≡ rangedOf lat lon ⌝ }
 {
-    let Counted::From(north) = whole::count_from(lat, 32_400_000) else {
+    let Counted::From(north) = whole::count_from(lat, Circle::LATITUDE) else {
         return Ranged::Refused(arc::refused(4));
     };
-    let Counted::From(east) = whole::count_from(lon, 64_800_000) else {
+    let Counted::From(east) = whole::count_from(lon, Circle::LONGITUDE) else {
         return Ranged::Refused(arc::refused(5));
     };
     Ranged::At { north, east }

@@ -29,15 +29,12 @@ pub enum OriginAnswer {
     Refused(Refusal),
 }
 
-// 128 × H: a tile in hundredths of an arc-second, times the pixels of the circle.
-const TILE_ANGLE: u64 = Tile::SIDE * Circle::H;
-
 // The nearest hundredth to 128 × tiles × H / spacing, both counted from the South Pole or from 180° west.
 fn stored_at(tiles: u64, spacing: u64) -> u64
     requires { ⌜ Grid spacing ⌝ ∗ ⌜ 128 * tiles ≤ spacing ⌝ }
     ensures { λ r. ⌜ r ≡ near (tiles * 16588800000) spacing ⌝ }
 {
-    (2 * (tiles * TILE_ANGLE) + spacing) / (2 * spacing)
+    (2 * (tiles * Tile::ANGLE) + spacing) / (2 * spacing)
 }
 
 // The origin of a point north of the South Pole and east of 180° west by these angles.
@@ -45,15 +42,15 @@ fn origin_at(a: u64, b: u64, north: u64, east: u64) -> Origin
     requires { ⌜ Grid a ⌝ ∗ ⌜ Grid b ⌝ ∗ ⌜ north ≤ 64800000 ⌝ ∗ ⌜ east ≤ 129600000 ⌝ }
     ensures { λ r. ⌜ r ≡ originOf a b (pos north -ℤ pos 32400000) (pos east -ℤ pos 64800000) ⌝ }
 {
-    let rows = (north * b + (TILE_ANGLE - 1)) / TILE_ANGLE;
-    let columns = east * a / TILE_ANGLE;
+    let rows = (north * b + (Tile::ANGLE - 1)) / Tile::ANGLE;
+    let columns = east * a / Tile::ANGLE;
     let pso = stored_at(rows, b);
     let lso = stored_at(columns, a);
     Origin {
         n: whole::difference(rows as u32, (b / 512) as u32),
         m: whole::difference(columns as u32, (a / 256) as u32),
-        pso: whole::difference(pso as u32, 32_400_000),
-        lso: whole::difference(lso as u32, 64_800_000),
+        pso: whole::difference(pso as u32, Circle::LATITUDE),
+        lso: whole::difference(lso as u32, Circle::LONGITUDE),
     }
 }
 
@@ -65,10 +62,10 @@ fn align_in(a: u64, b: u64, zone: u64, lat: i64, lon: i64) -> OriginAnswer
     if (zone == 9) | (zone == 18) {
         return OriginAnswer::Refused(arc::refused(3));
     }
-    let Counted::From(north) = whole::count_from(lat, 32_400_000) else {
+    let Counted::From(north) = whole::count_from(lat, Circle::LATITUDE) else {
         return OriginAnswer::Refused(arc::refused(4));
     };
-    let Counted::From(east) = whole::count_from(lon, 64_800_000) else {
+    let Counted::From(east) = whole::count_from(lon, Circle::LONGITUDE) else {
         return OriginAnswer::Refused(arc::refused(5));
     };
     OriginAnswer::Aligned(origin_at(a, b, north, east))

@@ -1,7 +1,7 @@
 -- A zone and a rectangle by sizes of latitude: on the zone's side of the Equator the rectangle is a stretch of sizes, low to high, and the
 -- zone covers some latitude of it where its row starts no farther than high and reaches low. Assumes nothing.
 use mathlib.Core.Path.{_≡_, refl, sym, ap, _∙_}
-use mathlib.Core.Bool.{Bool, true, false, _&&_, _||_}
+use mathlib.Core.Bool.{Bool, true, false, _&&_, _||_, and-eq-true-iff}
 use Prim.Native.Nat.{ℕ, zero, suc, _+_, _-_, _*_, _≤_, _<_}
 use native.Mathlib.Nat.{mul-le-mul-right}
 use native.Mathlib.Omega.{arith}
@@ -11,11 +11,10 @@ use lib.IntN.{ℤ, pos, negsuc, _-ℤ_}
 use lib.Signed.{_≤ℤ_}
 use Rattle.whole.proofs.Signed.{is-nat, is-difference, is-le, le-is}
 use Rattle.arc.specs.Zones.{circle, quarter, isPolar, Row, from, to, rowAt}
-use Rattle.zones.specs.Basic.{holds}
+use Rattle.zones.specs.Basic.{holdsSize}
 use Rattle.zones.specs.Cover.{overlaps, coversIn, covers}
 use Rattle.zones.specs.Steps.{reaches}
-use Rattle.zones.proofs.Holding.{both}
-use Rattle.zones.proofs.Rows.{from-to, northern-at, southern-at, row-north, row-south, to-least}
+use Rattle.arc.proofs.Table.{from-to, northern-at, southern-at, row-north, row-south, to-least}
 use Rattle.zones.proofs.Covering.{covers-is}
 use Rattle.rectangle.specs.Rectangle.{coversSome, Covered}
 use Rattle.rectangle.specs.Steps.{meets}
@@ -57,7 +56,7 @@ module _ (b j : ℕ) (h : j < 9) where
       → (s : ℕ) × (e ≤ s) × (low ≤ s) × (s ≤ high) × In b j s
   unfolding meets
   met e low high e1 eh lh t =
-      let w = both (leb (from (rowAt j)) high) (reaches b (rowAt j) low) t in
+      let w = and-eq-true-iff (leb (from (rowAt j)) high) (reaches b (rowAt j) low) .0 t in
       go (ltb low (from (rowAt j))) refl (leb-true (from (rowAt j)) high (w .0)) (w .1)
     where
       near : (s : ℕ) → from (rowAt j) ≤ s → reaches b (rowAt j) s ≡ true → In b j s
@@ -91,7 +90,7 @@ module _ (b j : ℕ) (h : j < 9) where
   unmet : (low high s : ℕ) → low ≤ s → s ≤ high → In b j s → meets b (rowAt j) low high ≡ true
   unfolding meets
   unmet low high s l k t =
-      let w = both (leb (from (rowAt j)) s) (reaches b (rowAt j) s) t in
+      let w = and-eq-true-iff (leb (from (rowAt j)) s) (reaches b (rowAt j) s) .0 t in
       rw (le-leb (from (rowAt j)) high (omega (arith, leb-true (from (rowAt j)) s (w .0))), nearer low s l (w .1))
 
   -- a latitude on the zone's side, and on the other
@@ -105,7 +104,7 @@ module _ (b j : ℕ) (h : j < 9) where
   unfolding covers
   not-north n =
       ap (coversIn b (negsuc n) (1 + j)) (row-north j h)
-      ∙ ap (λ (t : Bool). t && (holds (rowAt j) (suc n) || overlaps b (rowAt j) (suc n)))
+      ∙ ap (λ (t : Bool). t && (holdsSize (rowAt j) (suc n) || overlaps b (rowAt j) (suc n)))
       (ne-eqb (1 + j) (rowAt j .southern) (λ e. omega (arith, southern-at j h)))
 
   not-south : (s : ℕ) → covers b (pos s) (10 + j) ≡ false
@@ -113,7 +112,7 @@ module _ (b j : ℕ) (h : j < 9) where
   not-south s =
       ap (coversIn b (pos s) (10 + j)) (row-south j h)
       ∙ rw (le-ltb s 0 (omega arith))
-      (ap (λ (t : Bool). t && (holds (rowAt j) s || overlaps b (rowAt j) s))
+      (ap (λ (t : Bool). t && (holdsSize (rowAt j) s || overlaps b (rowAt j) s))
       (ne-eqb (10 + j) (rowAt j .northern) (λ e. omega (arith, northern-at j h))))
 
   -- the rectangle, its edges counted from the South Pole

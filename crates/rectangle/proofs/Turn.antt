@@ -8,7 +8,7 @@ use lib.ListN.{replicate, set}
 use lib.IntN.{pos, _-ℤ_}
 use Rattle.arc.specs.Zones.{quarter}
 use Rattle.whole.specs.Lists.{upFrom}
-use Rattle.zones.proofs.Filled.{Sofar, taken, passed}
+use Rattle.whole.proofs.Lists.{Sofar, taken, passed}
 use Rattle.rectangle.specs.Rectangle.{coversSome, rectangleZones}
 
 module _ (b S N : ℕ) where

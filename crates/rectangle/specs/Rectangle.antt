@@ -13,7 +13,7 @@ use Rattle.whole.specs.Whole.{outside}
 use Rattle.arc.specs.declared.Refusal.{Refusal}
 use Rattle.arc.specs.declared.Verdict.{Verdict}
 use Rattle.arc.specs.declared.ConstantAnswer.{ConstantAnswer}
-use Rattle.arc.specs.Refusals.{refusal, Report, reportIn}
+use Rattle.arc.specs.Refusals.{refusal}
 use Rattle.arc.specs.Zones.{quarter}
 use Rattle.arc.specs.Spacing.{rowsOf}
 use Rattle.rectangle.specs.declared.RectangleAnswer.{RectangleAnswer}
@@ -48,10 +48,6 @@ rectangleWith (ConstantAnswer.Refused r) south north = refusedRectangle r
 -- 1, south 4, north 4, 16
 abbrev pub rectangleOf : ℕ → ℤ → ℤ → RectangleAnswer
 rectangleOf s south north = rectangleWith (rowsOf s) south north
-
--- the paper's number, place and values: the length and the eighteen slots
-abbrev pub rectangleReport : RectangleAnswer → Report
-rectangleReport r = reportIn (r .verdict) (r .length) (r .zones)
 
 -- ---- what "covers some latitude in it" is held to: proved in proofs/Some.antt
 

@@ -5,7 +5,7 @@
 use Prim.Native.Nat.{ℕ, _≤_}
 use mathlib.Core.Bool.{Bool, _&&_}
 use lib.Dec.{leb}
-use Rattle.arc.specs.Zones.{Row, from}
+use Rattle.arc.specs.Zones.{half, Row, from}
 use Rattle.zones.specs.Steps.{reaches, Rows}
 
 unfoldable pub meets : ℕ → Row → ℕ → ℕ → Bool
@@ -17,4 +17,4 @@ pub record Sides (b zone south north : ℕ) : Type 0 where
   pub some-zone : 1 ≤ zone
   pub last-zone : zone ≤ 18
   pub order : south ≤ north
-  pub pole : north ≤ 64800000
+  pub pole : north ≤ half

@@ -1,13 +1,14 @@
 // The zones that cover some latitude of a rectangle (001, 3.3.3).
 use arc::Circle;
 use arc::ConstantAnswer;
+use arc::Overlap;
 use arc::Refusal;
 use arc::Verdict;
 use whole::Counted;
 ghost use mathlib.Core.Path.{_≡_};
 ghost use Prim.Native.Nat.{_-_, _<_, _≤_};
 ghost use lib.IntN.{pos, _-ℤ_};
-ghost use Rattle.arc.specs.Zones.{quarter, rowAt};
+ghost use Rattle.arc.specs.Zones.{half, quarter, rowAt};
 ghost use Rattle.zones.specs.Steps.{Rows};
 ghost use Rattle.rectangle.specs.Rectangle.{coversSome, rectangleZones, acceptedRectangle, refusedRectangle, rectangleAt, rectangleOf};
 ghost use Rattle.rectangle.specs.Steps.{meets, Sides};
@@ -18,9 +19,6 @@ pub struct RectangleAnswer {
     pub length: u64,
     pub zones: [u64; 18],
 }
-
-// 1024 × H: 1024 rows of overlap, times B (001, 3.3.3).
-const OVERLAP: u64 = 1024 * Circle::H;
 
 // A refusal of a rectangle, its slots 0.
 fn no_rectangle(r: Refusal) -> RectangleAnswer
@@ -45,7 +43,7 @@ fn less(a: u64, b: u64) -> u64
 
 // Whether a row covers some size of latitude from low to high.
 fn row_meets(b: u64, row: u64, low: u64, high: u64) -> bool
-    requires { ⌜ Rows b ⌝ ∗ ⌜ row < 9 ⌝ ∗ ⌜ low ≤ 64800000 ⌝ }
+    requires { ⌜ Rows b ⌝ ∗ ⌜ row < 9 ⌝ ∗ ⌜ low ≤ half ⌝ }
     ensures { λ r. ⌜ r ≡ meets b (rowAt row) low high ⌝ }
 {
     let from = arc::equatorward(row);
@@ -56,7 +54,7 @@ fn row_meets(b: u64, row: u64, low: u64, high: u64) -> bool
     if (low < to) | (row == 8) {
         return true;
     }
-    less(low, to) * b < OVERLAP
+    less(low, to) * b < Overlap::ANGLE
 }
 
 // Whether a zone covers some latitude of a rectangle whose edges are counted from the South Pole.
@@ -88,7 +86,7 @@ fn covers_some(b: u64, zone: u64, south: u64, north: u64) -> bool
 
 // The list, the edges counted from the South Pole.
 fn zones_of(b: u64, south: u64, north: u64) -> RectangleAnswer
-    requires { ⌜ Rows b ⌝ ∗ ⌜ south ≤ north ⌝ ∗ ⌜ north ≤ 64800000 ⌝ }
+    requires { ⌜ Rows b ⌝ ∗ ⌜ south ≤ north ⌝ ∗ ⌜ north ≤ half ⌝ }
     ensures { λ a. ⌜ a ≡ acceptedRectangle (rectangleZones b (pos south -ℤ pos quarter) (pos north -ℤ pos quarter)) ⌝ }
 {
     let mut zones = [0u64; 18];
@@ -113,10 +111,10 @@ fn rectangle_at(b: u64, south: i64, north: i64) -> RectangleAnswer
     requires { ⌜ Rows b ⌝ }
     ensures { λ r. ⌜ r ≡ rectangleAt b south north ⌝ }
 {
-    let Counted::From(s) = whole::count_from(south, 32_400_000) else {
+    let Counted::From(s) = whole::count_from(south, Circle::LATITUDE) else {
         return no_rectangle(arc::refused(4));
     };
-    let Counted::From(n) = whole::count_from(north, 32_400_000) else {
+    let Counted::From(n) = whole::count_from(north, Circle::LATITUDE) else {
         return no_rectangle(arc::refused(4));
     };
     if n < s {

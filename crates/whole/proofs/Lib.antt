@@ -3,3 +3,4 @@ pub mod Near
 pub mod Held
 pub mod Machine
 pub mod Counts
+pub mod Lists

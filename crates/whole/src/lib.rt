@@ -1,7 +1,7 @@
-// Signed numbers at the edge of unsigned arithmetic. Every function answers for every number of its parameters' types.
+// Signed numbers at the edge of unsigned arithmetic, and the nearest whole number. Every function answers for every number of its parameters' types.
 ghost use mathlib.Core.Path.{_≡_};
 ghost use lib.IntN.{pos, natAbs, _-ℤ_};
-ghost use Rattle.whole.specs.Whole.{countedBy};
+ghost use Rattle.whole.specs.Whole.{near, countedBy};
 
 // A whole number counted from −limit.
 pub enum Counted {
@@ -24,6 +24,21 @@ pub fn difference(a: u32, b: u32) -> i64
     ensures { λ r. ⌜ r ≡ pos a -ℤ pos b ⌝ }
 {
     (a as i64) - (b as i64)
+}
+
+// The nearest whole number to x / d, a half going up; 0 where d is 0.
+pub fn nearest(x: u64, d: u64) -> u64
+    ensures { λ r. ⌜ r ≡ near x d ⌝ }
+{
+    if d == 0 {
+        return 0;
+    }
+    let floor = x / d;
+    let rest = x % d;
+    if rest < d - rest {
+        return floor;
+    }
+    floor + 1
 }
 
 // z counted from −limit, unless it is outside −limit to limit.

@@ -16,10 +16,11 @@ use Rattle.arc.specs.Spacing.{rowsOf, rowUnit}
 use Rattle.arc.proofs.Spaced.{grid, rows-least}
 use Rattle.arc.proofs.Answered.{rows-from}
 use Rattle.whole.specs.Lists.{those, downFrom}
-use Rattle.zones.specs.Basic.{holds, zoneOn, basicZone}
+use Rattle.zones.specs.Basic.{holdsSize, zoneOn, basicZone}
 use Rattle.zones.specs.Cover.{overlaps, coversIn, covers, firstZone, coverZones}
 use Rattle.zones.specs.Steps.{reaches, coverFrom, Rows}
-use Rattle.zones.proofs.Rows.{northern-at, southern-at, row-north, row-south, polar-at, last-at, from-to, place, is-place}
+use Rattle.arc.proofs.Table.{northern-at, southern-at, row-north, row-south, polar-at, last-at, from-to}
+use Rattle.zones.proofs.Rows.{place, is-place}
 use Rattle.zones.proofs.Order.{within, to-from}
 
 pub leb-ltb : (m n : ℕ) → leb m n ≡ not (ltb n m)
@@ -41,7 +42,7 @@ also false false p x h = let z : _≡_ {A = ℕ} 0 1 = let b : false ≡ true = 
 
 module _ (b j : ℕ) (h : j < 9) where
   -- a row and a size
-  pub row-covers : (size : ℕ) → holds (rowAt j) size || overlaps b (rowAt j) size ≡ leb (from (rowAt j)) size && reaches b (rowAt j) size
+  pub row-covers : (size : ℕ) → holdsSize (rowAt j) size || overlaps b (rowAt j) size ≡ leb (from (rowAt j)) size && reaches b (rowAt j) size
   row-covers size =
       let r = rowAt j in
       rw (last-at j h, polar-at j h, leb-ltb (to r) size)
@@ -68,7 +69,7 @@ module _ (b j : ℕ) (h : j < 9) where
     unfolding covers
     covers-is =
         ap (coversIn b lat (firstZone lat + j)) row-of
-        ∙ ap (λ (t : Bool). t && (holds (rowAt j) (natAbs lat) || overlaps b (rowAt j) (natAbs lat)))
+        ∙ ap (λ (t : Bool). t && (holdsSize (rowAt j) (natAbs lat) || overlaps b (rowAt j) (natAbs lat)))
         (eq-eqb (firstZone lat + j) (zoneOn lat (rowAt j)) (sym zone-on))
         ∙ row-covers (natAbs lat)
 

@@ -1,7 +1,7 @@
 -- The row that holds a size, found by poleward limits alone: in a table whose rows follow one another up to 90°, the first
 -- row that holds a size is the first whose poleward limit lies beyond it. Assumes nothing.
 use mathlib.Core.Path.{_≡_, refl}
-use mathlib.Core.Bool.{Bool, true, false, cond, not, _&&_, _||_}
+use mathlib.Core.Bool.{Bool, true, false, cond, not, _&&_, _||_, and-eq-true-iff}
 use mathlib.Core.List.{List, [], _∷_}
 use mathlib.Core.Logic.{_⊎_, inl, inr, ⊎-map}
 use Prim.Native.Nat.{ℕ, suc, _+_, _*_, _≤_, _<_}
@@ -24,10 +24,6 @@ linked e [] = false
 linked e (r ∷ []) = eqb (r .equatorward) e && eqb (r .poleward) 90
 linked e (r ∷ q ∷ rs) = eqb (r .equatorward) e && (not (eqb (r .poleward) 90) && linked (r .poleward) (q ∷ rs))
 
-pub both : (x y : Bool) → x && y ≡ true → (x ≡ true) × (y ≡ true)
-both true y e = (refl, e)
-both false y e = let z : _≡_ {A = ℕ} 0 1 = cc in absurd (omega arith)
-
 -- where the row stands, and its limits
 pub record Held (rs : List Row) (size : ℕ) : Type 0 where
   pub at : ℕ
@@ -44,15 +40,15 @@ module _ (size : ℕ) where
   unfolding firstHolding
   holding [] e l h = refl
   holding (r ∷ []) e l h =
-      let p = both (eqb (r .equatorward) e) (eqb (r .poleward) 90) l in
+      let p = and-eq-true-iff (eqb (r .equatorward) e) (eqb (r .poleward) 90) .0 l in
       rw (le-leb (from r) size (starts r e (p .0) h), p .1) (go (ltb size (to r)))
     where
       go : (t : Bool) → cond (t || true) r noRow ≡ r
       go true = refl
       go false = refl
   holding (r ∷ q ∷ rs) e l h =
-      let p = both (eqb (r .equatorward) e) (not (eqb (r .poleward) 90) && linked (r .poleward) (q ∷ rs)) l in
-      let m = both (not (eqb (r .poleward) 90)) (linked (r .poleward) (q ∷ rs)) (p .1) in
+      let p = and-eq-true-iff (eqb (r .equatorward) e) (not (eqb (r .poleward) 90) && linked (r .poleward) (q ∷ rs)) .0 l in
+      let m = and-eq-true-iff (not (eqb (r .poleward) 90)) (linked (r .poleward) (q ∷ rs)) .0 (p .1) in
       rw (le-leb (from r) size (starts r e (p .0) h), not-true (eqb (r .poleward) 90) (m .0))
       (go (ltb size (to r)) refl (λ k. holding (q ∷ rs) (r .poleward) (m .1) k))
     where
@@ -64,16 +60,16 @@ module _ (size : ℕ) where
   pub held : (rs : List Row) (e : ℕ) → linked e rs ≡ true → e * degree ≤ size → Held rs size
   held [] e l h = let z : _≡_ {A = ℕ} 0 1 = cc in absurd (omega arith)
   held (r ∷ []) e l h =
-      let p = both (eqb (r .equatorward) e) (eqb (r .poleward) 90) l in
+      let p = and-eq-true-iff (eqb (r .equatorward) e) (eqb (r .poleward) 90) .0 l in
       record { at = 0; in-list = omega arith; is = refl; low = starts r e (p .0) h; high = inr refl }
   held (r ∷ q ∷ rs) e l h =
-      let p = both (eqb (r .equatorward) e) (not (eqb (r .poleward) 90) && linked (r .poleward) (q ∷ rs)) l in
-      let m = both (not (eqb (r .poleward) 90)) (linked (r .poleward) (q ∷ rs)) (p .1) in
+      let p = and-eq-true-iff (eqb (r .equatorward) e) (not (eqb (r .poleward) 90) && linked (r .poleward) (q ∷ rs)) .0 l in
+      let m = and-eq-true-iff (not (eqb (r .poleward) 90)) (linked (r .poleward) (q ∷ rs)) .0 (p .1) in
       go (ltb size (to r)) refl (λ k. held (q ∷ rs) (r .poleward) (m .1) k)
     where
       go : (t : Bool) → ltb size (to r) ≡ t → (to r ≤ size → Held (q ∷ rs) size) → Held (r ∷ q ∷ rs) size
       go true x f =
-          let p = both (eqb (r .equatorward) e) (not (eqb (r .poleward) 90) && linked (r .poleward) (q ∷ rs)) l in
+          let p = and-eq-true-iff (eqb (r .equatorward) e) (not (eqb (r .poleward) 90) && linked (r .poleward) (q ∷ rs)) .0 l in
           record { at = 0; in-list = omega arith; is = rw x; low = starts r e (p .0) h; high = inl (ltb-true size (to r) x) }
       go false x f =
           let w = f (ltb-false size (to r) x) in

@@ -13,8 +13,8 @@ use lib.Seq.{getD-take}
 use Rattle.arc.specs.Zones.{circle, table, from, to, rowAt, noRow}
 use Rattle.whole.specs.Lists.{those, downFrom}
 use Rattle.zones.specs.Steps.{reaches, coverFrom, Rowed}
-use Rattle.zones.proofs.Rows.{agree, from-to, polar-at}
-use Rattle.zones.proofs.Filled.{Sofar, taken}
+use Rattle.whole.proofs.Lists.{agree, Sofar, taken}
+use Rattle.arc.proofs.Table.{from-to, polar-at}
 
 pub next-from : (i : ℕ) → i < 8 → from (rowAt (suc i)) ≡ to (rowAt i)
 next-from i h = sym (agree to from (take 8 table) (drop 1 table) noRow noRow refl i h) ∙ ap to (getD-take 8 table i noRow h)

@@ -1,5 +1,5 @@
 -- The basic zone of a latitude (001, 3.3.3; 01, "Units and the zone table"). Definitions only.
---     holds r size       a latitude of that size lies between the row's limits
+--     holdsSize r size   a latitude of that size lies between the row's limits
 --     rowHolding size    the row that holds it
 --     zoneOn lat r       the row's zone on the latitude's side of the Equator
 --     basicZone lat      the basic zone
@@ -17,13 +17,13 @@ use Rattle.zones.specs.declared.ZoneAnswer.{ZoneAnswer}
 use Rattle.zones.specs.declared.parts.ZoneParts.{ZoneParts}
 
 -- a limit belongs to the poleward zone, and 90° to the polar zones
-abbrev pub holds : Row → ℕ → Bool
-holds r size = leb (from r) size && (ltb size (to r) || eqb (r .poleward) 90)
+abbrev pub holdsSize : Row → ℕ → Bool
+holdsSize r size = leb (from r) size && (ltb size (to r) || eqb (r .poleward) 90)
 
 -- the first row of a list that holds a size; no size up to 90° is left without one
 unfoldable pub firstHolding : List Row → ℕ → Row
 firstHolding [] size = noRow
-firstHolding (r ∷ rs) size = cond (holds r size) r (firstHolding rs size)
+firstHolding (r ∷ rs) size = cond (holdsSize r size) r (firstHolding rs size)
 
 abbrev pub rowHolding : ℕ → Row
 rowHolding size = firstHolding table size

@@ -6,7 +6,7 @@
 --     coverOf S lat      what `cover` answers: refusals 1, 4
 use mathlib.Core.Path.{_≡_}
 use Prim.Native.Nat.{ℕ, _-_, _*_, _≤_}
-use mathlib.Core.Bool.{Bool, false, cond, not, _&&_, _||_}
+use mathlib.Core.Bool.{Bool, true, false, cond, not, _&&_, _||_}
 use mathlib.Core.List.{List, _∷_}
 use mathlib.Core.Option.{Option, some, none}
 use lib.Dec.{leb, ltb, eqb}
@@ -19,10 +19,10 @@ use Rattle.arc.specs.declared.Verdict.{Verdict}
 use Rattle.arc.specs.declared.ConstantAnswer.{ConstantAnswer}
 use Rattle.arc.specs.Refusals.{refusal, Report, reportIn}
 use Rattle.arc.specs.Zones.{circle, quarter, Row, tableRow, isPolar, to}
-use Rattle.arc.specs.Spacing.{rowsOf, rowUnit, spacingAt, Scale}
+use Rattle.arc.specs.Spacing.{isScale, rowsOf, rowUnit, spacingAt}
 use Rattle.zones.specs.declared.CoverAnswer.{CoverAnswer}
 use Rattle.whole.specs.Lists.{those, downFrom, padded}
-use Rattle.zones.specs.Basic.{holds, zoneOn, basicZone}
+use Rattle.zones.specs.Basic.{holdsSize, zoneOn, basicZone}
 
 -- a non-polar zone with poleward limit P: |lat| at least P and (|lat| − P) × B < 1024 × H
 abbrev pub overlaps : ℕ → Row → ℕ → Bool
@@ -30,7 +30,7 @@ overlaps b r size = not (isPolar (r .northern)) && (leb (to r) size && ltb ((siz
 
 -- a latitude of its hemisphere, that lies in it or in its overlap
 abbrev pub coversIn : ℕ → ℤ → ℕ → Option Row → Bool
-coversIn b lat zone (some r) = eqb zone (zoneOn lat r) && (holds r (natAbs lat) || overlaps b r (natAbs lat))
+coversIn b lat zone (some r) = eqb zone (zoneOn lat r) && (holdsSize r (natAbs lat) || overlaps b r (natAbs lat))
 coversIn b lat zone none = false
 
 unfoldable pub covers : ℕ → ℤ → ℕ → Bool
@@ -73,4 +73,4 @@ coverReport c = reportIn (c .verdict) (c .length) (c .zones)
 
 -- at most six zones cover a latitude
 abbrev pub AtMostSix : Type 0
-AtMostSix = (s : ℕ) → Scale s → (lat : ℤ) → outside quarter lat ≡ false → length (coverZones (spacingAt rowUnit s) lat) ≤ 6
+AtMostSix = (s : ℕ) → isScale s ≡ true → (lat : ℤ) → outside quarter lat ≡ false → length (coverZones (spacingAt rowUnit s) lat) ≤ 6

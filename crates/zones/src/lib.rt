@@ -1,6 +1,7 @@
 // Which zone holds a latitude, and which cover it (001, 3.3.3).
 use arc::Circle;
 use arc::ConstantAnswer;
+use arc::Overlap;
 use arc::Refusal;
 use arc::Verdict;
 use arc::Zone1;
@@ -14,7 +15,7 @@ use arc::Zone8;
 use arc::Zone9;
 ghost use mathlib.Core.Path.{_≡_};
 ghost use Prim.Native.Nat.{_+_, _-_, _*_, _<_, _≤_};
-ghost use lib.IntN.{ℤ, pos, natAbs};
+ghost use Rattle.arc.specs.Zones.{quarter};
 ghost use Rattle.zones.specs.Basic.{rowHolding, basicZoneOf};
 ghost use Rattle.zones.specs.Cover.{firstZone, acceptedCover, coverAt, coverOf, refusedCover};
 ghost use Rattle.zones.specs.Steps.{coverFrom, Rows, Rowed};
@@ -38,7 +39,7 @@ pub struct CoverAnswer {
 
 // The northern zone whose limits hold a size of latitude (001, Table 3-1).
 fn northern(size: u64) -> u64
-    requires { ⌜ size ≤ 32400000 ⌝ }
+    requires { ⌜ size ≤ quarter ⌝ }
     ensures { λ r. ⌜ r ≡ rowHolding size .northern ⌝ }
 {
     if size < Zone1::POLEWARD {
@@ -83,9 +84,6 @@ pub fn basic_zone(lat: i64) -> ZoneAnswer
     ZoneAnswer::Zone(zone)
 }
 
-// 1024 × H: 1024 rows of overlap, times B (001, 3.3.3).
-const OVERLAP: u64 = 1024 * Circle::H;
-
 // A refusal of a cover, its slots 0.
 fn no_cover(r: Refusal) -> CoverAnswer
     ensures { λ a. ⌜ a ≡ refusedCover r ⌝ }
@@ -115,7 +113,7 @@ fn cover_from(b: u64, first: u64, row: usize, size: u64) -> CoverAnswer
     let mut left = row;
     while 0 < left {
         let limit = arc::poleward((left - 1) as u64);
-        if OVERLAP <= (size - limit) * b {
+        if Overlap::ANGLE <= (size - limit) * b {
             break;
         }
         left -= 1;

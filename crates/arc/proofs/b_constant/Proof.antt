@@ -2,7 +2,6 @@
 use mathlib.Core.Path.{sym, ap, _∙_}
 use borrow.Author.Tests.{not-true, not-false}
 use Rattle.arc.specs.declared.ConstantAnswer.{ConstantAnswer}
-use Rattle.arc.proofs.Spaced.{scale-in}
 use borrow.Author.Needs.{needs}
 use Rattle.arc.proofs.b_constant.Statement.{statement}
 use Rattle.arc.proofs.b_constant.Tie as tie
@@ -17,7 +16,7 @@ returns : tie.Need-returns
 returns c = rw (sym (c .before .before .is-scale .ensures) ∙ not-true _ (c .before .if1 .taken)) (ap ConstantAnswer.Refused (c .refused .ensures))
 
 rows-requires : tie.Need-rows-requires
-rows-requires c κs = scale-in (c .before .before .args .scale) (sym (c .before .is-scale .ensures) ∙ not-false _ (c .if1 .left))
+rows-requires c κs = sym (c .before .is-scale .ensures) ∙ not-false _ (c .if1 .left)
 
 returns-2 : tie.Need-returns-2
 returns-2 c = rw (sym (c .before .before .is-scale .ensures) ∙ not-false _ (c .before .if1 .left)) (ap ConstantAnswer.Pixels (c .rows .ensures))

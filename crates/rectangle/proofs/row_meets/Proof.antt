@@ -6,8 +6,8 @@ use native.Mathlib.Omega.{arith}
 use borrow.Author.Tests.{le-leb, lt-leb}
 use lib.Dec.{ltb, eqb}
 use Rattle.whole.proofs.Machine.{fits-mul}
-use Rattle.arc.specs.Zones.{isPolar, circle, rowAt, to}
-use Rattle.zones.proofs.Rows.{polar-at}
+use Rattle.arc.specs.Zones.{half, isPolar, circle, rowAt, to}
+use Rattle.arc.proofs.Table.{polar-at}
 use Rattle.rectangle.specs.Steps.{meets}
 use borrow.Author.Needs.{needs}
 use Rattle.rectangle.proofs.row_meets.Statement.{statement}
@@ -42,7 +42,7 @@ less-requires c κs = search needs
 
 mul-result : tie.Need-mul-result
 mul-result c =
-    fits-mul 64800000 80076800 tt (omega (arith, c .less .ensures, c .before .before .before .before .before .pre .1 .1))
+    fits-mul half 80076800 tt (omega (arith, c .less .ensures, c .before .before .before .before .before .pre .1 .1))
     (c .before .before .before .before .before .pre .0 .most)
 
 returns-3 : tie.Need-returns-3

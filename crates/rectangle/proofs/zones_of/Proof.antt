@@ -5,7 +5,7 @@ use mathlib.Core.Logic.{⊎-elim}
 use lib.ListN.{length as count}
 use Rattle.arc.specs.declared.Verdict.{Verdict}
 use Rattle.whole.specs.Lists.{upFrom, padded}
-use Rattle.zones.proofs.Filled.{Sofar, finished}
+use Rattle.whole.proofs.Lists.{Sofar, finished}
 use Rattle.rectangle.specs.Rectangle.{coversSome, rectangleZones, acceptedRectangle}
 use Rattle.rectangle.proofs.Turn.{begun, took, left-out}
 use Rattle.rectangle.specs.declared.RectangleAnswer.{RectangleAnswer}

@@ -7,12 +7,13 @@ use native.Mathlib.Omega.{arith}
 use borrow.Author.Needs.{needs}
 use lib.ListN.{set, length as count}
 use Rattle.whole.proofs.Machine.{fits-mul}
+use Rattle.arc.specs.Zones.{quarter}
 use Rattle.arc.specs.declared.Verdict.{Verdict}
 use Rattle.zones.specs.declared.CoverAnswer.{CoverAnswer}
 use Rattle.zones.specs.Cover.{acceptedCover}
 use Rattle.whole.specs.Lists.{padded, downFrom}
 use Rattle.zones.specs.Steps.{coverFrom}
-use Rattle.zones.proofs.Filled.{Sofar, finished}
+use Rattle.whole.proofs.Lists.{Sofar, finished}
 use Rattle.zones.proofs.Order.{within, limit-low, took, stopped}
 use Rattle.zones.proofs.cover_from.Statement.{statement}
 use Rattle.zones.proofs.cover_from.Tie as tie
@@ -47,7 +48,7 @@ sub-if1 c =
     (c .poleward .ensures)
 
 mul-if1 : tie.Need-mul-if1 Inv-loop μ-loop
-mul-if1 c = fits-mul 32400000 80076800 tt (omega (arith, c .before .before .before .pre .high)) (c .before .before .before .pre .rows .most)
+mul-if1 c = fits-mul quarter 80076800 tt (omega (arith, c .before .before .before .pre .high)) (c .before .before .before .pre .rows .most)
 
 sub-left : tie.Need-sub-left Inv-loop μ-loop
 sub-left c = omega arith

@@ -1,8 +1,12 @@
 -- Each arm names the two zones of one row of the table, and the last arm is left for a number that no row has. Assumes nothing.
-use mathlib.Core.Path.{ap}
+use mathlib.Core.Path.{_≡_, sym, ap, _∙_}
+use mathlib.Core.Logic.{_⊎_}
+use Prim.Native.Nat.{ℕ, _+_}
+use lib.Dec.{T, ltb, lit<}
 use Rattle.arc.specs.declared.ConstantAnswer.the-variants.{Pixels, Refused}
-use Rattle.arc.specs.Spacing.{columnsOf}
-use Rattle.arc.proofs.Table.{either, neither}
+use Rattle.arc.specs.Zones.{rowAt}
+use Rattle.arc.specs.Spacing.{spacingAt, columnsIn, columnsOf}
+use Rattle.arc.proofs.Table.{zone-row, neither}
 use borrow.Author.Needs.{needs}
 use Rattle.arc.proofs.zone.columns.Statement.{statement}
 use Rattle.arc.proofs.zone.columns.Tie as tie
@@ -37,59 +41,36 @@ spacing-requires-9 c κs = search needs
 refused-requires : tie.Need-refused-requires
 refused-requires c κs = search needs
 
+-- the arm of the row at j
+arm : (j : ℕ) → T (ltb j 9) → (s : ℕ) {zone x : ℕ} → x ≡ spacingAt (rowAt j .unit) s → (zone ≡ 1 + j) ⊎ (zone ≡ 10 + j) → Pixels x ≡ columnsOf s zone
+arm j h s {zone} e w = ap Pixels e ∙ sym (ap (columnsIn s) (zone-row j (lit< h) zone w))
+
 returns : tie.Need-returns
-returns c =
-    let a = c .before .before .args in
-    either (columnsOf (a .scale)) 1 10 (a .zone) (c .before .match .keys1)
-    (ap Pixels (c .spacing .ensures)) (ap Pixels (c .spacing .ensures))
+returns c = arm 0 tt _ (c .spacing .ensures) (c .before .match .keys1)
 
 returns-2 : tie.Need-returns-2
-returns-2 c =
-    let a = c .before .before .args in
-    either (columnsOf (a .scale)) 2 11 (a .zone) (c .before .match .keys2)
-    (ap Pixels (c .spacing2 .ensures)) (ap Pixels (c .spacing2 .ensures))
+returns-2 c = arm 1 tt _ (c .spacing2 .ensures) (c .before .match .keys2)
 
 returns-3 : tie.Need-returns-3
-returns-3 c =
-    let a = c .before .before .args in
-    either (columnsOf (a .scale)) 3 12 (a .zone) (c .before .match .keys3)
-    (ap Pixels (c .spacing3 .ensures)) (ap Pixels (c .spacing3 .ensures))
+returns-3 c = arm 2 tt _ (c .spacing3 .ensures) (c .before .match .keys3)
 
 returns-4 : tie.Need-returns-4
-returns-4 c =
-    let a = c .before .before .args in
-    either (columnsOf (a .scale)) 4 13 (a .zone) (c .before .match .keys4)
-    (ap Pixels (c .spacing4 .ensures)) (ap Pixels (c .spacing4 .ensures))
+returns-4 c = arm 3 tt _ (c .spacing4 .ensures) (c .before .match .keys4)
 
 returns-5 : tie.Need-returns-5
-returns-5 c =
-    let a = c .before .before .args in
-    either (columnsOf (a .scale)) 5 14 (a .zone) (c .before .match .keys5)
-    (ap Pixels (c .spacing5 .ensures)) (ap Pixels (c .spacing5 .ensures))
+returns-5 c = arm 4 tt _ (c .spacing5 .ensures) (c .before .match .keys5)
 
 returns-6 : tie.Need-returns-6
-returns-6 c =
-    let a = c .before .before .args in
-    either (columnsOf (a .scale)) 6 15 (a .zone) (c .before .match .keys6)
-    (ap Pixels (c .spacing6 .ensures)) (ap Pixels (c .spacing6 .ensures))
+returns-6 c = arm 5 tt _ (c .spacing6 .ensures) (c .before .match .keys6)
 
 returns-7 : tie.Need-returns-7
-returns-7 c =
-    let a = c .before .before .args in
-    either (columnsOf (a .scale)) 7 16 (a .zone) (c .before .match .keys7)
-    (ap Pixels (c .spacing7 .ensures)) (ap Pixels (c .spacing7 .ensures))
+returns-7 c = arm 6 tt _ (c .spacing7 .ensures) (c .before .match .keys7)
 
 returns-8 : tie.Need-returns-8
-returns-8 c =
-    let a = c .before .before .args in
-    either (columnsOf (a .scale)) 8 17 (a .zone) (c .before .match .keys8)
-    (ap Pixels (c .spacing8 .ensures)) (ap Pixels (c .spacing8 .ensures))
+returns-8 c = arm 7 tt _ (c .spacing8 .ensures) (c .before .match .keys8)
 
 returns-9 : tie.Need-returns-9
-returns-9 c =
-    let a = c .before .before .args in
-    either (columnsOf (a .scale)) 9 18 (a .zone) (c .before .match .keys9)
-    (ap Pixels (c .spacing9 .ensures)) (ap Pixels (c .spacing9 .ensures))
+returns-9 c = arm 8 tt _ (c .spacing9 .ensures) (c .before .match .keys9)
 
 returns-10 : tie.Need-returns-10
 returns-10 c =

@@ -1,13 +1,27 @@
--- A list of slots that is filled from the front: what has been taken so far, and what those of the rest will add. One account for
--- both lists, six slots and eighteen. Assumes nothing.
+-- Laws of the lists of specs/Lists.antt: members, and a list of slots that is filled from the front. Assumes nothing.
 use mathlib.Core.Path.{_≡_, sym, ap, _∙_}
 use mathlib.Core.Bool.{Bool, true, false, cond}
-use mathlib.Core.List.{List, [], _∷_, _++_, append-nil}
-use Prim.Native.Nat.{ℕ, suc, _+_, _-_, _≤_, _<_}
+use mathlib.Core.List.{List, [], _∷_, _++_, append-nil, map}
+use Prim.Native.Nat.{ℕ, zero, suc, _+_, _-_, _≤_, _<_}
 use native.Mathlib.Omega.{arith}
-use lib.ListN.{length, set, replicate, length-append, length-replicate}
+use lib.ListN.{length, getD, set, replicate, length-append}
 use lib.Seq.{set-append-seam, append-snoc}
-use Rattle.whole.specs.Lists.{those, padded}
+use Rattle.whole.specs.Lists.{those, upFrom, padded}
+
+-- two lists that are alike when mapped are alike at each place
+pub agree : {A B C : Type 0} (f : A → C) (g : B → C) (k : List A) (l : List B) (d : A) (e : B) → map f k ≡ map g l
+    → (i : ℕ) → i < length k → f (getD k i d) ≡ g (getD l i e)
+agree f g [] l d e p i h = absurd (omega arith)
+agree f g (a ∷ k) [] d e p i h = absurd (omega (arith, ap length p))
+agree f g (a ∷ k) (b ∷ l) d e p zero h = cc
+agree f g (a ∷ k) (b ∷ l) d e p (suc i) h = agree f g k l d e (cc) i (omega arith)
+
+pub upFrom-at : (a n i d : ℕ) → i < n → getD (upFrom a n) i d ≡ a + i
+upFrom-at a zero i d h = absurd (omega arith)
+upFrom-at a (suc n) zero d h = omega arith
+upFrom-at a (suc n) (suc i) d h = let e = upFrom-at (a + 1) n i d (omega arith) in omega arith
+
+-- ---- slots: what has been taken so far, and what those of the rest will add
 
 -- the slots hold `so`, n of them, and `so` with those of the rest is the whole
 pub record Sofar (f : ℕ → Bool) (k : ℕ) (whole rest slots : List ℕ) (n : ℕ) : Type 0 where
@@ -22,9 +36,6 @@ padded-set k l z h =
     let e : k - length l ≡ suc (k - suc (length l)) = omega arith in
     let g : k - length (l ++ (z ∷ [])) ≡ k - suc (length l) = omega (arith, length-append l (z ∷ [])) in
     rw (e, g) (set-append-seam l 0 (replicate (k - suc (length l)) 0) z ∙ sym (append-snoc l z (replicate (k - suc (length l)) 0)))
-
-pub padded-length : (k : ℕ) (l : List ℕ) → length l ≤ k → length (padded k l) ≡ k
-padded-length k l h = simp (length-append, length-replicate) (omega arith)
 
 module _ (f : ℕ → Bool) (k : ℕ) (whole rest slots : List ℕ) (n z : ℕ) (w : Sofar f k whole (z ∷ rest) slots n) where
   pub taken : f z ≡ true → n < k → Sofar f k whole rest (set slots n z) (n + 1)
@@ -44,11 +55,6 @@ module _ (f : ℕ → Bool) (k : ℕ) (whole rest slots : List ℕ) (n z : ℕ) 
         filled = w .filled;
         count = w .count;
       }
-
--- the slots taken are no more than the whole list
-pub count-le : (f : ℕ → Bool) (k : ℕ) (whole rest slots : List ℕ) (n : ℕ) → Sofar f k whole rest slots n
-    → n + length (those f rest) ≡ length whole
-count-le f k whole rest slots n w = omega (arith, length-append (w .so) (those f rest), ap length (w .joined), w .count)
 
 -- nothing more to come
 pub finished : (f : ℕ → Bool) (k : ℕ) (whole rest slots : List ℕ) (n : ℕ) → Sofar f k whole rest slots n → those f rest ≡ []
