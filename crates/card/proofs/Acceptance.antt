@@ -1,10 +1,11 @@
 -- What an accepted reading passed: each test of `readOf` in turn, read off the answer, and put together again. Assumes nothing.
 use mathlib.Core.Path.{_≡_, refl, ap}
-use mathlib.Core.Bool.{Bool, true, false, cond, _&&_}
+use mathlib.Core.Bool.{Bool, true, false, cond, _&&_, and-eq-true-iff}
 use mathlib.Core.List.{List}
 use mathlib.Core.Option.{Option, some, none}
 use Prim.Native.Nat.{ℕ, _/_}
 use native.Mathlib.Omega.{arith}
+use borrow.Author.Tests.{eqb-true, eq-eqb}
 use lib.Dec.{eqb}
 use lib.ListN.{length}
 use lib.IntN.{ℤ}
@@ -12,25 +13,27 @@ use Rattle.arc.specs.declared.Refusal.{Refusal}
 use Rattle.arc.specs.declared.Verdict.{Verdict}
 use Rattle.arc.specs.declared.SpacingAnswer.{SpacingAnswer}
 use Rattle.arc.specs.Refusals.{refusal, onVerdict}
+use Rattle.whole.specs.Whole.{outside}
 use Rattle.arc.specs.Zones.{isPolar}
 use Rattle.arc.specs.Spacing.{spacingOf}
 use Rattle.arc.proofs.Answered.{answered-grids}
+use Rattle.origin.specs.Origin.{storedAngle}
 use Rattle.card.specs.declared.Card.{Card}
 use Rattle.card.specs.declared.Reading.{Reading}
 use Rattle.text.specs.Text.{angleOf}
 use Rattle.card.specs.Layout.{ARV, BRV, LSO, PSO, NUL, NUS, NLL, NLS, NFL, NFC, layout, bytesOf, walk}
 use Rattle.card.specs.Extents.{extentsHold}
 use Rattle.card.specs.Read.{tileStoring, numberIn, cardOf, acceptedCard, refusedCard, withOrigin, withValues, readIn, readOf, Accepted}
-use Rattle.card.proofs.Found.{Stores, stores-tile}
+use Rattle.card.proofs.Found.{Stores, tile-stores, stores-tile}
 
 -- the tests on the bytes
-abbrev pub constantsIn : ℕ → ℕ → List ℕ → Bool
+abbrev constantsIn : ℕ → ℕ → List ℕ → Bool
 constantsIn a b s = eqb (numberIn ARV s) a && eqb (numberIn BRV s) b
 
-abbrev pub rowTile : ℕ → List ℕ → Option ℤ
+abbrev rowTile : ℕ → List ℕ → Option ℤ
 rowTile b s = tileStoring b (b / 512) (angleOf 2 (bytesOf PSO s))
 
-abbrev pub columnTile : ℕ → List ℕ → Option ℤ
+abbrev columnTile : ℕ → List ℕ → Option ℤ
 columnTile a s = tileStoring a (a / 256) (angleOf 3 (bytesOf LSO s))
 
 abbrev pub extentsIn : ℕ → ℕ → ℤ → List ℕ → Bool
@@ -45,11 +48,12 @@ pub record ReadTo (scale zone : ℕ) (s : List ℕ) (k : Card) : Type 0 where
   pub m : ℤ
   pub spacing : spacingOf scale zone ≡ SpacingAnswer.Constants a b
   pub not-polar : isPolar zone ≡ false
-  pub whole : eqb (length s) 98 ≡ true
+  pub long : length s ≡ 98
   pub judged : walk layout s ≡ Verdict.Accepted
-  pub constants : constantsIn a b s ≡ true
-  pub n-found : rowTile b s ≡ some n
-  pub m-found : columnTile a s ≡ some m
+  pub arv : numberIn ARV s ≡ a
+  pub brv : numberIn BRV s ≡ b
+  pub n-stored : Stores b (b / 512) (angleOf 2 (bytesOf PSO s)) n
+  pub m-stored : Stores a (a / 256) (angleOf 3 (bytesOf LSO s)) m
   pub extents : extentsIn a b n s ≡ true
   pub card : cardOf scale zone a b n m s ≡ k
 
@@ -74,6 +78,7 @@ module _ (scale zone : ℕ) (s : List ℕ) (k : Card) where
           → cond t (acceptedCard (cardOf scale zone a b n m s)) (refusedCard (refusal 11)) ≡ acceptedCard k → ReadTo scale zone s k
       go false t e = never (refusal 11) k e
       go true t e =
+          let c = and-eq-true-iff (eqb (numberIn ARV s) a) (eqb (numberIn BRV s) b) .0 co in
           record {
             a = a;
             b = b;
@@ -81,11 +86,12 @@ module _ (scale zone : ℕ) (s : List ℕ) (k : Card) where
             m = m;
             spacing = sp;
             not-polar = po;
-            whole = wh;
+            long = eqb-true (length s) 98 wh;
             judged = ju;
-            constants = co;
-            n-found = f;
-            m-found = g;
+            arv = eqb-true (numberIn ARV s) a (c .0);
+            brv = eqb-true (numberIn BRV s) b (c .1);
+            n-stored = tile-stores b (b / 512) (angleOf 2 (bytesOf PSO s)) n f;
+            m-stored = tile-stores a (a / 256) (angleOf 3 (bytesOf LSO s)) m g;
             extents = t;
             card = ap (λ (x : Reading). x .card) e;
           }
@@ -113,16 +119,29 @@ module _ (scale zone : ℕ) (s : List ℕ) (k : Card) where
 
   pub to-read : ReadTo scale zone s k → readOf scale zone s ≡ acceptedCard k
   unfolding readIn withValues cardOf
-  to-read r = rw (r .spacing, r .not-polar, r .whole, r .judged, r .constants, r .n-found, r .m-found, r .extents) (ap acceptedCard (r .card))
+  to-read r =
+      let g = answered-grids scale zone (r .a) (r .b) (r .spacing) in
+      rw (
+        r .spacing,
+        r .not-polar,
+        eq-eqb (length s) 98 (r .long),
+        r .judged,
+        eq-eqb (numberIn ARV s) (r .a) (r .arv),
+        eq-eqb (numberIn BRV s) (r .b) (r .brv),
+        stores-tile (r .b) (r .b / 512) (angleOf 2 (bytesOf PSO s)) (r .n) (g .rows) (r .n-stored),
+        stores-tile (r .a) (r .a / 256) (angleOf 3 (bytesOf LSO s)) (r .m) (g .columns) (r .m-stored),
+        r .extents,
+      )
+      (ap acceptedCard (r .card))
 
 -- bytes whose tests pass one by one are an accepted card; n and m are those that store the angles
 module _ (scale zone a b : ℕ) (n m : ℤ) (s : List ℕ) where
-  pub bytes-accepted : spacingOf scale zone ≡ SpacingAnswer.Constants a b → isPolar zone ≡ false → eqb (length s) 98 ≡ true
-      → walk layout s ≡ Verdict.Accepted → constantsIn a b s ≡ true
-      → Stores b (b / 512) (angleOf 2 (bytesOf PSO s)) n → Stores a (a / 256) (angleOf 3 (bytesOf LSO s)) m
+  pub bytes-accepted : spacingOf scale zone ≡ SpacingAnswer.Constants a b → isPolar zone ≡ false → length s ≡ 98
+      → walk layout s ≡ Verdict.Accepted → numberIn ARV s ≡ a → numberIn BRV s ≡ b
+      → outside (b / 512) n ≡ false → storedAngle b n ≡ angleOf 2 (bytesOf PSO s)
+      → outside (a / 256) m ≡ false → storedAngle a m ≡ angleOf 3 (bytesOf LSO s)
       → extentsIn a b n s ≡ true → Accepted scale zone (cardOf scale zone a b n m s)
-  bytes-accepted sp po wh ju co f g x =
-      let d = answered-grids scale zone a b sp in
+  bytes-accepted sp po lo ju ar br on ns om ms x =
       record {
         bytes = s;
         read = to-read scale zone s (cardOf scale zone a b n m s)
@@ -133,11 +152,12 @@ module _ (scale zone a b : ℕ) (n m : ℤ) (s : List ℕ) where
               m = m;
               spacing = sp;
               not-polar = po;
-              whole = wh;
+              long = lo;
               judged = ju;
-              constants = co;
-              n-found = stores-tile b (b / 512) (angleOf 2 (bytesOf PSO s)) n (d .rows) f;
-              m-found = stores-tile a (a / 256) (angleOf 3 (bytesOf LSO s)) m (d .columns) g;
+              arv = ar;
+              brv = br;
+              n-stored = record { on-grid = on; same = ns };
+              m-stored = record { on-grid = om; same = ms };
               extents = x;
               card = refl;
             });

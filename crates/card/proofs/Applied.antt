@@ -6,7 +6,6 @@ use mathlib.Core.List.{List, [] as []ᴸ, _∷_ as _∷ᴸ_}
 use Prim.Native.Nat.{ℕ}
 use Prim.Native.Char.{code}
 use Prim.Native.String.{String, [], _∷_}
-use native.Mathlib.Omega.{arith}
 use lib.IntN.{ℤ, pos, negsuc}
 use Rattle.whole.specs.Whole.{floorDiv, ceilDiv, nearest, modulo}
 use Rattle.arc.specs.Refusals.{refusal}
@@ -59,20 +58,12 @@ unfolding spacingAt ceilDiv floorDiv nearest storedAngle number angleLaid degree
     nameLaid layout judgeField extentsHold
 all-accepted = (
   (
-    bytes-accepted 1000000 1 369664 400384 (pos 100) (negsuc 19) paper refl refl refl refl refl
-        (record { count = 882; is-count = refl; high = omega arith; same = refl })
-        (record { count = 1424; is-count = refl; high = omega arith; same = refl }) refl,
-    bytes-accepted 1000000 1 369664 400384 (pos 101) (negsuc 20) beside refl refl refl refl refl
-        (record { count = 883; is-count = refl; high = omega arith; same = refl })
-        (record { count = 1423; is-count = refl; high = omega arith; same = refl }) refl,
+    bytes-accepted 1000000 1 369664 400384 (pos 100) (negsuc 19) paper refl refl refl refl refl refl refl refl refl refl refl,
+    bytes-accepted 1000000 1 369664 400384 (pos 101) (negsuc 20) beside refl refl refl refl refl refl refl refl refl refl refl,
   ),
   (
-    bytes-accepted 5000 1 73932800 80076800 (pos 100) (negsuc 19) town refl refl refl refl refl
-        (record { count = 156500; is-count = refl; high = omega arith; same = refl })
-        (record { count = 288780; is-count = refl; high = omega arith; same = refl }) refl,
-    bytes-accepted 5000 1 73932800 80076800 (pos 101) (negsuc 20) townBeside refl refl refl refl refl
-        (record { count = 156501; is-count = refl; high = omega arith; same = refl })
-        (record { count = 288779; is-count = refl; high = omega arith; same = refl }) refl,
+    bytes-accepted 5000 1 73932800 80076800 (pos 100) (negsuc 19) town refl refl refl refl refl refl refl refl refl refl refl,
+    bytes-accepted 5000 1 73932800 80076800 (pos 101) (negsuc 20) townBeside refl refl refl refl refl refl refl refl refl refl refl,
   ),
 )
 

@@ -3,13 +3,15 @@
 use mathlib.Core.Path.{_≡_, refl, sym, ap, _∙_, subst}
 use mathlib.Core.Bool.{Bool, true, false, cond}
 use mathlib.Core.Option.{some}
-use Prim.Native.Nat.{ℕ, zero, suc, _+_, _*_, _≤_, _<_}
+use Prim.Native.Nat.{ℕ, zero, suc, _+_, _*_, _<_}
 use native.Mathlib.Omega.{arith}
 use borrow.Author.Tests.{eqb-true, eq-eqb}
 use lib.IntN.{ℤ, pos, negsuc, negℤ, sucℤ}
-use Rattle.whole.proofs.Signed.{Is, is-same, is-equal, is-nat, is-neg}
+use Rattle.whole.specs.Whole.{outside, raise}
+use Rattle.whole.proofs.Signed.{Is, is-same, is-equal, is-nat, is-neg, is-raise, raise-high}
 use Rattle.arc.specs.Spacing.{Grid}
 use Rattle.origin.specs.Origin.{storedAngle}
+use Rattle.origin.proofs.Line.{is-inside}
 use Rattle.origin.proofs.Stored.{stored-unique}
 use Rattle.card.specs.Read.{equalℤ, tileStoring}
 use Rattle.whole.specs.Lists.{firstFrom}
@@ -83,11 +85,9 @@ true-equal (negsuc m) = eq-eqb m m refl
 
 -- ---- tiles
 
--- k stores the angle, and is from −t to t
+-- k is from −t to t, and stores the angle
 pub record Stores (x t : ℕ) (angle k : ℤ) : Type 0 where
-  pub count : ℕ
-  pub is-count : Is k count t
-  pub high : count ≤ 2 * t
+  pub on-grid : outside t k ≡ false
   pub same : storedAngle x k ≡ angle
 
 lowest : (t : ℕ) → Is (negℤ (pos t)) 0 t
@@ -98,9 +98,7 @@ module _ (x t : ℕ) (angle k : ℤ) where
   tile-stores e =
       let r = first-sound (λ j. equalℤ (storedAngle x j) angle) (2 * t + 1) (negℤ (pos t)) k 0 t (lowest t) e in
       record {
-        count = r .steps;
-        is-count = is-same k (0 + r .steps) t (r .steps) t (r .at) (omega arith);
-        high = omega (arith, r .few);
+        on-grid = is-inside k (0 + r .steps) t (r .at) (omega (arith, r .few));
         same = equal-true (storedAngle x k) angle (r .holds);
       }
 
@@ -108,4 +106,5 @@ module _ (x t : ℕ) (angle k : ℤ) where
   stores-tile g s =
       first-complete (λ j. equalℤ (storedAngle x j) angle) k t (ap (λ (z : ℤ). equalℤ z angle) (s .same) ∙ true-equal angle)
       (λ i h. stored-unique x g i k (equal-true (storedAngle x i) angle h ∙ sym (s .same)))
-      (2 * t + 1) (negℤ (pos t)) 0 (s .count) (lowest t) (is-same k (s .count) t (0 + s .count) t (s .is-count) (omega arith)) (omega (arith, s .high))
+      (2 * t + 1) (negℤ (pos t)) 0 (raise t k) (lowest t)
+      (is-same k (raise t k) t (0 + raise t k) t (is-raise t k (s .on-grid)) (omega arith)) (omega (arith, raise-high t k (s .on-grid)))

@@ -1,3 +1,5 @@
+pub mod Walked
+pub mod Spans
 pub mod Found
 pub mod Acceptance
 pub mod Laid

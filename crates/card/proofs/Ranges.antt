@@ -3,7 +3,7 @@ use mathlib.Core.Path.{_≡_, refl, sym, ap, ap₂, _∙_, subst}
 use mathlib.Core.Bool.{Bool, true, false, cond}
 use Prim.Native.Nat.{ℕ, _+_}
 use native.Mathlib.Omega.{arith}
-use lib.IntN.{ℤ, pos, _-ℤ_}
+use lib.IntN.{ℤ, pos, negsuc, _-ℤ_}
 use mir.Syntax.{w64}
 use mir.Val.{SFits, toZ, ofZ}
 use mir.ValLaws.{toZ-ofZ}
@@ -15,7 +15,10 @@ use Rattle.arc.specs.Refusals.{refusal}
 use Rattle.arc.specs.Zones.{half, quarter}
 use Rattle.card.specs.declared.range.Ranged.{Ranged}
 use Rattle.card.specs.Steps.{rangedOf}
-use Rattle.card.proofs.Laid.{raise-is}
+
+pub raise-is : (t : ℕ) (z : ℤ) (n : ℕ) → Is z n t → raise t z ≡ n
+raise-is t (pos m) n e = e
+raise-is t (negsuc m) n e = omega arith
 
 inside-is : {k : ℕ} {z : ℤ} {n : ℕ} → Inside k z n → Is z n k
 inside-is {k} {z} {n} i = subst (λ (y : ℤ). Is y n k) (i .same) (is-difference n k)

@@ -16,7 +16,7 @@ use Rattle.text.proofs.Angles.{valid-tests}
 use Rattle.card.specs.Layout.{LSO, PSO, layout, bytesOf, walk}
 use Rattle.card_text.specs.StepsFields.{DigitsOf, shifted, valueIn}
 use Rattle.card_text.specs.declared.digits.Digits.{Digits}
-use Rattle.card_text.proofs.Table.{right-value}
+use Rattle.card.proofs.Walked.{right-in}
 
 -- ---- an angle of d degree digits
 module _ (d limit : ℕ) (s : List ℕ) where
@@ -63,11 +63,11 @@ module _ (w limit : ℕ) (p : List ℕ) {d m t h : Digits} (ed : DigitsOf (part 
 module _ (s : List ℕ) (w : walk layout s ≡ Verdict.Accepted) where
   lso-size : angleSize 3 (bytesOf LSO s) ≤ 64800000
   unfolding layout
-  lso-size = valid-tests 3 64800000 (bytesOf LSO s) (right-value s w 3 (omega arith)) .2
+  lso-size = valid-tests 3 64800000 (bytesOf LSO s) (right-in s w 3 (omega arith) .1) .2
 
   pso-size : angleSize 2 (bytesOf PSO s) ≤ 32400000
   unfolding layout
-  pso-size = valid-tests 2 32400000 (bytesOf PSO s) (right-value s w 4 (omega arith)) .2
+  pso-size = valid-tests 2 32400000 (bytesOf PSO s) (right-in s w 4 (omega arith) .1) .2
 
   pub lso-is : Is (angleOf 3 (bytesOf LSO s)) (valueIn LSO s) 64800000
   unfolding valueIn

@@ -10,11 +10,12 @@ use borrow.Author.Tests.{eqb-true, eqb-false}
 use lib.Dec.{eqb}
 use lib.IntN.{ℤ, pos, _-ℤ_}
 use Rattle.whole.specs.declared.Counted.{Counted}
-use Rattle.whole.specs.Whole.{near}
-use Rattle.whole.proofs.Signed.{Is, is-unique, equal-is, is-difference}
+use Rattle.whole.specs.Whole.{near, raise}
+use Rattle.whole.proofs.Signed.{Is, is-unique, equal-is, is-difference, is-raise}
 use Rattle.whole.proofs.Near.{near-le, round-trip}
 use Rattle.arc.specs.Spacing.{Grid}
 use Rattle.origin.specs.Origin.{storedAngle}
+use Rattle.origin.proofs.Line.{is-inside}
 use Rattle.origin.proofs.Axis.{Axis, stored-is}
 use Rattle.card.specs.Read.{tileStoring}
 use Rattle.card.proofs.Found.{tile-stores, stores-tile}
@@ -54,12 +55,12 @@ module _ {x t l : ℕ} (axis : Axis x t l) (g : Grid x) (z : ℤ) (angle : ℕ) 
           let y : ℤ = pos n -ℤ pos t in
           let p : Is y n t = is-difference n t in
           let q : Is (storedAngle x y) angle l = rw (eqb-true (near (n * tileAngle) x) angle b) at (stored-is axis y n p) in
-          stores-tile x t z y g (record { count = n; is-count = p; high = high h; same = is-unique (storedAngle x y) z angle l q e })
+          stores-tile x t z y g (record { on-grid = is-inside y n t p (high h); same = is-unique (storedAngle x y) z angle l q e })
       go false b = none-of (tileStoring x t z) refl
         where
           none-of : (o : Option ℤ) → tileStoring x t z ≡ o → o ≡ none
           none-of none w = refl
           none-of (some k) w =
               let r = tile-stores x t z k w in
-              let s = has k (r .count) (r .is-count) (r .same) in
-              absurd (eqb-false _ _ b (ap (λ (i : ℕ). near (i * tileAngle) x) (sym (only (r .count) s)) ∙ s))
+              let s = has k (raise t k) (is-raise t k (r .on-grid)) (r .same) in
+              absurd (eqb-false _ _ b (ap (λ (i : ℕ). near (i * tileAngle) x) (sym (only (raise t k) s)) ∙ s))

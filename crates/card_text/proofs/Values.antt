@@ -20,7 +20,7 @@ use Rattle.card_text.specs.StepsFields.{valueIn, valuesIn}
 use Rattle.card_text.specs.StepsRead.{foundAt, tileAt, extentsAt, recordIn, cardFrom, Walked}
 use Rattle.card_text.proofs.Angles.{lso-is, pso-is, lso-high, pso-high, flag-is}
 use Rattle.card_text.proofs.Axes.{found-high, found-is}
-use Rattle.card.proofs.Laid.{raise-is}
+use Rattle.card.proofs.Ranges.{raise-is}
 use Rattle.card_text.proofs.Tiled.{extents-at}
 
 -- ---- the values kept

@@ -1,10 +1,12 @@
 -- Laws of one axis of the tile grid, latitude or longitude: a line whose unit is a tile. Assumes nothing.
+use mathlib.Core.Path.{_≡_}
+use mathlib.Core.Bool.{false}
 use Prim.Native.Nat.{ℕ, _+_, _*_, _/_, _≤_}
 use native.Mathlib.Nat.{mul-assoc, mul-le-mul-right}
 use native.Mathlib.Omega.{arith}
-use lib.IntN.{ℤ, pos, _*ℤ_}
-use Rattle.whole.specs.Whole.{near}
-use Rattle.whole.proofs.Signed.{Is, is-same, is-mul, is-lmul, is-floor, is-ceil}
+use lib.IntN.{ℤ, pos, natAbs, _*ℤ_}
+use Rattle.whole.specs.Whole.{near, outside, raise}
+use Rattle.whole.proofs.Signed.{Is, is-same, is-mul, is-lmul, is-size, is-floor, is-ceil, is-raise, raise-high}
 use Rattle.whole.proofs.Near.{near-le}
 use Rattle.arc.specs.Zones.{circle, half, quarter, tile}
 use Rattle.arc.specs.Spacing.{Grid}
@@ -56,3 +58,12 @@ module _ {x t l : ℕ} (axis : Axis x t l) where
 
   pub stored-high : (n : ℕ) → n ≤ 2 * t → near (n * tileAngle) x ≤ 2 * l
   stored-high n h = near-le x (axis .some) (n * tileAngle) (2 * l) (omega (arith, mul-assoc 2 l x, axis .some, axis .exact))
+
+  pub stored-within : (k : ℤ) → outside t k ≡ false → natAbs (storedAngle x k) ≤ l
+  stored-within k h =
+      let n : ℕ = raise t k in
+      omega (
+        arith,
+        is-size (storedAngle x k) (near (n * tileAngle) x) l (stored-is k n (is-raise t k h)),
+        stored-high n (omega (arith, raise-high t k h)),
+      )

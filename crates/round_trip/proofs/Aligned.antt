@@ -5,7 +5,6 @@ use mathlib.Core.List.{List}
 use mathlib.Core.Bool.{Bool, true, false, cond}
 use Prim.Native.Nat.{ℕ, _≤_}
 use native.Mathlib.Omega.{arith}
-use lib.Dec.{leb}
 use lib.IntN.{ℤ}
 use lib.ListN.{length, take}
 use borrow.Author.Tests.{le-leb}
@@ -25,7 +24,6 @@ use Rattle.text.specs.Text.{angleText}
 use Rattle.card.specs.Write.{cardText, outOf}
 use Rattle.card.specs.RoundTrips.{ReadBack}
 use Rattle.round_trip.specs.Aligned.{Fits, Carried, AlignedBack}
-use Rattle.round_trip.proofs.Bytes.{and-both}
 use Rattle.round_trip.proofs.Records.{Good, Writes, is-written, text-out}
 use Rattle.round_trip.proofs.ReadBack.{long, read-back, lso-text, pso-text}
 
@@ -65,8 +63,8 @@ module _
     good : Good a b r
     good =
         record {
-          nfl-in = and-both (leb 1 (r .nfl)) (leb (r .nfl) 999) (le-leb 1 (r .nfl) (f .nfl-least)) (le-leb (r .nfl) 999 (f .nfl-most));
-          nfc-in = and-both (leb 1 (r .nfc)) (leb (r .nfc) 999) (le-leb 1 (r .nfc) (f .nfc-least)) (le-leb (r .nfc) 999 (f .nfc-most));
+          nfl-in = rw (le-leb 1 (r .nfl) (f .nfl-least), le-leb (r .nfl) 999 (f .nfl-most));
+          nfc-in = rw (le-leb 1 (r .nfc) (f .nfc-least), le-leb (r .nfc) 999 (f .nfc-most));
           name-laid = f .bad-laid;
           on-grid = rw (f .at-n, f .at-m) on-grid;
           extents-hold = f .extents-hold;

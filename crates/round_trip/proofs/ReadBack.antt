@@ -2,43 +2,41 @@
 -- its value's text, which is read as the value. Assumes nothing.
 use mathlib.Core.Path.{_≡_, refl, sym, ap, _∙_}
 use mathlib.Core.List.{List, []}
-use mathlib.Core.Option.{some}
-use mathlib.Core.Bool.{Bool, true, false, cond, _&&_}
+use mathlib.Core.Bool.{Bool, true, false, cond}
 use Prim.Native.Nat.{ℕ, _/_, _^_, _≤_, _<_}
 use native.Mathlib.Nat.{zero-add}
 use native.Mathlib.Omega.{arith}
 use lib.Dec.{eqb}
 use lib.IntN.{ℤ, natAbs}
 use lib.ListN.{length, getD}
-use borrow.Author.Tests.{eq-eqb}
 use Rattle.whole.specs.Whole.{outside}
 use Rattle.arc.specs.declared.Verdict.{Verdict}
 use Rattle.arc.specs.declared.SpacingAnswer.{SpacingAnswer}
 use Rattle.arc.specs.Zones.{half, quarter, isPolar}
-use Rattle.arc.specs.Spacing.{spacingOf, Grid, Grids}
+use Rattle.arc.specs.Spacing.{spacingOf, Grids}
 use Rattle.arc.proofs.Answered.{answered-grids}
 use Rattle.origin.specs.Origin.{storedAngle}
-use Rattle.origin.proofs.Axis.{Axis, latitudes, longitudes}
+use Rattle.origin.proofs.Axis.{Axis, latitudes, longitudes, stored-within}
 use Rattle.card.specs.declared.Card.{Card}
 use Rattle.card.specs.declared.Record.{Record}
 use Rattle.text.specs.Text.{number, angleOf, digits, angleText}
 use Rattle.card.specs.Layout.{Subfield, STR, ARV, BRV, LSO, PSO, NUL, NUS, NLL, NLS, NFL, NFC, BAD, TIF, layout, bytesOf, walk}
 use Rattle.card.specs.Extents.{extentsHold}
-use Rattle.card.specs.Read.{numberIn, tileStoring, cardOf, acceptedCard, withValues, readIn}
+use Rattle.card.specs.Read.{numberIn, cardOf}
 use Rattle.card.specs.Write.{counted, valuesOf, cardText}
 use Rattle.card.specs.RoundTrips.{recordOf, ReadBack, ReadsBack}
-use Rattle.round_trip.proofs.Bytes.{and-both}
 use Rattle.text.proofs.Digits.{number-digits}
 use Rattle.text.proofs.Angles.{angle-of-text}
 use Rattle.round_trip.proofs.Table.{count-held, angle-held, a-name, a-flag, Along, done, _then_, along-at, Held, Text, length-written, texts, walks}
-use Rattle.round_trip.proofs.Tiles.{tile-at, stored-within}
+use Rattle.card.proofs.Found.{Stores}
+use Rattle.card.proofs.Acceptance.{to-read}
 use Rattle.round_trip.proofs.Records.{extents, Good, n-on, m-on, sizes, inverted, text-out}
 
--- a tile is found from the text of its stored angle
-tile-back : {x t l : ℕ} → Axis x t l → Grid x → (k : ℤ) → outside t k ≡ false → (d : ℕ) → l / 360000 < 10 ^ d
-    → (s : List ℕ) → s ≡ angleText d (storedAngle x k) → tileStoring x t (angleOf d s) ≡ some k
-tile-back {x} {t} {l} axis g k h d small s e =
-    rw (e, angle-of-text d (storedAngle x k) (omega (arith, stored-within axis k h))) (tile-at x t g k h)
+-- a tile stores the angle read from the text of its stored angle
+tile-back : {x t l : ℕ} → Axis x t l → (k : ℤ) → outside t k ≡ false → (d : ℕ) → l / 360000 < 10 ^ d
+    → (s : List ℕ) → s ≡ angleText d (storedAngle x k) → Stores x t (angleOf d s) k
+tile-back {x} axis k h d small s e =
+    record { on-grid = h; same = sym (ap (angleOf d) e ∙ angle-of-text d (storedAngle x k) (omega (arith, stored-within axis k h))) }
 
 module _ (a b : ℕ) (r : Record) (g : Grids a b) (ok : Good a b r) (twelve : length (r .bad) ≡ 12) where
   abbrev card : List ℕ
@@ -92,18 +90,19 @@ module _ (a b : ℕ) (r : Record) (g : Grids a b) (ok : Good a b r) (twelve : le
   unfolding layout valuesOf
   pso-text = text 4 (omega arith)
 
-  lon-back : tileStoring a (a / 256) (angleOf 3 (bytesOf LSO card)) ≡ some (r .m)
-  lon-back = tile-back (longitudes a (g .columns)) (g .columns) (r .m) (m-on a b r ok) 3 (omega arith) (bytesOf LSO card) lso-text
+  lon-back : Stores a (a / 256) (angleOf 3 (bytesOf LSO card)) (r .m)
+  lon-back = tile-back (longitudes a (g .columns)) (r .m) (m-on a b r ok) 3 (omega arith) (bytesOf LSO card) lso-text
 
-  lat-back : tileStoring b (b / 512) (angleOf 2 (bytesOf PSO card)) ≡ some (r .n)
-  lat-back = tile-back (latitudes b (g .rows)) (g .rows) (r .n) (n-on a b r ok) 2 (omega arith) (bytesOf PSO card) pso-text
+  lat-back : Stores b (b / 512) (angleOf 2 (bytesOf PSO card)) (r .n)
+  lat-back = tile-back (latitudes b (g .rows)) (r .n) (n-on a b r ok) 2 (omega arith) (bytesOf PSO card) pso-text
 
-  spacing-back : eqb (numberIn ARV card) a && eqb (numberIn BRV card) b ≡ true
+  arv-back : numberIn ARV card ≡ a
   unfolding layout valuesOf
-  spacing-back =
-      and-both (eqb (numberIn ARV card) a) (eqb (numberIn BRV card) b)
-      (eq-eqb (numberIn ARV card) a (digits-back ARV a (text 1 (omega arith)) (omega (arith, g .columns .most))))
-      (eq-eqb (numberIn BRV card) b (digits-back BRV b (text 2 (omega arith)) (omega (arith, g .rows .most))))
+  arv-back = digits-back ARV a (text 1 (omega arith)) (omega (arith, g .columns .most))
+
+  brv-back : numberIn BRV card ≡ b
+  unfolding layout valuesOf
+  brv-back = digits-back BRV b (text 2 (omega arith)) (omega (arith, g .rows .most))
 
   module _ (scale zone : ℕ) where
     abbrev k : Card
@@ -131,13 +130,32 @@ module _ (a b : ℕ) (r : Record) (g : Grids a b) (ok : Good a b r) (twelve : le
     unfolding cardOf
     extents-back = ap (extents a b) same ∙ ok .extents-hold
 
-    read : isPolar zone ≡ false → readIn scale zone (SpacingAnswer.Constants a b) card ≡ acceptedCard k
-    unfolding readIn withValues
-    read p = rw (p, eq-eqb (length card) 98 long, walked, spacing-back, lat-back, lon-back, extents-back)
-
     pub read-back : spacingOf scale zone ≡ SpacingAnswer.Constants a b → isPolar zone ≡ false → ReadBack scale zone r card
     unfolding cardOf
-    read-back e p = record { card = k; read = rw e (read p); of-scale = refl; of-zone = refl; same = same }
+    read-back e p =
+        record {
+          card = k;
+          read = to-read scale zone card k
+              (record {
+                a = a;
+                b = b;
+                n = r .n;
+                m = r .m;
+                spacing = e;
+                not-polar = p;
+                long = long;
+                judged = walked;
+                arv = arv-back;
+                brv = brv-back;
+                n-stored = lat-back;
+                m-stored = lon-back;
+                extents = extents-back;
+                card = refl;
+              });
+          of-scale = refl;
+          of-zone = refl;
+          same = same;
+        }
 
 pub reads-back : ReadsBack
 reads-back scale zone r out twelve e =

@@ -2,15 +2,13 @@
 -- the record passes each test; and the output then starts with the card's text. Assumes nothing.
 use mathlib.Core.Path.{_≡_, refl}
 use mathlib.Core.List.{List}
-use mathlib.Core.Bool.{Bool, true, false, cond, not, _&&_}
-use Prim.Native.Nat.{ℕ, _*_, _/_, _≤_, _<_}
+use mathlib.Core.Bool.{Bool, true, false, cond, not, _&&_, and-eq-true-iff}
+use Prim.Native.Nat.{ℕ, _/_, _≤_}
 use native.Mathlib.Omega.{arith}
-use lib.Dec.{leb, ltb}
-use lib.IntN.{pos, negℤ, _-ℤ_}
-use lib.Signed.{leZ}
+use lib.Dec.{leb}
 use lib.ListN.{length, take, drop}
 use lib.Seq.{take-at}
-use borrow.Author.Tests.{leb-true, ltb-true, le-leb, not-true}
+use borrow.Author.Tests.{leb-true, le-leb, not-true}
 use Rattle.whole.specs.Whole.{outside}
 use Rattle.arc.specs.declared.Verdict.{Verdict}
 use Rattle.arc.specs.declared.SpacingAnswer.{SpacingAnswer}
@@ -19,11 +17,11 @@ use Rattle.arc.specs.Zones.{isPolar}
 use Rattle.arc.specs.Spacing.{spacingOf}
 use Rattle.card.specs.declared.Record.{Record}
 use Rattle.text.specs.Text.{nameLaid}
-use Rattle.card.specs.Layout.{orElse}
 use Rattle.origin.specs.Origin.{onGrid}
 use Rattle.card.specs.Extents.{extentsHold}
-use Rattle.card.specs.Write.{cardText, test, first, recordTests, writeIn, writeOf, outOf}
-use Rattle.round_trip.proofs.Bytes.{and-l, and-r}
+use Rattle.card.specs.Write.{cardText, first, recordTests, writeIn, writeOf, outOf}
+use Rattle.card.proofs.Walked.{tested, between}
+use Rattle.card.proofs.Spans.{Extends, extends}
 
 -- ---- the record's tests
 
@@ -36,10 +34,6 @@ pub record Good (a b : ℕ) (r : Record) : Type 0 where
   pub name-laid : nameLaid (r .bad) ≡ true
   pub on-grid : onGrid a b (r .n) (r .m) ≡ true
   pub extents-hold : extents a b r ≡ true
-
-tested : (ok : Bool) (n p : ℕ) (v : Verdict) → orElse (test ok n p) v ≡ Verdict.Accepted → (ok ≡ true) × (v ≡ Verdict.Accepted)
-tested true n p v e = (refl, e)
-tested false n p v e = let z : _≡_ {A = ℕ} 0 1 = cc in absurd (omega arith)
 
 module _ (a b : ℕ) (r : Record) where
   pub good : first (recordTests a b r) ≡ Verdict.Accepted → Good a b r
@@ -63,40 +57,23 @@ module _ (a b : ℕ) (r : Record) where
   accepts g = rw (g .nfl-in, g .nfc-in, g .name-laid, g .on-grid, g .extents-hold)
 
   pub n-on : Good a b r → outside (b / 512) (r .n) ≡ false
-  n-on g = not-true (outside (b / 512) (r .n)) (and-l (not (outside (b / 512) (r .n))) (not (outside (a / 256) (r .m))) (g .on-grid))
+  n-on g = not-true (outside (b / 512) (r .n)) (and-eq-true-iff (not (outside (b / 512) (r .n))) (not (outside (a / 256) (r .m))) .0 (g .on-grid) .0)
 
   pub m-on : Good a b r → outside (a / 256) (r .m) ≡ false
-  m-on g = not-true (outside (a / 256) (r .m)) (and-r (not (outside (b / 512) (r .n))) (not (outside (a / 256) (r .m))) (g .on-grid))
+  m-on g = not-true (outside (a / 256) (r .m)) (and-eq-true-iff (not (outside (b / 512) (r .n))) (not (outside (a / 256) (r .m))) .0 (g .on-grid) .1)
 
 -- the numbers of a good record
-pub record Sizes (r : Record) : Type 0 where
-  pub nfl-least : 1 ≤ r .nfl
-  pub nfl-most : r .nfl ≤ 999
-  pub nfc-least : 1 ≤ r .nfc
-  pub nfc-most : r .nfc ≤ 999
-  pub nul-nll : r .nul ≤ r .nll
-  pub nll-below : r .nll < 128 * r .nfl
-  pub nls-nus : r .nls ≤ r .nus
-  pub nus-below : r .nus < 128 * r .nfc
+pub record Sizes (a b : ℕ) (r : Record) : Type 0 where
+  pub nfl-in : (1 ≤ r .nfl) × (r .nfl ≤ 999)
+  pub nfc-in : (1 ≤ r .nfc) × (r .nfc ≤ 999)
+  pub edges : Extends a b (r .n) (r .nul) (r .nus) (r .nll) (r .nls) (r .nfl) (r .nfc)
 
-pub sizes : (a b : ℕ) (r : Record) → Good a b r → Sizes r
-unfolding extentsHold
+pub sizes : (a b : ℕ) (r : Record) → Good a b r → Sizes a b r
 sizes a b r g =
-    let e1 = leb (r .nfc) (a / 128) && leZ (negℤ (pos (b / 512))) (r .n -ℤ pos (r .nfl)) in
-    let e2 = leb (r .nul) (r .nll) && ltb (r .nll) (128 * r .nfl) in
-    let e3 = leb (r .nls) (r .nus) && ltb (r .nus) (128 * r .nfc) in
-    let p12 = and-l (e1 && e2) e3 (g .extents-hold) in
-    let p2 = and-r e1 e2 p12 in
-    let p3 = and-r (e1 && e2) e3 (g .extents-hold) in
     record {
-      nfl-least = leb-true 1 (r .nfl) (and-l _ (leb (r .nfl) 999) (g .nfl-in));
-      nfl-most = leb-true (r .nfl) 999 (and-r (leb 1 (r .nfl)) _ (g .nfl-in));
-      nfc-least = leb-true 1 (r .nfc) (and-l _ (leb (r .nfc) 999) (g .nfc-in));
-      nfc-most = leb-true (r .nfc) 999 (and-r (leb 1 (r .nfc)) _ (g .nfc-in));
-      nul-nll = leb-true (r .nul) (r .nll) (and-l _ (ltb (r .nll) (128 * r .nfl)) p2);
-      nll-below = ltb-true (r .nll) (128 * r .nfl) (and-r (leb (r .nul) (r .nll)) _ p2);
-      nls-nus = leb-true (r .nls) (r .nus) (and-l _ (ltb (r .nus) (128 * r .nfc)) p3);
-      nus-below = ltb-true (r .nus) (128 * r .nfc) (and-r (leb (r .nls) (r .nus)) _ p3);
+      nfl-in = between 1 (r .nfl) 999 (g .nfl-in);
+      nfc-in = between 1 (r .nfc) 999 (g .nfc-in);
+      edges = extends a b (r .n) (r .nul) (r .nus) (r .nll) (r .nls) (r .nfl) (r .nfc) (g .extents-hold);
     }
 
 -- ---- the questions

@@ -2,7 +2,7 @@
 -- texts, so that the walk passes; and where each text is its subfield's bytes, all of them together are the bytes. Assumes nothing.
 use mathlib.Core.Path.{_≡_, refl, sym, ap, _∙_}
 use mathlib.Core.List.{List, [], _∷_, _++_, append-assoc}
-use mathlib.Core.Bool.{Bool, true, false, cond, _&&_}
+use mathlib.Core.Bool.{Bool, true, false, cond, _&&_, and-eq-true-iff}
 use Prim.Native.Nat.{ℕ, zero, suc, _+_, _/_, _^_, _≤_, _<_}
 use native.Mathlib.Nat.{not-suc-le-zero, le-of-suc-le-suc}
 use native.Mathlib.Omega.{arith}
@@ -12,10 +12,9 @@ use lib.ListN.{length, getD, drop, length-append, drop-of-length-le}
 use borrow.Author.Tests.{le-leb, eqb-true}
 use Rattle.arc.specs.declared.Verdict.{Verdict}
 use Rattle.text.specs.Text.{isFlag, nameLaid, part}
-use Rattle.card.specs.Layout.{Kind, Subfield, STR, bytesOf, rightKind, rightValue, judge, judgeField, orElse, walk}
+use Rattle.card.specs.Layout.{Kind, Subfield, STR, bytesOf, rightKind, rightValue, judgeField, walk}
 use Rattle.card.specs.Write.{Value, counted, angle, named, flagged, textOf, written}
 use Rattle.text.proofs.Bytes.{part-at, cut}
-use Rattle.round_trip.proofs.Bytes.{and-l, and-r}
 use Rattle.text.proofs.Digits.{length-digits, all-digits, number-digits}
 use Rattle.text.proofs.Angles.{length-angle, text-laid, text-valid}
 
@@ -90,16 +89,10 @@ end o (f ∷ fs) = end (o + f .width) fs
 
 module _ (o : ℕ) (f : Subfield) (fs : List Subfield) (c : contiguous o (f ∷ fs) ≡ true) where
   starts : f .at ≡ o
-  starts = eqb-true (f .at) o (and-l (eqb (f .at) o) (contiguous (o + f .width) fs) c)
+  starts = eqb-true (f .at) o (and-eq-true-iff (eqb (f .at) o) (contiguous (o + f .width) fs) .0 c .0)
 
   goes-on : contiguous (o + f .width) fs ≡ true
-  goes-on = and-r (eqb (f .at) o) (contiguous (o + f .width) fs) c
-
--- both tests of a subfield, and the rest of the walk
-judged : (k v : Bool) (p : ℕ) (w : Verdict) → orElse (judge k v p) w ≡ Verdict.Accepted → (k ≡ true) × (v ≡ true) × (w ≡ Verdict.Accepted)
-judged true true p w e = (refl, refl, e)
-judged true false p w e = let z : _≡_ {A = ℕ} 0 1 = cc in absurd (omega arith)
-judged false v p w e = let z : _≡_ {A = ℕ} 0 1 = cc in absurd (omega arith)
+  goes-on = and-eq-true-iff (eqb (f .at) o) (contiguous (o + f .width) fs) .0 c .1
 
 -- ---- what was written
 
@@ -133,15 +126,3 @@ module _ (s : List ℕ) where
       let e : textOf (f .width) v ≡ part o (f .width) s = sym p ∙ ap (λ (k : ℕ). part k (f .width) s) (starts o f fs c) in
       let r = written-back (o + f .width) (goes-on o f fs c) l t in
       ap (λ (x : List ℕ). x ++ written fs vs) e ∙ ap (λ (x : List ℕ). part o (f .width) s ++ x) r ∙ sym (cut o (f .width) (o + f .width) s refl)
-
-  -- what a walk that passes says of each subfield
-  abbrev pub Right : Subfield → Type 0
-  Right f = (rightKind (f .kind) (bytesOf f s) ≡ true) × (rightValue (f .kind) (bytesOf f s) ≡ true)
-
-  pub right-at : (fs : List Subfield) → walk fs s ≡ Verdict.Accepted → (i : ℕ) → i < length fs → Right (getD fs i STR)
-  unfolding judgeField
-  right-at [] e i h = absurd (not-suc-le-zero h)
-  right-at (f ∷ fs) e zero h =
-      let j = judged (rightKind (f .kind) (bytesOf f s)) (rightValue (f .kind) (bytesOf f s)) (f .at) (walk fs s) e in (j .0, j .1)
-  right-at (f ∷ fs) e (suc i) h =
-      right-at fs (judged (rightKind (f .kind) (bytesOf f s)) (rightValue (f .kind) (bytesOf f s)) (f .at) (walk fs s) e .2) i (le-of-suc-le-suc h)

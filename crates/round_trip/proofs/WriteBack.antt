@@ -7,7 +7,7 @@ use Prim.Native.Nat.{ℕ, _+_, _≤_, _<_}
 use native.Mathlib.Omega.{arith}
 use lib.Dec.{leb, eqb}
 use lib.ListN.{length, getD, take}
-use borrow.Author.Tests.{leb-true, eqb-true}
+use borrow.Author.Tests.{eqb-true}
 use Rattle.arc.specs.Zones.{half, quarter}
 use Rattle.card.specs.declared.Card.{Card}
 use Rattle.text.specs.Text.{all, isDigit, isFlag, angleLaid, angleValid, angleOf, digits, angleText}
@@ -16,30 +16,26 @@ use Rattle.card.specs.Read.{numberIn, cardOf}
 use Rattle.card.specs.Write.{valuesOf, cardText}
 use Rattle.card.specs.RoundTrips.{recordOf, WrittenBack, WritesBack}
 use Rattle.text.proofs.Bytes.{length-part, drop-next}
-use Rattle.round_trip.proofs.Bytes.{and-l, and-r}
 use Rattle.text.proofs.Digits.{digits-number}
 use Rattle.text.proofs.Angles.{text-of-angle}
-use Rattle.round_trip.proofs.Table.{Along, done, _then_, Text, Right, right-at, written-back}
+use Rattle.round_trip.proofs.Table.{Along, done, _then_, Text, written-back}
 use Rattle.round_trip.proofs.Records.{Good, Writes, is-written, text-out}
-use Rattle.round_trip.proofs.Readings.{Values, Reads, reads}
+use Rattle.card.proofs.Walked.{between, RightIn, right-in}
+use Rattle.card.proofs.Acceptance.{ReadTo, read-to}
 
 -- a flag's byte is that of its value
 flag-byte : (x : ℕ) (t : Bool) → eqb x 89 ≡ t → isFlag x ≡ true → x ≡ cond t 89 78
 flag-byte x true q e = eqb-true x 89 q
 flag-byte x false q e = eqb-true x 78 (rw q at e)
 
-module _ (scale zone : ℕ) (s : List ℕ) (k : Card) (d : Reads scale zone s k) where
-  abbrev v : Values scale zone (d .a) (d .b) s k
-  v = d .values
-
+module _ (scale zone : ℕ) (s : List ℕ) (k : Card) (d : ReadTo scale zone s k) where
   -- the card's value, as it is read
   abbrev c : Card
-  c = cardOf scale zone (d .a) (d .b) (v .n) (v .m) s
+  c = cardOf scale zone (d .a) (d .b) (d .n) (d .m) s
 
   -- what passed
-  right : (i : ℕ) → i < 20 → Right s (getD layout i STR)
-  unfolding layout
-  right i h = right-at s layout (d .walked) i h
+  right : (i : ℕ) → i < 20 → RightIn s (getD layout i STR)
+  right = right-in s (d .judged)
 
   -- ---- a subfield's bytes are the text of its value
 
@@ -52,9 +48,7 @@ module _ (scale zone : ℕ) (s : List ℕ) (k : Card) (d : Reads scale zone s k)
   constant-text : (f : Subfield) (n : ℕ) → f .at + f .width ≤ 98
       → (all isDigit (bytesOf f s) ≡ true) × (leb n (numberIn f s) && leb (numberIn f s) n ≡ true) → bytesOf f s ≡ digits (f .width) n
   constant-text f n h r =
-      let x = numberIn f s in
-      let lo = leb-true n x (and-l (leb n x) (leb x n) (r .1)) in
-      let hi = leb-true x n (and-r (leb n x) (leb x n) (r .1)) in
+      let x = between n (numberIn f s) n (r .1) in
       free-text f h (r .0) ∙ ap (digits (f .width)) (omega arith)
 
   angle-text : (f : Subfield) (n limit : ℕ) → (f .at + f .width ≤ 98) × (f .width ≡ n + 8)
@@ -71,10 +65,10 @@ module _ (scale zone : ℕ) (s : List ℕ) (k : Card) (d : Reads scale zone s k)
   unfolding layout valuesOf cardOf
   all-texts =
       constant-text STR 3 (omega arith) (right 0 (omega arith))
-      then (free-text ARV (omega arith) (right 1 (omega arith) .0) ∙ ap (digits 8) (v .arv))
-      then (free-text BRV (omega arith) (right 2 (omega arith) .0) ∙ ap (digits 8) (v .brv))
-      then (angle-text LSO 3 half (omega arith) (right 3 (omega arith)) ∙ ap (angleText 3) (sym (v .lon .stores)))
-      then (angle-text PSO 2 quarter (omega arith) (right 4 (omega arith)) ∙ ap (angleText 2) (sym (v .lat .stores)))
+      then (free-text ARV (omega arith) (right 1 (omega arith) .0) ∙ ap (digits 8) (d .arv))
+      then (free-text BRV (omega arith) (right 2 (omega arith) .0) ∙ ap (digits 8) (d .brv))
+      then (angle-text LSO 3 half (omega arith) (right 3 (omega arith)) ∙ ap (angleText 3) (sym (d .m-stored .same)))
+      then (angle-text PSO 2 quarter (omega arith) (right 4 (omega arith)) ∙ ap (angleText 2) (sym (d .n-stored .same)))
       then free-text NUL (omega arith) (right 5 (omega arith) .0)
       then free-text NUS (omega arith) (right 6 (omega arith) .0)
       then free-text NLL (omega arith) (right 7 (omega arith) .0)
@@ -105,13 +99,13 @@ module _ (scale zone : ℕ) (s : List ℕ) (k : Card) (d : Reads scale zone s k)
         nfl-in = right 9 (omega arith) .1;
         nfc-in = right 10 (omega arith) .1;
         name-laid = right 18 (omega arith) .0;
-        on-grid = rw (v .lat .on-grid, v .lon .on-grid);
-        extents-hold = rw (sym (v .whole)) at (v .extents-hold);
+        on-grid = rw (d .n-stored .on-grid, d .m-stored .on-grid);
+        extents-hold = d .extents;
       }
 
   pub back : (out : List ℕ) → 98 ≤ length out → WrittenBack scale zone c s out
   back out h =
-      let w : Writes scale zone (recordOf c) out (d .a) (d .b) = record { spacing = d .spacing; no-pole = d .no-pole; room = h; is-good = good } in
+      let w : Writes scale zone (recordOf c) out (d .a) (d .b) = record { spacing = d .spacing; no-pole = d .not-polar; room = h; is-good = good } in
       let l : length (cardText (d .a) (d .b) (recordOf c)) ≡ 98 = ap length text-same ∙ d .long in
       record {
         written = is-written scale zone (recordOf c) out (d .a) (d .b) w;
@@ -120,5 +114,5 @@ module _ (scale zone : ℕ) (s : List ℕ) (k : Card) (d : Reads scale zone s k)
 
 pub writes-back : WritesBack
 writes-back scale zone s k out e h =
-    let d = reads scale zone s k e in
-    rw (← d .values .whole) (back scale zone s k d out h)
+    let d = read-to scale zone s k e in
+    rw (← d .card) (back scale zone s k d out h)

@@ -1,0 +1,50 @@
+-- What a walk that refuses nothing says of each subfield: its bytes are of the right kind, and their value is right. Assumes nothing.
+use mathlib.Core.Path.{_≡_, refl}
+use mathlib.Core.Bool.{Bool, true, false, _&&_, and-eq-true-iff}
+use mathlib.Core.List.{List, [], _∷_}
+use Prim.Native.Nat.{ℕ, zero, suc, _≤_, _<_}
+use native.Mathlib.Omega.{arith}
+use borrow.Author.Tests.{leb-true, ltb-true}
+use lib.Dec.{leb, ltb}
+use lib.ListN.{length, getD}
+use Rattle.arc.specs.declared.Verdict.{Verdict}
+use Rattle.card.specs.Layout.{Subfield, STR, layout, bytesOf, rightKind, rightValue, judge, judgeField, orElse, walk}
+use Rattle.card.specs.Write.{test}
+
+-- ---- tests that are passed
+
+pub between : (low n high : ℕ) → leb low n && leb n high ≡ true → (low ≤ n) × (n ≤ high)
+between low n high e = let t = and-eq-true-iff (leb low n) (leb n high) .0 e in (leb-true low n (t .0), leb-true n high (t .1))
+
+pub within : (low n high : ℕ) → leb low n && ltb n high ≡ true → (low ≤ n) × (n < high)
+within low n high e = let t = and-eq-true-iff (leb low n) (ltb n high) .0 e in (leb-true low n (t .0), ltb-true n high (t .1))
+
+pub orElse-both : (v w : Verdict) → orElse v w ≡ Verdict.Accepted → (v ≡ Verdict.Accepted) × (w ≡ Verdict.Accepted)
+orElse-both Verdict.Accepted w e = (refl, e)
+orElse-both (Verdict.Refused r) w e = let x : _≡_ {A = ℕ} 0 1 = cc in absurd (omega arith)
+
+-- one test of several, and the rest of them
+pub tested : (ok : Bool) (n p : ℕ) (w : Verdict) → orElse (test ok n p) w ≡ Verdict.Accepted → (ok ≡ true) × (w ≡ Verdict.Accepted)
+tested true n p w e = (refl, e)
+tested false n p w e = let x : _≡_ {A = ℕ} 0 1 = cc in absurd (omega arith)
+
+pub judge-both : (k v : Bool) (p : ℕ) → judge k v p ≡ Verdict.Accepted → (k ≡ true) × (v ≡ true)
+judge-both true true p e = (refl, refl)
+judge-both true false p e = let x : _≡_ {A = ℕ} 0 1 = cc in absurd (omega arith)
+judge-both false v p e = let x : _≡_ {A = ℕ} 0 1 = cc in absurd (omega arith)
+
+-- ---- the walk
+
+abbrev pub RightIn : List ℕ → Subfield → Type 0
+RightIn s f = (rightKind (f .kind) (bytesOf f s) ≡ true) × (rightValue (f .kind) (bytesOf f s) ≡ true)
+
+right-at : (s : List ℕ) (fs : List Subfield) → walk fs s ≡ Verdict.Accepted → (i : ℕ) → i < length fs → RightIn s (getD fs i STR)
+unfolding judgeField
+right-at s [] e i h = absurd (omega arith)
+right-at s (f ∷ fs) e zero h =
+    judge-both (rightKind (f .kind) (bytesOf f s)) (rightValue (f .kind) (bytesOf f s)) (f .at) (orElse-both (judgeField f s) (walk fs s) e .0)
+right-at s (f ∷ fs) e (suc i) h = right-at s fs (orElse-both (judgeField f s) (walk fs s) e .1) i (omega arith)
+
+pub right-in : (s : List ℕ) → walk layout s ≡ Verdict.Accepted → (i : ℕ) → i < 20 → RightIn s (getD layout i STR)
+unfolding layout
+right-in s e i h = right-at s layout e i h
