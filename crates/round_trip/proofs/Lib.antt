@@ -1,4 +1,3 @@
-pub mod Bytes
 pub mod Table
 pub mod Records
 pub mod ReadBack
