@@ -9,9 +9,10 @@ use borrow.Author.Tests.{lt-ltb, le-ltb, eq-eqb, ne-eqb, ltb-true, ltb-false, eq
 use lib.Dec.{ltb, eqb}
 use lib.ListN.{length, getD}
 use Rattle.card.specs.declared.Card.{Card}
+use Rattle.card.specs.Read.{Known}
+use Rattle.card.proofs.Laid.{known-laid}
 use Rattle.tiles.specs.declared.Said.{Said}
-use Rattle.tiles.specs.Index.{tiles, countWrong, indexWrong, said, saidOf}
-use Rattle.tiles.specs.Steps.{Sized}
+use Rattle.tiles.specs.Index.{tiles, indexLength, countWrong, indexWrong, said, saidOf}
 
 -- neither of two tests
 pub neither : (a b : Bool) → a || b ≡ false → (a ≡ false) × (b ≡ false)
@@ -19,8 +20,8 @@ neither true b e = absurd (true≢false e)
 neither false b e = (refl, e)
 
 -- ---- lengths
-pub tiles-small : (k : Card) → Sized k → tiles k ≤ 998001
-tiles-small k s = mul-le-mul {n₂ = 999} {m₂ = 999} (s .rows) (s .columns)
+pub tiles-small : (k : Card) → Known k → tiles k ≤ 998001
+tiles-small k w = let l = known-laid k w in mul-le-mul {n₂ = 999} {m₂ = 999} (l .down-most) (l .across-most)
 
 pub tile-inside : (q p down across : ℕ) → q < down → p < across → q * across + p < down * across
 tile-inside q p down across h g =
@@ -28,23 +29,22 @@ tile-inside q p down across h g =
     omega (arith, add-mul q 1 across, one-mul across)
 
 module _ (k : Card) (index : List ℕ) (count : ℕ) (e : indexWrong k index count ≡ false) where
-  pub index-long : k .tif ≡ true → length index ≡ tiles k
+  lengths : (not (eqb (length index) (indexLength k)) ≡ false) × (countWrong k count ≡ false)
   unfolding indexWrong
-  index-long y = eqb-true (length index) (tiles k)
-      (not-false _ (neither (not (eqb (length index) (tiles k))) (ltb (tiles k) count) (rw y at e) .0))
+  lengths = neither (not (eqb (length index) (indexLength k))) (countWrong k count) e
+
+  pub index-long : k .tif ≡ true → length index ≡ tiles k
+  index-long y = eqb-true (length index) (tiles k) (not-false _ (rw y at (lengths .0)))
 
   pub count-most : count ≤ tiles k
-  unfolding indexWrong
-  count-most = go (k .tif) (neither (not (eqb (length index) (cond (k .tif) (tiles k) 0))) (countWrong k count) e .1)
+  count-most = go (k .tif) (lengths .1)
     where
       go : (b : Bool) → cond b (ltb (tiles k) count) (not (eqb count (tiles k))) ≡ false → count ≤ tiles k
       go true t = ltb-false (tiles k) count t
       go false t = omega (arith, eqb-true count (tiles k) (not-false _ t))
 
   pub count-all : k .tif ≡ false → count ≡ tiles k
-  unfolding indexWrong
-  count-all y = eqb-true count (tiles k)
-      (not-false _ (neither (not (eqb (length index) 0)) (not (eqb count (tiles k))) (rw y at e) .1))
+  count-all y = eqb-true count (tiles k) (not-false _ (rw y at (lengths .1)))
 
 -- ---- what an entry says
 module _ (count e : ℕ) where

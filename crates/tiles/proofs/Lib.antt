@@ -1,4 +1,3 @@
-pub mod Sized
 pub mod Listed
 pub mod Counted
 pub mod Pass
