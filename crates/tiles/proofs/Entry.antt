@@ -1,5 +1,5 @@
 -- What one entry says, and where it lies, the lengths being right. Assumes nothing.
-use mathlib.Core.Path.{_≡_, refl, sym, subst, _∙_}
+use mathlib.Core.Path.{_≡_, refl, sym, ap, subst, _∙_}
 use mathlib.Core.Bool.{Bool, true, false, cond, not, _||_, true≢false}
 use mathlib.Core.List.{List}
 use Prim.Native.Nat.{ℕ, _+_, _*_, _≤_, _<_}
@@ -57,22 +57,13 @@ module _ (count e : ℕ) where
   pub said-stored : (e ≡ 0 → ⊥) → e ≤ count → said count e ≡ Said.Stored e
   said-stored d h = rw (ne-eqb e 0 d, le-ltb count e h)
 
-module _ (k : Card) (index : List ℕ) (count t : ℕ) where
-  pub said-in : k .tif ≡ true → saidOf k index count t ≡ said count (getD index t 0)
-  unfolding saidOf
-  said-in y = rw y
-
-  pub said-all : k .tif ≡ false → saidOf k index count t ≡ Said.Stored (t + 1)
-  unfolding saidOf
-  said-all y = rw y
-
 -- and what it is where that is said
 abbrev pub EntryIs : ℕ → ℕ → Said → Type 0
 EntryIs count e (Said.Stored n) = (e ≡ n) × (1 ≤ n) × (n ≤ count)
 EntryIs count e Said.Missing = e ≡ 0
 EntryIs count e Said.Above = count < e
 
-pub entry-is : (count e : ℕ) (v : Said) → said count e ≡ v → EntryIs count e v
+entry-is : (count e : ℕ) (v : Said) → said count e ≡ v → EntryIs count e v
 entry-is count e v h = subst (EntryIs count e) h (go (eqb e 0) (ltb count e) refl refl)
   where
     go : (a b : Bool) → eqb e 0 ≡ a → ltb count e ≡ b → EntryIs count e (cond a Said.Missing (cond b Said.Above (Said.Stored e)))
@@ -80,13 +71,29 @@ entry-is count e v h = subst (EntryIs count e) h (go (eqb e 0) (ltb count e) ref
     go false true p q = ltb-true count e q
     go false false p q = let d = eqb-false e 0 p in (refl, omega arith, ltb-false count e q)
 
+module _ (k : Card) (index : List ℕ) (count t : ℕ) where
+  pub said-in : k .tif ≡ true → saidOf k index count t ≡ said count (getD index t 0)
+  unfolding saidOf
+  said-in y = rw y
+
+  -- an entry by what is said of its tile, and back
+  pub entry-in : (v : Said) → k .tif ≡ true → saidOf k index count t ≡ v → EntryIs count (getD index t 0) v
+  entry-in v y e = entry-is count (getD index t 0) v (sym (said-in y) ∙ e)
+
+  pub stored-in : (n : ℕ) → k .tif ≡ true → getD index t 0 ≡ n → 1 ≤ n → n ≤ count → saidOf k index count t ≡ Said.Stored n
+  stored-in n y e p q = said-in y ∙ ap (said count) e ∙ said-stored count n (λ z. omega arith) q
+
+  pub said-all : k .tif ≡ false → saidOf k index count t ≡ Said.Stored (t + 1)
+  unfolding saidOf
+  said-all y = rw y
+
 -- a stored number is 1 to count
 pub stored-most : (k : Card) (index : List ℕ) (count t n : ℕ) → indexWrong k index count ≡ false → t < tiles k
     → saidOf k index count t ≡ Said.Stored n → (1 ≤ n) × (n ≤ count)
 stored-most k index count t n e h w = go (k .tif) refl
   where
     go : (b : Bool) → k .tif ≡ b → (1 ≤ n) × (n ≤ count)
-    go true y = let r = entry-is count (getD index t 0) (Said.Stored n) (sym (said-in k index count t y) ∙ w) in (r .1, r .2)
+    go true y = let r = entry-in k index count t (Said.Stored n) y w in (r .1, r .2)
     go false y =
         let m : Said.Stored (t + 1) ≡ Said.Stored n = sym (said-all k index count t y) ∙ w in
         let s : t + 1 ≡ n = cc in

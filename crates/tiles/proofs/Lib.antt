@@ -1,3 +1,4 @@
+pub mod First
 pub mod Listed
 pub mod Counted
 pub mod Pass
