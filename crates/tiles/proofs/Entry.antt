@@ -1,5 +1,5 @@
 -- What one entry says, and where it lies, the lengths being right. Assumes nothing.
-use mathlib.Core.Path.{_≡_, refl, sym, subst, _∙_}
+use mathlib.Core.Path.{_≡_, refl, sym, ap, subst, _∙_}
 use mathlib.Core.Bool.{Bool, true, false, cond, not, _||_, true≢false}
 use mathlib.Core.List.{List}
 use Prim.Native.Nat.{ℕ, _+_, _*_, _≤_, _<_}
@@ -9,9 +9,10 @@ use borrow.Author.Tests.{lt-ltb, le-ltb, eq-eqb, ne-eqb, ltb-true, ltb-false, eq
 use lib.Dec.{ltb, eqb}
 use lib.ListN.{length, getD}
 use Rattle.card.specs.declared.Card.{Card}
+use Rattle.card.specs.Read.{Known}
+use Rattle.card.proofs.Laid.{known-laid}
 use Rattle.tiles.specs.declared.Said.{Said}
-use Rattle.tiles.specs.Index.{tiles, countWrong, indexWrong, said, saidOf}
-use Rattle.tiles.specs.Steps.{Sized}
+use Rattle.tiles.specs.Index.{tiles, indexLength, countWrong, indexWrong, said, saidOf}
 
 -- neither of two tests
 pub neither : (a b : Bool) → a || b ≡ false → (a ≡ false) × (b ≡ false)
@@ -19,8 +20,8 @@ neither true b e = absurd (true≢false e)
 neither false b e = (refl, e)
 
 -- ---- lengths
-pub tiles-small : (k : Card) → Sized k → tiles k ≤ 998001
-tiles-small k s = mul-le-mul {n₂ = 999} {m₂ = 999} (s .rows) (s .columns)
+pub tiles-small : (k : Card) → Known k → tiles k ≤ 998001
+tiles-small k w = let l = known-laid k w in mul-le-mul {n₂ = 999} {m₂ = 999} (l .down-most) (l .across-most)
 
 pub tile-inside : (q p down across : ℕ) → q < down → p < across → q * across + p < down * across
 tile-inside q p down across h g =
@@ -28,23 +29,22 @@ tile-inside q p down across h g =
     omega (arith, add-mul q 1 across, one-mul across)
 
 module _ (k : Card) (index : List ℕ) (count : ℕ) (e : indexWrong k index count ≡ false) where
-  pub index-long : k .tif ≡ true → length index ≡ tiles k
+  lengths : (not (eqb (length index) (indexLength k)) ≡ false) × (countWrong k count ≡ false)
   unfolding indexWrong
-  index-long y = eqb-true (length index) (tiles k)
-      (not-false _ (neither (not (eqb (length index) (tiles k))) (ltb (tiles k) count) (rw y at e) .0))
+  lengths = neither (not (eqb (length index) (indexLength k))) (countWrong k count) e
+
+  pub index-long : k .tif ≡ true → length index ≡ tiles k
+  index-long y = eqb-true (length index) (tiles k) (not-false _ (rw y at (lengths .0)))
 
   pub count-most : count ≤ tiles k
-  unfolding indexWrong
-  count-most = go (k .tif) (neither (not (eqb (length index) (cond (k .tif) (tiles k) 0))) (countWrong k count) e .1)
+  count-most = go (k .tif) (lengths .1)
     where
       go : (b : Bool) → cond b (ltb (tiles k) count) (not (eqb count (tiles k))) ≡ false → count ≤ tiles k
       go true t = ltb-false (tiles k) count t
       go false t = omega (arith, eqb-true count (tiles k) (not-false _ t))
 
   pub count-all : k .tif ≡ false → count ≡ tiles k
-  unfolding indexWrong
-  count-all y = eqb-true count (tiles k)
-      (not-false _ (neither (not (eqb (length index) 0)) (not (eqb count (tiles k))) (rw y at e) .1))
+  count-all y = eqb-true count (tiles k) (not-false _ (rw y at (lengths .1)))
 
 -- ---- what an entry says
 module _ (count e : ℕ) where
@@ -57,22 +57,13 @@ module _ (count e : ℕ) where
   pub said-stored : (e ≡ 0 → ⊥) → e ≤ count → said count e ≡ Said.Stored e
   said-stored d h = rw (ne-eqb e 0 d, le-ltb count e h)
 
-module _ (k : Card) (index : List ℕ) (count t : ℕ) where
-  pub said-in : k .tif ≡ true → saidOf k index count t ≡ said count (getD index t 0)
-  unfolding saidOf
-  said-in y = rw y
-
-  pub said-all : k .tif ≡ false → saidOf k index count t ≡ Said.Stored (t + 1)
-  unfolding saidOf
-  said-all y = rw y
-
 -- and what it is where that is said
 abbrev pub EntryIs : ℕ → ℕ → Said → Type 0
 EntryIs count e (Said.Stored n) = (e ≡ n) × (1 ≤ n) × (n ≤ count)
 EntryIs count e Said.Missing = e ≡ 0
 EntryIs count e Said.Above = count < e
 
-pub entry-is : (count e : ℕ) (v : Said) → said count e ≡ v → EntryIs count e v
+entry-is : (count e : ℕ) (v : Said) → said count e ≡ v → EntryIs count e v
 entry-is count e v h = subst (EntryIs count e) h (go (eqb e 0) (ltb count e) refl refl)
   where
     go : (a b : Bool) → eqb e 0 ≡ a → ltb count e ≡ b → EntryIs count e (cond a Said.Missing (cond b Said.Above (Said.Stored e)))
@@ -80,13 +71,29 @@ entry-is count e v h = subst (EntryIs count e) h (go (eqb e 0) (ltb count e) ref
     go false true p q = ltb-true count e q
     go false false p q = let d = eqb-false e 0 p in (refl, omega arith, ltb-false count e q)
 
+module _ (k : Card) (index : List ℕ) (count t : ℕ) where
+  pub said-in : k .tif ≡ true → saidOf k index count t ≡ said count (getD index t 0)
+  unfolding saidOf
+  said-in y = rw y
+
+  -- an entry by what is said of its tile, and back
+  pub entry-in : (v : Said) → k .tif ≡ true → saidOf k index count t ≡ v → EntryIs count (getD index t 0) v
+  entry-in v y e = entry-is count (getD index t 0) v (sym (said-in y) ∙ e)
+
+  pub stored-in : (n : ℕ) → k .tif ≡ true → getD index t 0 ≡ n → 1 ≤ n → n ≤ count → saidOf k index count t ≡ Said.Stored n
+  stored-in n y e p q = said-in y ∙ ap (said count) e ∙ said-stored count n (λ z. omega arith) q
+
+  pub said-all : k .tif ≡ false → saidOf k index count t ≡ Said.Stored (t + 1)
+  unfolding saidOf
+  said-all y = rw y
+
 -- a stored number is 1 to count
 pub stored-most : (k : Card) (index : List ℕ) (count t n : ℕ) → indexWrong k index count ≡ false → t < tiles k
     → saidOf k index count t ≡ Said.Stored n → (1 ≤ n) × (n ≤ count)
 stored-most k index count t n e h w = go (k .tif) refl
   where
     go : (b : Bool) → k .tif ≡ b → (1 ≤ n) × (n ≤ count)
-    go true y = let r = entry-is count (getD index t 0) (Said.Stored n) (sym (said-in k index count t y) ∙ w) in (r .1, r .2)
+    go true y = let r = entry-in k index count t (Said.Stored n) y w in (r .1, r .2)
     go false y =
         let m : Said.Stored (t + 1) ≡ Said.Stored n = sym (said-all k index count t y) ∙ w in
         let s : t + 1 ≡ n = cc in

@@ -1,4 +1,4 @@
-pub mod Sized
+pub mod First
 pub mod Listed
 pub mod Counted
 pub mod Pass

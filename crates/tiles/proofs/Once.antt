@@ -1,13 +1,13 @@
 -- A number that occurs twice would be refused at its second place; and each number is named. Assumes nothing.
 use mathlib.Core.Path.{_≡_, refl, sym, ap, _∙_}
-use mathlib.Core.Bool.{Bool, true, false, cond, not, _&&_, _||_, or-true, true≢false, false≢true}
-use mathlib.Core.List.{List, [], _∷_}
+use mathlib.Core.Bool.{Bool, true, false, cond, not, _&&_, _||_, true≢false}
+use mathlib.Core.List.{List}
 use mathlib.Core.Option.{Option, some, none}
-use Prim.Native.Nat.{ℕ, zero, suc, _+_, _-_, _≤_, _<_}
+use Prim.Native.Nat.{ℕ, _+_, _-_, _<_}
 use native.Mathlib.Omega.{arith}
 use native.Mathlib.Nat.{lt-of-not-le}
-use native.Mathlib.Decide.{ℕ-discrete, decLt}
-use borrow.Author.Tests.{eq-eqb, eqb-true, ltb-false}
+use native.Mathlib.Decide.{decLt}
+use borrow.Author.Tests.{ltb-false}
 use lib.Dec.{ltb, eqb}
 use lib.ListN.{length, getD, take}
 use lib.Seq.{getD-take, length-take-le}
@@ -15,52 +15,12 @@ use Rattle.arc.specs.declared.Verdict.{Verdict}
 use Rattle.arc.specs.Refusals.{refusal}
 use Rattle.card.specs.declared.Card.{Card}
 use Rattle.tiles.specs.declared.Said.{Said}
-use Rattle.tiles.specs.Index.{tiles, indexWrong, said, saidOf}
+use Rattle.tiles.specs.Index.{tiles, indexWrong, saidOf}
 use Rattle.tiles.specs.Check.{occurs, badAt, firstBad, allNamed, judged, checkOf, EachPlaced, NoneAbove, EachOnce, UpToCount}
-use Rattle.whole.specs.Lists.{firstFrom, oneMore}
-use Rattle.tiles.proofs.Entry.{neither, index-long, count-all, said-stored, said-in, said-all, entry-is}
+use Rattle.tiles.proofs.Entry.{neither, index-long, count-all, said-all, entry-in, stored-in}
+use Rattle.tiles.proofs.First.{none-of}
+use Rattle.tiles.proofs.Counted.{occurs-at, place, named-each}
 use Rattle.tiles.proofs.Pass.{bad-again}
-
--- ---- entries
-pub occurs-at : (l : List ℕ) (i n : ℕ) → i < length l → getD l i 0 ≡ n → occurs n l ≡ true
-occurs-at [] i n h e = absurd (omega arith)
-occurs-at (x ∷ l) zero n h e = rw (eq-eqb x n e)
-occurs-at (x ∷ l) (suc i) n h e = rw (occurs-at l i n (omega arith) e) (or-true (eqb x n))
-
-pub record Place (l : List ℕ) (n : ℕ) : Type 0 where
-  pub at : ℕ
-  pub inside : at < length l
-  pub holds : getD l at 0 ≡ n
-
-pub place : (l : List ℕ) (n : ℕ) → occurs n l ≡ true → Place l n
-place [] n e = absurd (false≢true e)
-place (x ∷ l) n e = go (eqb x n) refl e (place l n)
-  where
-    go : (b : Bool) → eqb x n ≡ b → b || occurs n l ≡ true → (occurs n l ≡ true → Place l n) → Place (x ∷ l) n
-    go true p q w = record { at = 0; inside = omega arith; holds = eqb-true x n p }
-    go false p q w = let r = w q in record { at = suc (r .at); inside = omega (arith, r .inside); holds = r .holds }
-
-named-each : (index : List ℕ) (count n : ℕ) → allNamed count index ≡ true → 1 ≤ n → n ≤ count → occurs n index ≡ true
-named-each index zero n e p q = absurd (omega arith)
-named-each index (suc m) n e p q =
-    go (occurs (suc m) index) refl e (λ w h. named-each index m n w p h) (ℕ-discrete n (suc m))
-  where
-    go : (b : Bool) → occurs (suc m) index ≡ b → b && allNamed m index ≡ true
-        → (allNamed m index ≡ true → n ≤ m → occurs n index ≡ true) → Dec (n ≡ suc m) → occurs n index ≡ true
-    go true o w f (yes d) = ap (λ (x : ℕ). occurs x index) d ∙ o
-    go true o w f (no d) = f w (omega arith)
-    go false o w f d = absurd (false≢true w)
-
-none-of : (f : ℕ → Bool) (i n : ℕ) → firstFrom oneMore f i n ≡ none → (j : ℕ) → i ≤ j → j < i + n → f j ≡ false
-unfolding firstFrom
-none-of f i zero e j p q = absurd (omega arith)
-none-of f i (suc n) e j p q = go (f i) refl e (none-of f (i + 1) n) (ℕ-discrete j i)
-  where
-    go : (b : Bool) → f i ≡ b → cond b (some i) (firstFrom oneMore f (i + 1) n) ≡ none
-        → (firstFrom oneMore f (i + 1) n ≡ none → (x : ℕ) → i + 1 ≤ x → x < i + 1 + n → f x ≡ false) → Dec (j ≡ i) → f j ≡ false
-    go true o w g d = let z : _≡_ {A = ℕ} 0 1 = cc in absurd (omega arith)
-    go false o w g (yes d) = ap f d ∙ o
-    go false o w g (no d) = g w j (omega arith) (omega arith)
 
 -- ---- an index with no bad entry
 module _ (index : List ℕ) (count : ℕ) (b : firstBad count index ≡ none) where
@@ -123,9 +83,9 @@ module _ (k : Card) (index : List ℕ) (count : ℕ) (w : Checked k index count)
       record {
         at = r .at;
         inside = omega (arith, r .inside);
-        stores = said-in k index count (r .at) y ∙ ap (said count) (r .holds) ∙ said-stored count n (λ z. omega arith) q;
+        stores = stored-in k index count (r .at) n y (r .holds) p q;
         only = λ t h e. only-place index count (g .0) t (r .at) n (λ z. omega arith) (omega arith) (r .inside)
-            (entry-is count (getD index t 0) (Said.Stored n) (sym (said-in k index count t y) ∙ e) .0) (r .holds);
+            (entry-in k index count t (Said.Stored n) y e .0) (r .holds);
       }
   one-place false y n p q =
       record {
@@ -142,7 +102,7 @@ module _ (k : Card) (index : List ℕ) (count : ℕ) (w : Checked k index count)
       let l : length index ≡ tiles k = index-long k index count (w .right) y in
       let g = none-of (badAt count index) 0 (length index) (w .passes y .0) t (omega arith) (omega arith) in
       let b = ltb-false count e (neither (ltb count e) (not (eqb e 0) && occurs e (take t index)) g .0) in
-      let c = entry-is count e Said.Above (sym (said-in k index count t y) ∙ a) in
+      let c = entry-in k index count t Said.Above y a in
       omega arith
   none-above false y t h a =
       let m : Said.Stored (t + 1) ≡ Said.Above = sym (said-all k index count t y) ∙ a in

@@ -3,7 +3,7 @@ use mathlib.Core.Path.{_≡_, refl, sym, ap, fun-ext, _∙_}
 use mathlib.Core.Bool.{Bool, true, false, cond, or-true}
 use mathlib.Core.List.{List, [], _∷_, _++_}
 use mathlib.Core.Option.{Option, some, none}
-use Prim.Native.Nat.{ℕ, suc, _+_, _-_, _<_, _≤_}
+use Prim.Native.Nat.{ℕ, _+_, _-_, _<_, _≤_}
 use native.Mathlib.Omega.{arith}
 use native.Mathlib.Numerals.{add-one}
 use borrow.Author.Tests.{lt-ltb, le-ltb, le-leb, lt-leb, ne-eqb}
@@ -14,22 +14,9 @@ use Rattle.arc.specs.declared.Verdict.{Verdict}
 use Rattle.arc.specs.Refusals.{refusalAt}
 use Rattle.tiles.specs.Check.{occurs, badAt, firstBad, judged, before, markAt, marked, marksPassed}
 use Rattle.whole.specs.Lists.{firstFrom, oneMore}
+use Rattle.tiles.proofs.First.{first-hit, first-next, first-none}
 use Rattle.tiles.proofs.Listed.{listed, listed-length, listed-at, listed-set}
 use Rattle.tiles.proofs.Counted.{occurs-other, occurs-last, named-told, counted, counted-none, counted-same, counted-new, counted-le}
-
--- ---- the first of which f holds, from i on
-module _ (f : ℕ → Bool) (i n : ℕ) where
-  pub first-hit : i < n → f i ≡ true → firstFrom oneMore f i (n - i) ≡ some i
-  unfolding firstFrom
-  first-hit h t = let e : n - i ≡ suc (n - (i + 1)) = omega arith in rw (e, t)
-
-  pub first-next : i < n → f i ≡ false → firstFrom oneMore f i (n - i) ≡ firstFrom oneMore f (i + 1) (n - (i + 1))
-  unfolding firstFrom
-  first-next h t = let e : n - i ≡ suc (n - (i + 1)) = omega arith in rw (e, t)
-
-  pub first-none : n ≤ i → firstFrom oneMore f i (n - i) ≡ none
-  unfolding firstFrom
-  first-none h = let e : n - i ≡ 0 = omega arith in rw e
 
 -- ---- bad entries
 module _ (count : ℕ) (index : List ℕ) (i : ℕ) where

@@ -85,6 +85,13 @@ bandsReport (BandsAnswer.Refused e) = refusedWith e 3
 
 -- ---- what look-up is held to: proved in proofs/Alike.antt, proofs/PartOf.antt and proofs/Apart.antt
 
+-- of what is said, only that of the pixel's own tile matters
+abbrev pub OneTile : Type 0
+OneTile =
+    (k : Card) (says other : ℕ → Said) (r c : ℤ)
+    → says (tileOf k (natAbs r) (natAbs c)) ≡ other (tileOf k (natAbs r) (natAbs c))
+    → foundOf k says r c ≡ foundOf k other r c
+
 -- of the index, only its length and that tile's entry matter
 abbrev pub OneEntry : Type 0
 OneEntry =

@@ -1,5 +1,4 @@
 -- What only the code needs: what it is held to on the way. Definitions only.
---     Sized k                what a known card's tiles are bounded by
 --     Window ..              what a window is bounded by, past the length checks
 use mathlib.Core.Path.{_≡_}
 use Prim.Native.Nat.{ℕ, _+_, _≤_}
@@ -7,15 +6,12 @@ use mathlib.Core.List.{List}
 use mathlib.Core.Bool.{true}
 use lib.ListN.{length}
 use Rattle.card.specs.declared.Card.{Card}
+use Rattle.card.specs.Read.{Known}
 use Rattle.tiles.specs.Index.{tiles}
-
-pub record Sized (k : Card) : Type 0 where
-  pub rows : k .nfl ≤ 999
-  pub columns : k .nfc ≤ 999
 
 -- a window of an image with TIF Y, the lengths being right
 pub record Window (k : Card) (index : List ℕ) (top left height width : ℕ) : Type 0 where
-  pub sized : Sized k
+  pub known : Known k
   pub indexed : k .tif ≡ true
   pub long : length index ≡ tiles k
   pub down : top + height ≤ k .nfl

@@ -6,8 +6,8 @@ ghost use mathlib.Core.Bool.{false};
 ghost use Prim.Native.Nat.{_<_};
 ghost use lib.ListN.{length, getD};
 ghost use Rattle.arc.specs.Refusals.{refusalAt};
+ghost use Rattle.card.specs.Read.{Known};
 ghost use Rattle.tiles.specs.Index.{tiles, indexWrong, said, saidOf};
-ghost use Rattle.tiles.specs.Steps.{Sized};
 
 mod check;
 mod look_up;
@@ -58,7 +58,7 @@ fn bad_entry(at: u64) -> Refusal
 
 // Whether the index or the count is of the wrong length (01, "Tiles").
 fn index_wrong(k: Card, index: &[u32], count: u64) -> bool
-    requires { ⌜ Sized k ⌝ }
+    requires { ⌜ Known k ⌝ }
     ensures { λ r. ⌜ r ≡ indexWrong k (now (index .entry)) count ⌝ }
 {
     let tiles = k.nfl * k.nfc;
@@ -86,7 +86,7 @@ fn entry_says(index: &[u32], count: u64, tile: u64) -> Said
 
 // What the index says of a tile, the lengths being right (01, "Tiles").
 fn index_says(k: Card, index: &[u32], count: u64, tile: u64) -> Said
-    requires { ⌜ Sized k ⌝ ∗ ⌜ indexWrong k (now index) count ≡ false ⌝ ∗ ⌜ tile < tiles k ⌝ }
+    requires { ⌜ Known k ⌝ ∗ ⌜ indexWrong k (now index) count ≡ false ⌝ ∗ ⌜ tile < tiles k ⌝ }
     ensures { λ r. ⌜ r ≡ saidOf k (now (index .entry)) count tile ⌝ }
 {
     if !k.tif {

@@ -1,6 +1,6 @@
 -- The tests are the definition's; the marks are cleared, or filled, before the pass. Assumes nothing.
 use mathlib.Core.Path.{_≡_, refl, sym, ap, _∙_}
-use mathlib.Core.Bool.{false, cond}
+use mathlib.Core.Bool.{false}
 use mathlib.Core.List.{List, _++_}
 use Prim.Native.Nat.{ℕ, _+_}
 use native.Mathlib.Omega.{arith}
@@ -8,7 +8,6 @@ use borrow.Author.Tests.{lt-ltb, le-ltb, not-true, not-false}
 use Rattle.arc.specs.declared.Verdict.{Verdict}
 use Rattle.tiles.specs.Index.{indexWrong}
 use Rattle.tiles.specs.Check.{before, firstBad, markAt, checkOf, marksOf}
-use Rattle.tiles.proofs.Sized.{known-sized}
 use Rattle.tiles.proofs.Listed.{listed, filled-length, filled-rest, filled-listed}
 use borrow.Author.Needs.{needs}
 use Rattle.tiles.proofs.check.index_check.Statement.{statement}
@@ -20,7 +19,7 @@ right : (c : tie.Else1) → let a = c .before .before .before .before .args in
 right c = sym (c .before .index-wrong .ensures) ∙ c .if1 .left
 
 index-wrong-requires : tie.Need-index-wrong-requires
-index-wrong-requires c κs = known-sized _ (c .before .before .pre)
+index-wrong-requires c κs = search needs
 
 refused-requires : tie.Need-refused-requires
 refused-requires c κs = search needs

@@ -1,13 +1,13 @@
 -- The part is that of `tile`, and the three places lie in it. Assumes nothing.
 use mathlib.Core.Path.{_≡_, refl, sym, ap, ap₂, _∙_}
-use mathlib.Core.List.{List}
 use Prim.Native.Nat.{ℕ, _+_, _*_, _%_}
 use native.Mathlib.Omega.{arith}
-use lib.ListN.{length, getD}
+use lib.ListN.{length}
 use lib.IntN.{natAbs}
 use mir.Syntax.{w64}
 use mir.ValLaws.{toZ-ofZ}
-use Rattle.tiles.specs.declared.BandsAnswer.{BandsAnswer}
+use Rattle.tiles.specs.declared.NumberAnswer.{NumberAnswer}
+use Rattle.tiles.specs.LookUp.{bandsIn}
 use Rattle.tiles.proofs.Pixel.{InStore, part-ends, part-length, bands-told, held}
 use borrow.Author.Needs.{needs}
 use Rattle.tiles.proofs.look_up.bands.Statement.{statement}
@@ -64,21 +64,14 @@ shared-slice-read-t27 c = omega (arith, long (c .before .before .before .before 
 enum-known-e : tie.Need-enum-known-e
 enum-known-e c = search needs
 
--- the three values at a place of a tile's band
-abbrev bandsAt : List ℕ → ℕ → BandsAnswer
-bandsAt p i = BandsAnswer.Bands (getD p i 0) (getD p (i + 16384) 0) (getD p (i + 32768) 0)
-
-made : {p q : List ℕ} {r s c d : ℕ} → p ≡ q → r ≡ s → c ≡ d
-    → bandsAt p (r % 128 * 128 + c % 128) ≡ bandsAt q (s % 128 * 128 + d % 128)
-made e f g = ap₂ bandsAt e (ap₂ (λ (x y : ℕ). x % 128 * 128 + y % 128) f g)
-
 returns : tie.Need-returns
 returns c =
     let s = c .before .before .before .before .before .before .before .before .before .before .before .before in
     let n = c .before .before .before .before .before .before .before in
-    made (c .before .before .before .before .before .part .ensures)
+    ap₂ (bandsIn (NumberAnswer.Stored (n .n .given .0 .0))) (c .before .before .before .before .before .part .ensures)
+    (ap₂ (λ (x y : ℕ). x % 128 * 128 + y % 128)
     (c .before .before .before .before .size .ensures ∙ ap natAbs (toZ-ofZ w64 (s .args .row) (s .fits .row)))
-    (c .before .before .before .size2 .ensures ∙ ap natAbs (toZ-ofZ w64 (s .args .column) (s .fits .column)))
+    (c .before .before .before .size2 .ensures ∙ ap natAbs (toZ-ofZ w64 (s .args .column) (s .fits .column))))
     ∙ sym (bands-told _ _ _ _ _ _ (s .fits .row) (s .fits .column) (n .before .before .stored-number .ensures) (n .n .given .1))
 
 returns-2 : tie.Need-returns-2

@@ -13,7 +13,6 @@ use Rattle.card.specs.Grid.{verdictOf}
 use Rattle.tiles.specs.declared.NumberAnswer.{NumberAnswer}
 use Rattle.tiles.specs.Index.{tiles, tileOf, indexWrong, saidOf}
 use Rattle.tiles.specs.LookUp.{numberSaid, foundOf, numberOf}
-use Rattle.tiles.proofs.Sized.{known-sized}
 use Rattle.tiles.proofs.Entry.{tiles-small, count-most}
 use Rattle.tiles.proofs.Pixel.{tile-in}
 use borrow.Author.Needs.{needs}
@@ -57,7 +56,7 @@ small : (c : tie.After-enum-told) → let a = c .before .before .before .before 
 small c = omega (
   arith,
   inside c,
-  tiles-small _ (known-sized _ (c .before .before .before .before .before .before .before .before .pre)),
+  tiles-small _ (c .before .before .before .before .before .before .before .before .pre),
 )
 
 rows : (c : tie.After-size)
@@ -75,7 +74,7 @@ here c =
     (c .size2 .ensures ∙ ap natAbs (toZ-ofZ w64 (s .args .column) (s .fits .column)))
 
 index-wrong-requires : tie.Need-index-wrong-requires
-index-wrong-requires c κs = known-sized _ (c .before .before .pre)
+index-wrong-requires c κs = search needs
 
 refused-requires : tie.Need-refused-requires
 refused-requires c κs = search needs
@@ -87,7 +86,7 @@ returns c = rw (sym (c .before .before .index-wrong .ensures) ∙ c .before .if1
 
 mul-if2 : tie.Need-mul-if2
 mul-if2 c = let s = c .before .before .before .before in
-    omega (arith, tiles-small _ (known-sized _ (s .pre)), count-most _ _ _ (right c))
+    omega (arith, tiles-small _ (s .pre), count-most _ _ _ (right c))
 
 refused-requires-2 : tie.Need-refused-requires-2
 refused-requires-2 c κs = search needs
@@ -118,7 +117,7 @@ add-tile c = omega (arith, small (c .before .before .before), here c)
 
 index-says-requires : tie.Need-index-says-requires
 index-says-requires c κs = (
-  known-sized _ (c .before .before .before .before .before .before .before .before .before .before .before .pre),
+  c .before .before .before .before .before .before .before .before .before .before .before .pre,
   (
     right (c .before .before .before .before .before .before .before),
     rw (here c) (inside (c .before .before .before)),

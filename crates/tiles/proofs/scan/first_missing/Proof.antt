@@ -6,6 +6,7 @@ use native.Mathlib.Omega.{arith}
 use native.Mathlib.Nat.{mul-le-mul}
 use lib.ListN.{length}
 use borrow.Author.Needs.{needs}
+use Rattle.card.proofs.Laid.{known-laid}
 use Rattle.tiles.specs.declared.Said.{Said}
 use Rattle.tiles.specs.declared.WindowAnswer.{WindowAnswer}
 use Rattle.whole.specs.Lists.{upFrom}
@@ -40,7 +41,8 @@ small : (c : tie.After-struct-known Inv-loop μ-loop Inv-rows μ-rows)
     → let a = c .before .before .before .before .args in (a .top + c .before .before .rows .r) * a .k .nfc ≤ 999 * 999
 small c =
     let s = c .before .before .before .before in
-    mul-le-mul {n₂ = 999} {m₂ = 999} (omega (arith, s .pre .down, s .pre .sized .rows)) (s .pre .sized .columns)
+    let l = known-laid _ (s .pre .known) in
+    mul-le-mul {n₂ = 999} {m₂ = 999} (omega (arith, s .pre .down, l .down-most)) (l .across-most)
 
 abbrev here : tie.In-loop Inv-loop μ-loop Inv-rows μ-rows → ℕ
 here c =
@@ -80,7 +82,7 @@ rows-holds c =
     (refl, omega arith, rw (e, f))
 
 add-start : tie.Need-add-start Inv-loop μ-loop Inv-rows μ-rows
-add-start c = omega (arith, c .before .before .before .pre .down, c .before .before .before .pre .sized .rows)
+add-start c = omega (arith, c .before .before .before .pre .down, known-laid _ (c .before .before .before .pre .known) .down-most)
 
 mul-start : tie.Need-mul-start Inv-loop μ-loop Inv-rows μ-rows
 mul-start c = omega (arith, small c)
@@ -90,7 +92,7 @@ add-start-2 c = omega (
   arith,
   small c,
   c .before .before .before .before .pre .across,
-  c .before .before .before .before .pre .sized .columns,
+  known-laid _ (c .before .before .before .before .pre .known) .across-most,
 )
 
 loop-holds : tie.Need-loop-holds Inv-loop μ-loop Inv-rows μ-rows

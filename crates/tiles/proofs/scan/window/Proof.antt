@@ -7,7 +7,6 @@ use lib.Dec.{ltb}
 use Rattle.tiles.specs.declared.WindowAnswer.{WindowAnswer}
 use Rattle.tiles.specs.Index.{indexWrong}
 use Rattle.tiles.specs.Window.{windowTiles, viewOf, windowOf}
-use Rattle.tiles.proofs.Sized.{known-sized}
 use Rattle.tiles.proofs.Entry.{neither, index-long}
 use Rattle.tiles.proofs.Ahead.{scan-all}
 use borrow.Author.Needs.{needs}
@@ -26,7 +25,7 @@ past : (c : tie.After-reaches-past2) → let a = c .before .before .before .befo
 past c = ap₂ (λ (x y : Bool). x || y) (sym (c .before .reaches-past .ensures)) (sym (c .reaches-past2 .ensures))
 
 index-wrong-requires : tie.Need-index-wrong-requires
-index-wrong-requires c κs = known-sized _ (c .before .pre)
+index-wrong-requires c κs = search needs
 
 refused-requires : tie.Need-refused-requires
 refused-requires c κs = search needs
@@ -66,7 +65,7 @@ first-missing-requires c κs =
     let s = c .before .before .before .before .before .before .before .before in
     let n = neither _ _ (past (c .before .before .before) ∙ c .before .before .if2 .left) in
     record {
-      sized = known-sized _ (s .pre);
+      known = s .pre;
       indexed = not-false _ (c .if3 .left);
       long = index-long _ _ _ (right (c .before .before .before .before .before)) (not-false _ (c .if3 .left));
       down = ltb-false _ _ (n .0);
