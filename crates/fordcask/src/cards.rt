@@ -3,13 +3,13 @@ use crate::parts::CardParts;
 use crate::parts::RecordParts;
 use arc::Refusal;
 use arc::Verdict;
-use card::PixelAnswer;
+use card::Card;
 use card::PixelParts;
-use card::PlaceAnswer;
 use card::PlaceParts;
-use card::PositionAnswer;
 use card::PositionParts;
 use card::Record;
+use lists::Asked;
+use lists::PairParts;
 ghost use mathlib.Core.Path.{_≡_};
 ghost use lib.ListN.{length};
 ghost use Rattle.arc.specs.declared.Verdict.{Verdict};
@@ -17,11 +17,13 @@ ghost use Rattle.arc.specs.Refusals.{refusalOf};
 ghost use Rattle.card.specs.declared.PlaceAnswer.{PlaceAnswer};
 ghost use Rattle.card.specs.declared.PositionAnswer.{PositionAnswer};
 ghost use Rattle.card.specs.declared.PixelAnswer.{PixelAnswer};
-ghost use Rattle.card.specs.Read.{readOf, onCard};
+ghost use Rattle.card.specs.Read.{readOf, onCard, Known};
 ghost use Rattle.card.specs.Write.{writeOf, outOf};
 ghost use Rattle.card.specs.Grid.{placeOf, placeReport, placeTold, positionOf, positionReport, positionTold, pixelOf, pixelReport, pixelTold};
-ghost use Rattle.lists.specs.Lists.{listsVerdict, positionReportAt, pixelReportAt, valuesLeft, numbersLeft};
+ghost use Rattle.lists.specs.Lists.{listsVerdict, reportAt, positionReportAt, pixelReportAt, valuesLeft, numbersLeft};
+ghost use Rattle.lists.specs.Steps.{pairTold};
 ghost use Rattle.fordcask.specs.Entry.{cardParts, recordFrom};
+ghost use Rattle.fordcask.specs.Steps.{pairReport, pairOnCard};
 
 // Reads a card. Refuses 1, 2, 3, 6, the subfields' 7 and 8, 9, 10, 11.
 #[no_mangle]
@@ -78,6 +80,74 @@ pub extern "C" fn fordcask_write_card(
     card_text::write_card(scale, zone, record, out).refusal()
 }
 
+// What is asked of a pair on a card: the place or the position of a pixel, or the pixel at a position.
+enum PairAsked {
+    Place,
+    Position,
+    Pixel,
+}
+
+// What is told of a pair on an accepted card.
+fn pair_of(k: Card, asked: PairAsked, first: i64, second: i64) -> PairParts
+    requires { ⌜ Known k ⌝ }
+    ensures { λ r. ⌜ pairTold r ≡ pairReport asked k first second ⌝ }
+{
+    match asked {
+        PairAsked::Place => {
+            let p = k.place(first, second).into_parts();
+            PairParts {
+                number: p.number,
+                at: p.at,
+                first: p.row,
+                second: p.column,
+            }
+        }
+        PairAsked::Position => {
+            let p = k.position(first, second).into_parts();
+            PairParts {
+                number: p.number,
+                at: p.at,
+                first: p.lat,
+                second: p.lon,
+            }
+        }
+        PairAsked::Pixel => {
+            let p = k.pixel(first, second).into_parts();
+            PairParts {
+                number: p.number,
+                at: p.at,
+                first: p.row,
+                second: p.column,
+            }
+        }
+    }
+}
+
+// What is told of a pair on a card: reading's refusal first.
+fn pair_on_card(
+    scale: u64,
+    zone: u64,
+    card: &[u8],
+    asked: PairAsked,
+    first: i64,
+    second: i64,
+) -> PairParts
+    ensures { λ r. ⌜ pairTold r ≡ pairOnCard asked (readOf scale zone (now (card .entry))) first second ⌝ }
+{
+    let reading = card_text::read_card(scale, zone, card);
+    let verdict = reading.verdict;
+    let k = reading.card;
+    match verdict {
+        Verdict::Accepted => pair_of(k, asked, first, second),
+        Verdict::Refused(e) => PairParts {
+            number: e.number,
+            at: e.at,
+            first: 0,
+            second: 0,
+        },
+    }
+}
+
 // The place of a pixel. Refuses reading's numbers, then 12.
 #[no_mangle]
 pub extern "C" fn fordcask_place(
@@ -90,12 +160,12 @@ pub extern "C" fn fordcask_place(
     ensures { λ r. ⌜ placeTold r
         ≡ placeReport (onCard (readOf scale zone (now (card .entry))) PlaceAnswer.Refused (λ k. placeOf k row column)) ⌝ }
 {
-    let reading = card_text::read_card(scale, zone, card);
-    let verdict = reading.verdict;
-    let k = reading.card;
-    match verdict {
-        Verdict::Accepted => k.place(row, column).into_parts(),
-        Verdict::Refused(e) => PlaceAnswer::Refused(e).into_parts(),
+    let p = pair_on_card(scale, zone, card, PairAsked::Place, row, column);
+    PlaceParts {
+        number: p.number,
+        at: p.at,
+        row: p.first,
+        column: p.second,
     }
 }
 
@@ -111,12 +181,12 @@ pub extern "C" fn fordcask_position(
     ensures { λ r. ⌜ positionTold r
         ≡ positionReport (onCard (readOf scale zone (now (card .entry))) PositionAnswer.Refused (λ k. positionOf k row column)) ⌝ }
 {
-    let reading = card_text::read_card(scale, zone, card);
-    let verdict = reading.verdict;
-    let k = reading.card;
-    match verdict {
-        Verdict::Accepted => k.position(row, column).into_parts(),
-        Verdict::Refused(e) => PositionAnswer::Refused(e).into_parts(),
+    let p = pair_on_card(scale, zone, card, PairAsked::Position, row, column);
+    PositionParts {
+        number: p.number,
+        at: p.at,
+        lat: p.first,
+        lon: p.second,
     }
 }
 
@@ -132,12 +202,38 @@ pub extern "C" fn fordcask_pixel(
     ensures { λ r. ⌜ pixelTold r
         ≡ pixelReport (onCard (readOf scale zone (now (card .entry))) PixelAnswer.Refused (λ k. pixelOf k lat lon)) ⌝ }
 {
+    let p = pair_on_card(scale, zone, card, PairAsked::Pixel, lat, lon);
+    PixelParts {
+        number: p.number,
+        at: p.at,
+        row: p.first,
+        column: p.second,
+    }
+}
+
+// The answers to a list of pairs, the card read once. Refuses reading's numbers, then 6; on a refusal both lists stay.
+fn list_on_card(
+    scale: u64,
+    zone: u64,
+    card: &[u8],
+    asked: Asked,
+    list: &[i64],
+    values: &mut [i64],
+    numbers: &mut [u32],
+) -> Refusal
+    ensures answer { λ r. ⌜ r ≡ refusalOf (onCard (readOf scale zone (now (card .entry))) Verdict.Refused
+        (λ k. listsVerdict (length (now (list .entry))) (length (now (values .entry))) (length (now (numbers .entry))))) ⌝ }
+    ensures values { λ _. ⌜ now (values .exit) ≡ onCard (readOf scale zone (now (card .entry))) (λ e. now (values .entry))
+        (λ k. valuesLeft (reportAt asked k) (now (list .entry)) (now (values .entry)) (now (numbers .entry))) ⌝ }
+    ensures numbers { λ _. ⌜ now (numbers .exit) ≡ onCard (readOf scale zone (now (card .entry))) (λ e. now (numbers .entry))
+        (λ k. numbersLeft (reportAt asked k) (now (list .entry)) (now (values .entry)) (now (numbers .entry))) ⌝ }
+{
     let reading = card_text::read_card(scale, zone, card);
     let verdict = reading.verdict;
     let k = reading.card;
     match verdict {
-        Verdict::Accepted => k.pixel(lat, lon).into_parts(),
-        Verdict::Refused(e) => PixelAnswer::Refused(e).into_parts(),
+        Verdict::Accepted => lists::answer_list(k, asked, list, values, numbers).refusal(),
+        Verdict::Refused(e) => e,
     }
 }
 
@@ -158,13 +254,15 @@ pub extern "C" fn fordcask_positions(
     ensures numbers { λ _. ⌜ now (numbers .exit) ≡ onCard (readOf scale zone (now (card .entry))) (λ e. now (numbers .entry))
         (λ k. numbersLeft (positionReportAt k) (now (pixels .entry)) (now (positions .entry)) (now (numbers .entry))) ⌝ }
 {
-    let reading = card_text::read_card(scale, zone, card);
-    let verdict = reading.verdict;
-    let k = reading.card;
-    match verdict {
-        Verdict::Accepted => lists::positions(k, pixels, positions, numbers).refusal(),
-        Verdict::Refused(e) => e,
-    }
+    list_on_card(
+        scale,
+        zone,
+        card,
+        Asked::Positions,
+        pixels,
+        positions,
+        numbers,
+    )
 }
 
 // The pixels of a list of positions, likewise.
@@ -184,11 +282,5 @@ pub extern "C" fn fordcask_pixels(
     ensures numbers { λ _. ⌜ now (numbers .exit) ≡ onCard (readOf scale zone (now (card .entry))) (λ e. now (numbers .entry))
         (λ k. numbersLeft (pixelReportAt k) (now (positions .entry)) (now (pixels .entry)) (now (numbers .entry))) ⌝ }
 {
-    let reading = card_text::read_card(scale, zone, card);
-    let verdict = reading.verdict;
-    let k = reading.card;
-    match verdict {
-        Verdict::Accepted => lists::pixels(k, positions, pixels, numbers).refusal(),
-        Verdict::Refused(e) => e,
-    }
+    list_on_card(scale, zone, card, Asked::Pixels, positions, pixels, numbers)
 }

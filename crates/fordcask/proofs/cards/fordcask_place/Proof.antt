@@ -1,60 +1,20 @@
--- An accepted card answers, and a refused one gives its refusal. Assumes nothing.
-use mathlib.Core.Path.{ap, _∙_}
-use mir.Syntax.{w64}
-use mir.ValLaws.{toZ-ofZ}
-use Rattle.card.specs.declared.Card.{Card}
-use Rattle.card.specs.declared.PlaceAnswer.{PlaceAnswer}
-use Rattle.card.specs.Grid.{placeReport, placeOf}
-use Rattle.card.proofs.Questions.{card-known, card-answers, card-refuses}
+-- The parts of what is told of the pair. Assumes nothing.
+use Rattle.card.specs.Read.{readOf}
+use Rattle.lists.proofs.Told.{pair-held}
+use Rattle.fordcask.specs.declared.cards.PairAsked.{PairAsked}
+use Rattle.fordcask.specs.Steps.{pairOnCard}
 use borrow.Author.Needs.{needs}
 use Rattle.fordcask.proofs.cards.fordcask_place.Statement.{statement}
 use Rattle.fordcask.proofs.cards.fordcask_place.Tie as tie
 
-read-card-requires : tie.Need-read-card-requires
-read-card-requires c κs = search needs
-
-enum-told : tie.Need-enum-told
-enum-told c = search needs
-
-place-requires : tie.Need-place-requires
-place-requires c κs =
-    let s = c .before .before .before .before .before in
-    card-known (s .args .scale) (s .args .zone) (s .args .card .now) (c .before .before .before .read-card .ensures) (c .enum-told .given .1)
-
-into-parts-requires : tie.Need-into-parts-requires
-into-parts-requires c κs = search needs
-
-enum-known-verdict : tie.Need-enum-known-verdict
-enum-known-verdict c = search needs
-
-into-parts-requires-2 : tie.Need-into-parts-requires-2
-into-parts-requires-2 c κs = search needs
+pair-on-card-requires : tie.Need-pair-on-card-requires
+pair-on-card-requires c κs = search needs
 
 returns : tie.Need-returns
 returns c =
-    let s = c .before .before .before .before .before .before .before in
-    c .into-parts .ensures
-    ∙ ap placeReport
-    (rw (toZ-ofZ w64 (s .args .row) (s .fits .row), toZ-ofZ w64 (s .args .column) (s .fits .column)) at (c .before .place .ensures)
-    ∙ card-answers (s .args .scale) (s .args .zone) (s .args .card .now) (c .before .before .before .before .before .read-card .ensures)
-    PlaceAnswer.Refused (λ (k : Card). placeOf k (s .args .row) (s .args .column)) (c .before .before .enum-told .given .1))
-
-returns-2 : tie.Need-returns-2
-returns-2 c =
-    let s = c .before .before .before .before .before .before .before in
-    c .into-parts2 .ensures
-    ∙ ap placeReport (card-refuses (s .args .scale) (s .args .zone) (s .args .card .now) (c .before .before .before .before .before .read-card .ensures)
-    PlaceAnswer.Refused (λ (k : Card). placeOf k (s .args .row) (s .args .column)) (c .before .before .verdict .given .1))
+    let s = c .before .before .before in
+    pair-held (pairOnCard PairAsked.Place (readOf (s .args .scale) (s .args .zone) (s .args .card .now))) (s .fits .row) (s .fits .column)
+    (record { sfits = c .struct-told .given .1 .1 .0 .1 }) (record { sfits = c .struct-told .given .1 .1 .1 .0 .1 }) (c .before .pair-on-card .ensures)
 
 pub fordcask-place-spec : {M : Type 1} → statement M
-fordcask-place-spec =
-    tie.close
-    (tie.spec
-    read-card-requires
-    enum-told
-    place-requires
-    into-parts-requires
-    enum-known-verdict
-    into-parts-requires-2
-    returns
-    returns-2)
+fordcask-place-spec = tie.close (tie.spec pair-on-card-requires returns)
