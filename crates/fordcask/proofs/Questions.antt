@@ -12,7 +12,7 @@ use Rattle.card.specs.declared.Reading.{Reading}
 use Rattle.card.specs.Read.{acceptedCard}
 use Rattle.tiles.specs.declared.NumberAnswer.{NumberAnswer}
 use Rattle.tiles.specs.LookUp.{numberOf, partIn, partOf}
-use Rattle.fordcask.specs.declared.cards.PairAsked.{PairAsked}
+use Rattle.fordcask.specs.declared.pairs.PairAsked.{PairAsked}
 use Rattle.fordcask.specs.Entry.{tileParts, TileIsPart}
 use Rattle.fordcask.specs.Steps.{pairReport, pairOnCard}
 

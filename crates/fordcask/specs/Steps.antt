@@ -1,7 +1,6 @@
 -- What only the code needs: the three questions on a pair as one (01, "Origins and the zone grid"). Definitions only.
 --     pairReport asked k u v     the report of the place or the position of pixel (u, v), or of the pixel at position (u, v)
 --     pairOnCard asked x u v     the same on a card as it was read
-use mathlib.Core.List.{[], _∷_}
 use lib.IntN.{ℤ}
 use Rattle.arc.specs.Refusals.{Report}
 use Rattle.card.specs.declared.Card.{Card}
@@ -11,7 +10,7 @@ use Rattle.card.specs.declared.PositionAnswer.{PositionAnswer}
 use Rattle.card.specs.declared.PixelAnswer.{PixelAnswer}
 use Rattle.card.specs.Read.{onCard}
 use Rattle.card.specs.Grid.{placeOf, placeReport, positionOf, positionReport, pixelOf, pixelReport}
-use Rattle.fordcask.specs.declared.cards.PairAsked.{PairAsked}
+use Rattle.fordcask.specs.declared.pairs.PairAsked.{PairAsked}
 
 abbrev pub pairReport : PairAsked → Card → ℤ → ℤ → Report
 pairReport PairAsked.Place k u v = placeReport (placeOf k u v)

@@ -5,8 +5,8 @@ use mir.ValLaws.{toZ-ofZ}
 use Rattle.card.proofs.Questions.{card-known}
 use Rattle.fordcask.proofs.Questions.{pair-answers, pair-refuses}
 use borrow.Author.Needs.{needs}
-use Rattle.fordcask.proofs.cards.pair_on_card.Statement.{statement}
-use Rattle.fordcask.proofs.cards.pair_on_card.Tie as tie
+use Rattle.fordcask.proofs.pairs.pair_on_card.Statement.{statement}
+use Rattle.fordcask.proofs.pairs.pair_on_card.Tie as tie
 
 read-card-requires : tie.Need-read-card-requires
 read-card-requires c κs = search needs

@@ -2,11 +2,11 @@
 use mathlib.Core.Path.{ap, _∙_}
 use Rattle.card.specs.Grid.{placeReport, positionReport, pixelReport}
 use Rattle.lists.proofs.Told.{pair-held}
-use Rattle.fordcask.specs.declared.cards.PairAsked.{PairAsked}
+use Rattle.fordcask.specs.declared.pairs.PairAsked.{PairAsked}
 use Rattle.fordcask.specs.Steps.{pairReport}
 use borrow.Author.Needs.{needs}
-use Rattle.fordcask.proofs.cards.pair_of.Statement.{statement}
-use Rattle.fordcask.proofs.cards.pair_of.Tie as tie
+use Rattle.fordcask.proofs.pairs.pair_of.Statement.{statement}
+use Rattle.fordcask.proofs.pairs.pair_of.Tie as tie
 
 enum-told : tie.Need-enum-told
 enum-told c = search needs

@@ -8,8 +8,8 @@ use Rattle.card.specs.declared.Card.{Card}
 use Rattle.lists.specs.Lists.{listsVerdict, reportAt, valuesLeft, numbersLeft}
 use Rattle.card.proofs.Questions.{card-known, card-answers, card-refuses}
 use borrow.Author.Needs.{needs}
-use Rattle.fordcask.proofs.cards.list_on_card.Statement.{statement}
-use Rattle.fordcask.proofs.cards.list_on_card.Tie as tie
+use Rattle.fordcask.proofs.pairs.list_on_card.Statement.{statement}
+use Rattle.fordcask.proofs.pairs.list_on_card.Tie as tie
 
 read-card-requires : tie.Need-read-card-requires
 read-card-requires c κs = search needs
