@@ -21,8 +21,6 @@ use Rattle.card.specs.declared.PixelAnswer.{PixelAnswer}
 use Rattle.whole.specs.Lists.{over, each}
 use Rattle.card.specs.Grid.{positionOf, pixelOf, positionReport, pixelReport}
 use Rattle.lists.specs.declared.Asked.{Asked}
-use Rattle.lists.specs.declared.Pair.{Pair}
-use Rattle.lists.specs.Steps.{pairTold}
 use Rattle.lists.specs.Lists.{pairs, listsFit, pairAt, reportAt, reportValues, reportNumbers}
 
 module _ {A : Type 0} where
@@ -108,17 +106,6 @@ module _ (f : ℕ → Report) where
               ∙ ap (λ (s : List ℕ). over s num)
               (ap (λ (k : ℕ). reportNumbers i f ++ k ∷ []) (sym en) ∙ ap (λ (k : ℕ). reportNumbers k f) (sym (add-one i)));
         }
-
--- ---- what is told of a pair, each signed number as the machine holds it: p is the pair handed in, x and y the value parts of the answer
-module _ {A : Type 0} (report : A → Report) (f : ℤ → ℤ → A) (p : Pair) (n at : ℕ) (x y : ℤ)
-    (first : SFits w64 (p .first)) (second : SFits w64 (p .second)) (fx : SFits w64 x) (fy : SFits w64 y) where
-  pub pair-told : {a : A} {q : Pair} → record { number = n; place = at; values = x ∷ y ∷ [] } ≡ report a
-      → a ≡ f (toZ w64 (ofZ w64 (p .first))) (toZ w64 (ofZ w64 (p .second))) → p ≡ q
-      → pairTold (record { number = n; at = at; first = toZ w64 (ofZ w64 x); second = toZ w64 (ofZ w64 y) }) ≡ report (f (q .first) (q .second))
-  pair-told told asked same =
-      ap₂ (λ (u v : ℤ). pairTold (record { number = n; at = at; first = u; second = v })) (toZ-ofZ w64 x fx) (toZ-ofZ w64 y fy)
-      ∙ told
-      ∙ ap report (asked ∙ ap₂ f (toZ-ofZ w64 (p .first) first) (toZ-ofZ w64 (p .second) second) ∙ ap (λ (r : Pair). f (r .first) (r .second)) same)
 
 -- ---- two value parts, in a refusal too
 position-values : (a : PositionAnswer) → length (positionReport a .values) ≡ 2

@@ -1,6 +1,10 @@
 -- The engine's answer to the pair, in parts. Assumes nothing.
+use mathlib.Core.Path.{ap, _∙_}
+use lib.IntN.{ℤ}
+use Rattle.arc.specs.Refusals.{Report}
 use Rattle.card.specs.Grid.{positionReport, pixelReport, positionOf, pixelOf}
-use Rattle.lists.proofs.Filling.{pair-told}
+use Rattle.lists.specs.declared.Pair.{Pair}
+use Rattle.lists.proofs.Told.{pair-held}
 use borrow.Author.Needs.{needs}
 use Rattle.lists.proofs.answer_pair.Statement.{statement}
 use Rattle.lists.proofs.answer_pair.Tie as tie
@@ -30,23 +34,25 @@ returns : tie.Need-returns
 returns c =
     let d = c .before .before in
     let f = d .before .before .before in
-    let p = c .before .into-parts .result in
+    let told : ℤ → ℤ → Report = λ x y. positionReport (positionOf (f .before .before .before .args .e .card) x y) in
     rw (f .enum-told .given .1)
-    (pair-told positionReport (positionOf _) _ _ _ (p .lat) (p .lon)
+    (pair-held told
     (record { sfits = d .before .before .struct-told .given .0 .1 }) (record { sfits = d .before .struct-told2 .given .1 .0 .1 })
     (record { sfits = c .struct-told3 .given .1 .1 .0 .1 }) (record { sfits = c .struct-told3 .given .1 .1 .1 .0 .1 })
-    (c .before .into-parts .ensures) (d .position .ensures) (f .before .before .pair-at .ensures))
+    (c .before .into-parts .ensures ∙ ap positionReport (d .position .ensures))
+    ∙ ap (λ (p : Pair). told (p .first) (p .second)) (f .before .before .pair-at .ensures))
 
 returns-2 : tie.Need-returns-2
 returns-2 c =
     let d = c .before .before in
     let f = d .before .before .before in
-    let p = c .before .into-parts2 .result in
+    let told : ℤ → ℤ → Report = λ x y. pixelReport (pixelOf (f .before .before .before .args .e .card) x y) in
     rw (f .enum-told2 .given .1)
-    (pair-told pixelReport (pixelOf _) _ _ _ (p .row) (p .column)
+    (pair-held told
     (record { sfits = d .before .before .struct-told4 .given .0 .1 }) (record { sfits = d .before .struct-told5 .given .1 .0 .1 })
     (record { sfits = c .struct-told6 .given .1 .1 .0 .1 }) (record { sfits = c .struct-told6 .given .1 .1 .1 .0 .1 })
-    (c .before .into-parts2 .ensures) (d .pixel .ensures) (f .before .before .pair-at .ensures))
+    (c .before .into-parts2 .ensures ∙ ap pixelReport (d .pixel .ensures))
+    ∙ ap (λ (p : Pair). told (p .first) (p .second)) (f .before .before .pair-at .ensures))
 
 pub answer-pair-spec : {M : Type 1} → statement M
 answer-pair-spec =

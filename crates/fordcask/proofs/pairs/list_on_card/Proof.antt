@@ -5,11 +5,11 @@ use Rattle.arc.specs.declared.Refusal.{Refusal}
 use Rattle.arc.specs.declared.Verdict.{Verdict}
 use Rattle.arc.specs.Refusals.{refusalOf}
 use Rattle.card.specs.declared.Card.{Card}
-use Rattle.lists.specs.Lists.{listsVerdict, pixelReportAt, valuesLeft, numbersLeft}
+use Rattle.lists.specs.Lists.{listsVerdict, reportAt, valuesLeft, numbersLeft}
 use Rattle.card.proofs.Questions.{card-known, card-answers, card-refuses}
 use borrow.Author.Needs.{needs}
-use Rattle.fordcask.proofs.cards.fordcask_pixels.Statement.{statement}
-use Rattle.fordcask.proofs.cards.fordcask_pixels.Tie as tie
+use Rattle.fordcask.proofs.pairs.list_on_card.Statement.{statement}
+use Rattle.fordcask.proofs.pairs.list_on_card.Tie as tie
 
 read-card-requires : tie.Need-read-card-requires
 read-card-requires c κs = search needs
@@ -17,8 +17,8 @@ read-card-requires c κs = search needs
 enum-told : tie.Need-enum-told
 enum-told c = search needs
 
-pixels-requires : tie.Need-pixels-requires
-pixels-requires c κs =
+answer-list-requires : tie.Need-answer-list-requires
+answer-list-requires c κs =
     let s = c .before .before .before .before .before .before .before .before in
     card-known (s .args .scale) (s .args .zone) (s .args .card .now) (c .before .before .before .before .before .read-card .ensures)
     (c .before .before .enum-told .given .1)
@@ -38,21 +38,21 @@ same-length-2 c = search needs
 returns : tie.Need-returns
 returns c =
     let s = c .before .before .before .before .before .before .before .before .before .before .before .before .before in
-    let x = c .before .before .before .before .pixels .ensures in
+    let x = c .before .before .before .before .answer-list .ensures in
     let read = c .before .before .before .before .before .before .before .before .before .before .read-card .ensures in
     let v = c .before .before .before .before .before .before .before .enum-told .given .1 in (
       c .refusal .ensures
           ∙ ap refusalOf
           (x .0
           ∙ card-answers (s .args .scale) (s .args .zone) (s .args .card .now) read Verdict.Refused
-          (λ (k : Card). listsVerdict (length (s .args .positions .now)) (length (s .args .pixels .now)) (length (s .args .numbers .now))) v),
+          (λ (k : Card). listsVerdict (length (s .args .list .now)) (length (s .args .values .now)) (length (s .args .numbers .now))) v),
       (
         x .1 .0
-            ∙ card-answers (s .args .scale) (s .args .zone) (s .args .card .now) read (λ (e : Refusal). s .args .pixels .now)
-            (λ (k : Card). valuesLeft (pixelReportAt k) (s .args .positions .now) (s .args .pixels .now) (s .args .numbers .now)) v,
+            ∙ card-answers (s .args .scale) (s .args .zone) (s .args .card .now) read (λ (e : Refusal). s .args .values .now)
+            (λ (k : Card). valuesLeft (reportAt (s .args .asked) k) (s .args .list .now) (s .args .values .now) (s .args .numbers .now)) v,
         x .1 .1
             ∙ card-answers (s .args .scale) (s .args .zone) (s .args .card .now) read (λ (e : Refusal). s .args .numbers .now)
-            (λ (k : Card). numbersLeft (pixelReportAt k) (s .args .positions .now) (s .args .pixels .now) (s .args .numbers .now)) v,
+            (λ (k : Card). numbersLeft (reportAt (s .args .asked) k) (s .args .list .now) (s .args .values .now) (s .args .numbers .now)) v,
       ),
     )
 
@@ -62,24 +62,24 @@ returns-2 c =
     let v = c .before .verdict .given .1 in (
       ap refusalOf (card-refuses (s .args .scale) (s .args .zone) (s .args .card .now) (c .before .before .before .before .read-card .ensures)
           Verdict.Refused
-          (λ (k : Card). listsVerdict (length (s .args .positions .now)) (length (s .args .pixels .now)) (length (s .args .numbers .now))) v),
+          (λ (k : Card). listsVerdict (length (s .args .list .now)) (length (s .args .values .now)) (length (s .args .numbers .now))) v),
       (
         card-refuses (s .args .scale) (s .args .zone) (s .args .card .now) (c .before .before .before .before .read-card .ensures)
-            (λ (e : Refusal). s .args .pixels .now)
-            (λ (k : Card). valuesLeft (pixelReportAt k) (s .args .positions .now) (s .args .pixels .now) (s .args .numbers .now)) v,
+            (λ (e : Refusal). s .args .values .now)
+            (λ (k : Card). valuesLeft (reportAt (s .args .asked) k) (s .args .list .now) (s .args .values .now) (s .args .numbers .now)) v,
         card-refuses (s .args .scale) (s .args .zone) (s .args .card .now) (c .before .before .before .before .read-card .ensures)
             (λ (e : Refusal). s .args .numbers .now)
-            (λ (k : Card). numbersLeft (pixelReportAt k) (s .args .positions .now) (s .args .pixels .now) (s .args .numbers .now)) v,
+            (λ (k : Card). numbersLeft (reportAt (s .args .asked) k) (s .args .list .now) (s .args .values .now) (s .args .numbers .now)) v,
       ),
     )
 
-pub fordcask-pixels-spec : {M : Type 1} → statement M
-fordcask-pixels-spec =
+pub list-on-card-spec : {M : Type 1} → statement M
+list-on-card-spec =
     tie.close
     (tie.spec
     read-card-requires
     enum-told
-    pixels-requires
+    answer-list-requires
     refusal-requires
     enum-known-verdict
     same-length
