@@ -57,14 +57,14 @@ pub record Opening (s : List ℕ) (o : Opened) : Type 0 where
   pub known : o .more ≡ true → Known (o .card)
   pub small : o .more ≡ true → length s ≤ 65536
 
-shut : (s x : List ℕ) → length x ≤ 64 → Opening s (closed x)
+shut : (s x : List ℕ) → length x ≤ 64 → Opening s (closed x (length s))
 shut s x h = record { short = h; known = λ e. absurd (false≢true e); small = λ e. absurd (false≢true e) }
 
-with-card : (s : List ℕ) → length s ≤ 65536 → (o : Option Pair) (card : List ℕ) (next : ℕ) → Opening s (openedCard o card next)
+with-card : (s : List ℕ) → length s ≤ 65536 → (o : Option Pair) (card : List ℕ) (next : ℕ) → Opening s (openedCard o card next (length s))
 with-card s h none card next = shut s badLine (omega arith)
 with-card s h (some p) card next = verdict (readOf (p .left) (p .right) card .verdict) (readOf (p .left) (p .right) card .card) refl
   where
-    verdict : (v : Verdict) (k : Card) → readOf (p .left) (p .right) card ≡ record { verdict = v; card = k } → Opening s (openedWith v k next)
+    verdict : (v : Verdict) (k : Card) → readOf (p .left) (p .right) card ≡ record { verdict = v; card = k } → Opening s (openedWith v k next (length s))
     verdict Verdict.Accepted k e =
         record {
           short = omega arith;
@@ -79,9 +79,9 @@ unfolding openingFor openingOf
 openings s out = split (leb 64 (length out)) (ltb 65536 (length s)) (leb (length s) (nextAt s 0)) refl
   where
     rest : Opened
-    rest = openedCard (numbersOf (lineAt s 0)) (lineAt s (nextAt s 0)) (nextAt s (nextAt s 0))
+    rest = openedCard (numbersOf (lineAt s 0)) (lineAt s (nextAt s 0)) (nextAt s (nextAt s 0)) (length s)
 
-    split : (t u v : Bool) → ltb 65536 (length s) ≡ u → Opening s (cond t (cond u (closed tooLong) (cond v (closed badLine) rest)) (closed []))
+    split : (t u v : Bool) → ltb 65536 (length s) ≡ u → Opening s (cond t (cond u (closed tooLong (length s)) (cond v (closed badLine (length s)) rest)) (closed [] (length s)))
     split true true v e = shut s tooLong (omega arith)
     split true false true e = shut s badLine (omega arith)
     split true false false e = with-card s (ltb-false 65536 (length s) e) (numbersOf (lineAt s 0)) (lineAt s (nextAt s 0)) (nextAt s (nextAt s 0))
