@@ -5,7 +5,7 @@ use mathlib.Core.Bool.{Bool, true, false, cond, _&&_, and-eq-true-iff}
 use Prim.Native.Nat.{ℕ, _+_, _-_, _*_, _/_, _%_, _≤_, _<_}
 use native.Mathlib.Nat.{add-mul-mod-self-right}
 use native.Mathlib.Omega.{arith}
-use borrow.Author.Tests.{leb-true, le-leb, lt-ltb}
+use borrow.Author.Tests.{le-leb, lt-ltb}
 use lib.Dec.{leb}
 use lib.IntN.{ℤ, pos, _+ℤ_, _-ℤ_, _*ℤ_}
 use Rattle.whole.specs.Whole.{near, nearest, modulo, outside, raise}
@@ -19,6 +19,7 @@ use Rattle.card.specs.declared.PlaceAnswer.{PlaceAnswer}
 use Rattle.card.specs.Read.{Accepted}
 use Rattle.card.specs.Grid.{placeRow, placeColumn, inTiles, inChart, extentsOf, rowOf, columnOf, verdictOf, placeOf, positionOf, pixelOf}
 use Rattle.card.specs.Copies.{Alike, AnswerAlike, AlikeExactly}
+use Rattle.card.proofs.Walked.{between}
 use Rattle.card.proofs.Laid.{Laid, accepted-laid, same-spacing}
 use Rattle.card.proofs.Axes.{east-high, row-is, column-place, column-at}
 use Rattle.card.proofs.Regions.{tiles-inside, chart-tiles}
@@ -52,9 +53,9 @@ module _ (j k : Card) (l : Laid j) (h : Alike j k) where
   chart-fits r c p q s t =
       let i : inChart j (pos r) (pos c) ≡ true = rw (le-leb (j .nul) r p, le-leb r (j .nll) q, le-leb (j .nls) c s, le-leb c (j .nus) t) in
       let x = and-eq-true-iff (leb (k .nul) r && leb r (k .nll)) (leb (k .nls) c && leb c (k .nus)) .0 (chart-kept (pos r) (pos c) i) in
-      let y = and-eq-true-iff (leb (k .nul) r) (leb r (k .nll)) .0 (x .0) in
-      let z = and-eq-true-iff (leb (k .nls) c) (leb c (k .nus)) .0 (x .1) in
-      (leb-true (k .nul) r (y .0), leb-true r (k .nll) (y .1), leb-true (k .nls) c (z .0), leb-true c (k .nus) (z .1))
+      let y = between (k .nul) r (k .nll) (x .0) in
+      let z = between (k .nls) c (k .nus) (x .1) in
+      (y .0, y .1, z .0, z .1)
 
   tiles-fit : (r c : ℕ) → r < 128 * j .nfl → c < 128 * j .nfc → (r < 128 * k .nfl) × (c < 128 * k .nfc)
   tiles-fit r c p q =
