@@ -1,5 +1,4 @@
 -- The index check: 6, then 15 at the first bad entry (01, "Tiles"). Definitions, and what they are held to.
---     occurs e l             e is among the entries l
 --     badAt count index i    the entry at i is above the count, or repeats one before it
 --     firstBad count index   the first such entry's place
 --     allNamed count index   each number 1 .. count occurs
@@ -13,14 +12,11 @@ use mathlib.Core.Option.{Option, some, none}
 use lib.Dec.{ltb, eqb}
 use lib.ListN.{length, getD, take, drop}
 use Rattle.whole.specs.Lists.{firstFrom, oneMore}
+pub use Rattle.whole.specs.Lists.{occurs}
 use Rattle.arc.specs.declared.Verdict.{Verdict}
 use Rattle.arc.specs.Refusals.{refusal, refusalAt}
 use Rattle.card.specs.declared.Card.{Card}
 use Rattle.tiles.specs.Index.{tiles, indexWrong, stored, above, saidOf}
-
-abbrev pub occurs : ℕ → List ℕ → Bool
-occurs e [] = false
-occurs e (x ∷ xs) = eqb x e || occurs e xs
 
 -- 0 may repeat
 abbrev pub badAt : ℕ → List ℕ → ℕ → Bool
