@@ -1,14 +1,14 @@
--- Laws of the spacing constants (001, 3.4.6), for every unit and every scale: the smallest whole number not below n / s,
--- as the code divides, is q with n ≤ q s < n + s. Assumes nothing.
+-- Laws of the spacing constants (001, 3.4.6), for every unit and every scale: the smallest whole number not below n / s is q
+-- with n ≤ q s < n + s. Assumes nothing.
 use mathlib.Core.Path.{_≡_, ap, _∙_}
 use mathlib.Core.Bool.{true, and-eq-true-iff}
 use Prim.Native.Nat.{ℕ, _+_, _-_, _*_, _/_, _≤_, _<_}
-use native.Mathlib.Nat.{div-add-mod', mod-lt, mul-assoc, lt-of-mul-lt-mul-right, add-mul, mul-le-mul-left, zero-mul}
+use native.Mathlib.Nat.{div-add-mod', mod-lt, mul-assoc, lt-of-mul-lt-mul-right, add-mul, mul-le-mul-left, zero-mul, div-zero, add-div-right}
 use native.Mathlib.Omega.{arith}
 use borrow.Author.Tests.{leb-true}
 use lib.Dec.{leb}
 use lib.IntN.{pos, natAbs}
-use Rattle.whole.specs.Whole.{ceilDiv}
+use Rattle.whole.specs.Whole.{floorDiv, ceilDiv}
 use Rattle.whole.proofs.Signed.{Is, is-nat, is-same, is-ceil, is-size}
 use Rattle.arc.specs.Spacing.{isScale, spacingAt, SpacingUnit, Spaced, Grid, SpacingIs, SpacingFalls, RowsAtLeast}
 
@@ -19,19 +19,32 @@ scale-least s g = leb-true 5000 s (and-eq-true-iff (leb 5000 s) (leb s 20000000)
 pub scale-most : (s : ℕ) → isScale s ≡ true → s ≤ 20000000
 scale-most s g = leb-true s 20000000 (and-eq-true-iff (leb 5000 s) (leb s 20000000) .0 g .1)
 
+-- the constant as a quotient of naturals
+pub divides : (u s : ℕ) → 0 < s → spacingAt u s ≡ 512 * ((u * 1000000 + (s - 1)) / s)
+unfolding spacingAt
+divides u s h =
+    let x : ℕ = u * 1000000 in
+    let e : Is (ceilDiv (pos x) s) ((x + (s - 1)) / s) 0 =
+    is-ceil (pos x) s x 0 h (is-same (pos x) x 0 x (0 * s) (is-nat x) (omega (arith, zero-mul s))) in
+    let f : natAbs (ceilDiv (pos x) s) ≡ (x + (s - 1)) / s - 0 + (0 - (x + (s - 1)) / s) = is-size (ceilDiv (pos x) s) ((x + (s - 1)) / s) 0 e in
+    ap (λ (n : ℕ). 512 * n) (omega arith)
+
+-- as the code divides
+pub divides-less : (u s : ℕ) → 1 ≤ u → 0 < s → spacingAt u s ≡ 512 * ((u * 1000000 - 1) / s + 1)
+divides-less u s k h =
+    divides u s h ∙ ap (λ (n : ℕ). 512 * n) (ap (λ (n : ℕ). n / s) (omega arith) ∙ add-div-right (u * 1000000 - 1) h)
+
+pub divides-none : (u : ℕ) → spacingAt u 0 ≡ 0
+unfolding spacingAt ceilDiv floorDiv
+divides-none u = ap (λ (n : ℕ). 512 * n) (div-zero (u * 1000000 + 0))
+
 module _ (u s : ℕ) (g : isScale s ≡ true) where
   q : ℕ
   q = (u * 1000000 + (s - 1)) / s
 
-  -- as the code divides
-  pub divides : spacingAt u s ≡ 512 * ((u * 1000000 + (s - 1)) / s)
-  unfolding spacingAt
-  divides =
-      let x : ℕ = u * 1000000 in
-      let e : Is (ceilDiv (pos x) s) ((x + (s - 1)) / s) 0 =
-      is-ceil (pos x) s x 0 (omega (arith, scale-least s g)) (is-same (pos x) x 0 x (0 * s) (is-nat x) (omega (arith, zero-mul s))) in
-      let f : natAbs (ceilDiv (pos x) s) ≡ (x + (s - 1)) / s - 0 + (0 - (x + (s - 1)) / s) = is-size (ceilDiv (pos x) s) ((x + (s - 1)) / s) 0 e in
-      ap (λ (n : ℕ). 512 * n) (omega arith)
+  is-q : spacingAt u s ≡ 512 * q
+  unfolding q
+  is-q = divides u s (omega (arith, scale-least s g))
 
   enough : u * 1000000 ≤ q * s
   unfolding q
@@ -46,7 +59,7 @@ module _ (u s : ℕ) (g : isScale s ≡ true) where
   -- a product with s carries over
   carried : spacingAt u s * s ≡ 512 * (q * s)
   unfolding q
-  carried = ap (λ (n : ℕ). n * s) divides ∙ mul-assoc 512 q s
+  carried = ap (λ (n : ℕ). n * s) is-q ∙ mul-assoc 512 q s
 
   -- q is below what its product with s is below
   below : (k : ℕ) → u * 1000000 + s ≤ k * s → q < k
@@ -59,7 +72,7 @@ module _ (u s : ℕ) (g : isScale s ≡ true) where
   pub spaced : SpacingUnit u → Spaced u s (spacingAt u s)
   unfolding q
   spaced w =
-      let e : spacingAt u s ≡ 512 * q = divides in
+      let e = is-q in
       let h : q < 156401 = below 156401 (omega (arith, w .most, scale-least s g)) in
       let l : 1 ≤ q = at-least 1 (omega (arith, w .least)) in
       record {
@@ -73,7 +86,7 @@ module _ (u s : ℕ) (g : isScale s ≡ true) where
   pub grid : SpacingUnit u → Grid (spacingAt u s)
   unfolding q
   grid w =
-      let e : spacingAt u s ≡ 512 * q = divides in
+      let e = is-q in
       let h : q < 156401 = below 156401 (omega (arith, w .most, scale-least s g)) in
       let p = spaced w in
       record { whole = p .whole; some = p .some; most = omega arith }
@@ -88,13 +101,13 @@ falls u s t w g k h =
     let a : ℕ = q u s g in
     let b : ℕ = q u t k in
     let r : b < a + 1 = lt-of-mul-lt-mul-right t (omega (arith, close u t k, enough u s g, mul-le-mul-left a h, add-mul a 1 t)) in
-    let es : spacingAt u s ≡ 512 * a = divides u s g in
-    let et : spacingAt u t ≡ 512 * b = divides u t k in
+    let es = is-q u s g in
+    let et = is-q u t k in
     omega arith
 
 pub rows-least : RowsAtLeast
 unfolding q
 rows-least s g =
     let l : 40 ≤ q 782 s g = at-least 782 s g 40 (omega (arith, scale-most s g)) in
-    let e : spacingAt 782 s ≡ 512 * q 782 s g = divides 782 s g in
+    let e = is-q 782 s g in
     omega arith

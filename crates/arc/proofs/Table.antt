@@ -1,18 +1,19 @@
 -- The table by a row's place in it, 0 to 8: each column of the table is one equation that computes; and a zone number against
 -- the two zones of a row. Assumes nothing.
 use mathlib.Core.Path.{_≡_, refl, sym, ap, _∙_}
-use mathlib.Core.Bool.{true, false, _||_}
-use mathlib.Core.List.{map}
+use mathlib.Core.Bool.{Bool, true, false, cond, _||_}
+use mathlib.Core.List.{List, [], _∷_, map}
 use mathlib.Core.Logic.{_⊎_, inl, inr, ⊎-elim}
 use mathlib.Core.Option.{some}
-use Prim.Native.Nat.{ℕ, _+_, _≤_, _<_}
+use Prim.Native.Nat.{ℕ, suc, _+_, _≤_, _<_}
 use native.Mathlib.Nat.{zero-add}
+use native.Mathlib.Omega.{arith}
 use borrow.Author.Tests.{ltb-true, ne-eqb}
 use lib.Dec.{ltb, eqb}
-use lib.ListN.{List·getD-eq-default}
+use lib.ListN.{length, getD, List·getD-eq-default}
 use Rattle.whole.specs.Lists.{upFrom}
 use Rattle.whole.proofs.Lists.{agree, upFrom-at}
-use Rattle.arc.specs.Zones.{Row, table, tableRow, isPolar, from, to, rowAt, noRow}
+use Rattle.arc.specs.Zones.{Row, table, hasZone, rowIn, tableRow, isPolar, from, to, rowAt, noRow}
 
 module _ (i : ℕ) (h : i < 9) where
   -- a column of the table as a function of the row's place
@@ -46,6 +47,16 @@ module _ (i : ℕ) (h : i < 9) where
   -- a zone of the row, on either side of the Equator
   pub zone-row : (zone : ℕ) → (zone ≡ 1 + i) ⊎ (zone ≡ 10 + i) → tableRow zone ≡ some (rowAt i)
   zone-row zone w = ⊎-elim (λ e. ap tableRow e ∙ row-north) (λ e. ap tableRow e ∙ row-south) w
+
+-- a row that is found stands at some place
+pub found-at : (rs : List Row) (zone : ℕ) (r : Row) → rowIn rs zone ≡ some r → (j : ℕ) × (j < length rs) × (getD rs j noRow ≡ r)
+found-at [] zone r e = let z : _≡_ {A = ℕ} 0 1 = cc in absurd (omega arith)
+found-at (q ∷ rs) zone r e = go (hasZone q zone) e (λ k. found-at rs zone r k)
+  where
+    go : (t : Bool) → cond t (some q) (rowIn rs zone) ≡ some r → (rowIn rs zone ≡ some r → (j : ℕ) × (j < length rs) × (getD rs j noRow ≡ r))
+        → (j : ℕ) × (j < length (q ∷ rs)) × (getD (q ∷ rs) j noRow ≡ r)
+    go true p k = (0, omega arith, cc)
+    go false p k = let w = k p in (suc (w .0), omega (arith, w .1), w .2)
 
 pub neither : (n s zone : ℕ) → ((zone ≡ n) ⊎ (zone ≡ s) → ⊥) → eqb zone n || eqb zone s ≡ false
 neither n s zone f = rw (ne-eqb zone n (λ e. f (inl e)), ne-eqb zone s (λ e. f (inr e)))

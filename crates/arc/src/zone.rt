@@ -3,9 +3,7 @@ use crate::Circle;
 use crate::ConstantAnswer;
 use crate::refused;
 ghost use mathlib.Core.Path.{_≡_};
-ghost use mathlib.Core.Bool.{true};
-ghost use Prim.Native.Nat.{_≤_};
-ghost use Rattle.arc.specs.Spacing.{isScale, spacingAt, rowUnit, columnsOf};
+ghost use Rattle.arc.specs.Spacing.{spacingAt, rowUnit, columnsOf, SpacingUnit};
 
 // B, the same in every zone (001, Table 3-3).
 pub struct Meridian;
@@ -14,7 +12,6 @@ impl Meridian {
     pub const UNIT: u64 = 782;
 
     fn spacing(scale: u64) -> u64
-        requires { ⌜ isScale scale ≡ true ⌝ }
         ensures { λ r. ⌜ r ≡ spacingAt rowUnit scale ⌝ }
     {
         spacing_of(Self::UNIT, scale)
@@ -32,7 +29,6 @@ impl Zone1 {
     pub const UNIT: u64 = 722;
 
     fn spacing(scale: u64) -> u64
-        requires { ⌜ isScale scale ≡ true ⌝ }
         ensures { λ r. ⌜ r ≡ spacingAt 722 scale ⌝ }
     {
         spacing_of(Self::UNIT, scale)
@@ -50,7 +46,6 @@ impl Zone2 {
     pub const UNIT: u64 = 591;
 
     fn spacing(scale: u64) -> u64
-        requires { ⌜ isScale scale ≡ true ⌝ }
         ensures { λ r. ⌜ r ≡ spacingAt 591 scale ⌝ }
     {
         spacing_of(Self::UNIT, scale)
@@ -68,7 +63,6 @@ impl Zone3 {
     pub const UNIT: u64 = 480;
 
     fn spacing(scale: u64) -> u64
-        requires { ⌜ isScale scale ≡ true ⌝ }
         ensures { λ r. ⌜ r ≡ spacingAt 480 scale ⌝ }
     {
         spacing_of(Self::UNIT, scale)
@@ -86,7 +80,6 @@ impl Zone4 {
     pub const UNIT: u64 = 389;
 
     fn spacing(scale: u64) -> u64
-        requires { ⌜ isScale scale ≡ true ⌝ }
         ensures { λ r. ⌜ r ≡ spacingAt 389 scale ⌝ }
     {
         spacing_of(Self::UNIT, scale)
@@ -104,7 +97,6 @@ impl Zone5 {
     pub const UNIT: u64 = 319;
 
     fn spacing(scale: u64) -> u64
-        requires { ⌜ isScale scale ≡ true ⌝ }
         ensures { λ r. ⌜ r ≡ spacingAt 319 scale ⌝ }
     {
         spacing_of(Self::UNIT, scale)
@@ -122,7 +114,6 @@ impl Zone6 {
     pub const UNIT: u64 = 268;
 
     fn spacing(scale: u64) -> u64
-        requires { ⌜ isScale scale ≡ true ⌝ }
         ensures { λ r. ⌜ r ≡ spacingAt 268 scale ⌝ }
     {
         spacing_of(Self::UNIT, scale)
@@ -140,7 +131,6 @@ impl Zone7 {
     pub const UNIT: u64 = 215;
 
     fn spacing(scale: u64) -> u64
-        requires { ⌜ isScale scale ≡ true ⌝ }
         ensures { λ r. ⌜ r ≡ spacingAt 215 scale ⌝ }
     {
         spacing_of(Self::UNIT, scale)
@@ -158,7 +148,6 @@ impl Zone8 {
     pub const UNIT: u64 = 161;
 
     fn spacing(scale: u64) -> u64
-        requires { ⌜ isScale scale ≡ true ⌝ }
         ensures { λ r. ⌜ r ≡ spacingAt 161 scale ⌝ }
     {
         spacing_of(Self::UNIT, scale)
@@ -176,24 +165,25 @@ impl Zone9 {
     pub const UNIT: u64 = 782;
 
     fn spacing(scale: u64) -> u64
-        requires { ⌜ isScale scale ≡ true ⌝ }
         ensures { λ r. ⌜ r ≡ spacingAt 782 scale ⌝ }
     {
         spacing_of(Self::UNIT, scale)
     }
 }
 
-// 512 times the smallest whole number not below unit × 1,000,000 / scale (001, 3.4.6).
+// 512 times the smallest whole number not below unit × 1,000,000 / scale (001, 3.4.6); 0 where the scale is 0.
 fn spacing_of(unit: u64, scale: u64) -> u64
-    requires { ⌜ isScale scale ≡ true ⌝ ∗ ⌜ unit ≤ 782 ⌝ }
+    requires { ⌜ SpacingUnit unit ⌝ }
     ensures { λ r. ⌜ r ≡ spacingAt unit scale ⌝ }
 {
-    512 * ((unit * 1_000_000 + (scale - 1)) / scale)
+    if scale == 0 {
+        return 0;
+    }
+    512 * ((unit * 1_000_000 - 1) / scale + 1)
 }
 
 // A of a zone. Refuses 2.
 pub fn columns(scale: u64, zone: u64) -> ConstantAnswer
-    requires { ⌜ isScale scale ≡ true ⌝ }
     ensures { λ r. ⌜ r ≡ columnsOf scale zone ⌝ }
 {
     match zone {
@@ -212,7 +202,6 @@ pub fn columns(scale: u64, zone: u64) -> ConstantAnswer
 
 // B.
 pub fn rows(scale: u64) -> u64
-    requires { ⌜ isScale scale ≡ true ⌝ }
     ensures { λ r. ⌜ r ≡ spacingAt rowUnit scale ⌝ }
 {
     Meridian::spacing(scale)

@@ -30,8 +30,7 @@ use Rattle.card.specs.Read.{tileStoring, numberIn, cardOf, refusedCard, 
 use Rattle.card.specs.NoDrift.{HasPlace}
 use Rattle.card.specs.Grid.{placeRow, placeColumn, inTiles, inChart, placeOf, positionOf}
 use Rattle.card.specs.Places.{GivesPixel}
-use Rattle.card.specs.Copies.{Copies, PlaceAlike, BytesAlike, Moved, RoundedAgain}
-use Rattle.card.specs.Copies.{SameIn, others, LSOMoved, PSOMoved, MovedRefused}
+use Rattle.card.specs.Copies.{Copies, PlaceAlike, BytesAlike, Moved, RoundedAgain, SameIn, others, LSOMoved, PSOMoved, MovedRefused}
 use Rattle.card.proofs.Found.{Stores, tile-stores}
 use Rattle.card.proofs.Walked.{orElse-both}
 use Rattle.card.proofs.Acceptance.{ReadTo, read-to}

@@ -13,7 +13,8 @@ use Rattle.arc.specs.declared.Verdict.{Verdict}
 use Rattle.card.specs.declared.Card.{Card}
 use Rattle.tiles.specs.declared.Said.{Said}
 use Rattle.tiles.specs.Index.{tiles, indexWrong, saidOf}
-use Rattle.tiles.specs.Check.{occurs, badAt, firstBad, judged, checkOf, EachPlaced, NoneAbove, OnceAccepted}
+use Rattle.whole.specs.Lists.{occurs}
+use Rattle.tiles.specs.Check.{badAt, firstBad, judged, checkOf, EachPlaced, NoneAbove, OnceAccepted}
 use Rattle.tiles.proofs.Entry.{index-long, said-above, said-in, entry-in, stored-in}
 use Rattle.tiles.proofs.First.{none-from}
 use Rattle.tiles.proofs.Counted.{occurs-at, place, each-named}

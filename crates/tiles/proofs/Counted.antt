@@ -8,7 +8,8 @@ use native.Mathlib.Decide.{ℕ-discrete}
 use borrow.Author.Tests.{eq-eqb, eqb-true, ne-eqb, lt-leb}
 use lib.Dec.{leb, eqb, leb·suc-suc}
 use lib.ListN.{length, getD}
-use Rattle.tiles.specs.Check.{occurs, allNamed}
+use Rattle.whole.specs.Lists.{occurs}
+use Rattle.tiles.specs.Check.{allNamed}
 
 -- ---- one entry more
 pub occurs-more : (e x : ℕ) (l : List ℕ) → occurs e (l ++ (x ∷ [])) ≡ occurs e l || eqb x e

@@ -16,7 +16,8 @@ use Rattle.arc.specs.Refusals.{refusal}
 use Rattle.card.specs.declared.Card.{Card}
 use Rattle.tiles.specs.declared.Said.{Said}
 use Rattle.tiles.specs.Index.{tiles, indexWrong, saidOf}
-use Rattle.tiles.specs.Check.{occurs, badAt, firstBad, allNamed, judged, checkOf, EachPlaced, NoneAbove, EachOnce, UpToCount}
+use Rattle.whole.specs.Lists.{occurs}
+use Rattle.tiles.specs.Check.{badAt, firstBad, allNamed, judged, checkOf, EachPlaced, NoneAbove, EachOnce, UpToCount}
 use Rattle.tiles.proofs.Entry.{neither, index-long, count-all, said-all, entry-in, stored-in}
 use Rattle.tiles.proofs.First.{none-of}
 use Rattle.tiles.proofs.Counted.{occurs-at, place, named-each}

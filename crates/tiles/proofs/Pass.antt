@@ -12,8 +12,8 @@ use lib.ListN.{length, getD, take, drop, set, length-drop, length-append, List·
 use lib.Seq.{take-suc, take-length}
 use Rattle.arc.specs.declared.Verdict.{Verdict}
 use Rattle.arc.specs.Refusals.{refusalAt}
-use Rattle.tiles.specs.Check.{occurs, badAt, firstBad, judged, before, markAt, marked, marksPassed}
-use Rattle.whole.specs.Lists.{firstFrom, oneMore}
+use Rattle.whole.specs.Lists.{occurs, firstFrom, oneMore}
+use Rattle.tiles.specs.Check.{badAt, firstBad, judged, before, markAt, marked, marksPassed}
 use Rattle.tiles.proofs.First.{first-hit, first-next, first-none}
 use Rattle.tiles.proofs.Listed.{listed, listed-length, listed-at, listed-set}
 use Rattle.tiles.proofs.Counted.{occurs-other, occurs-last, named-told, counted, counted-none, counted-same, counted-new, counted-le}

@@ -1,5 +1,4 @@
 -- The index check: 6, then 15 at the first bad entry (01, "Tiles"). Definitions, and what they are held to.
---     occurs e l             e is among the entries l
 --     badAt count index i    the entry at i is above the count, or repeats one before it
 --     firstBad count index   the first such entry's place
 --     allNamed count index   each number 1 .. count occurs
@@ -13,16 +12,12 @@ use mathlib.Core.Bool.{Bool, true, false, cond, not, _&&_, _||_}
 use mathlib.Core.Option.{Option, some, none}
 use lib.Dec.{ltb, eqb}
 use lib.ListN.{length, getD, take, drop, replicate}
-use Rattle.whole.specs.Lists.{each, firstFrom, oneMore}
+use Rattle.whole.specs.Lists.{occurs, each, firstFrom, oneMore}
 use Rattle.arc.specs.declared.Verdict.{Verdict}
 use Rattle.arc.specs.Refusals.{refusal, refusalAt}
 use Rattle.card.specs.declared.Card.{Card}
 use Rattle.tiles.specs.declared.Said.{Said}
 use Rattle.tiles.specs.Index.{tiles, indexWrong, saidOf}
-
-abbrev pub occurs : ℕ → List ℕ → Bool
-occurs e [] = false
-occurs e (x ∷ xs) = eqb x e || occurs e xs
 
 -- 0 may repeat
 abbrev pub badAt : ℕ → List ℕ → ℕ → Bool

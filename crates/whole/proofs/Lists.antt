@@ -1,12 +1,14 @@
 -- Laws of the lists of specs/Lists.antt: members, and a list of slots that is filled from the front. Assumes nothing.
-use mathlib.Core.Path.{_≡_, sym, ap, ap₂, _∙_}
-use mathlib.Core.Bool.{Bool, true, false, cond}
+use mathlib.Core.Path.{_≡_, refl, sym, ap, ap₂, _∙_}
+use mathlib.Core.Bool.{Bool, true, false, cond, _&&_, _||_, and-false, or-true}
 use mathlib.Core.List.{List, [], _∷_, _++_, append-nil, map}
 use Prim.Native.Nat.{ℕ, zero, suc, _+_, _-_, _<_}
 use native.Mathlib.Omega.{arith}
+use borrow.Author.Tests.{eqb-true, eqb-false, eq-eqb}
+use lib.Dec.{eqb}
 use lib.ListN.{length, getD, set, replicate, length-append}
 use lib.Seq.{set-append-seam, append-snoc}
-use Rattle.whole.specs.Lists.{those, upFrom, padded}
+use Rattle.whole.specs.Lists.{occurs, those, downFrom, upFrom, padded}
 
 -- two lists that are alike when mapped are alike at each place
 pub agree : {A B C : Type 0} (f : A → C) (g : B → C) (k : List A) (l : List B) (d : A) (e : B) → map f k ≡ map g l
@@ -20,6 +22,27 @@ pub upFrom-at : (a n i d : ℕ) → i < n → getD (upFrom a n) i d ≡ a + i
 upFrom-at a zero i d h = absurd (omega arith)
 upFrom-at a (suc n) zero d h = omega arith
 upFrom-at a (suc n) (suc i) d h = let e = upFrom-at (a + 1) n i d (omega arith) in omega arith
+
+-- ---- members
+
+pub occurs-those : (f : ℕ → Bool) (z : ℕ) (l : List ℕ) → occurs z (those f l) ≡ f z && occurs z l
+occurs-those f z [] = sym (and-false (f z))
+occurs-those f z (x ∷ l) = go (f x) (eqb x z) refl refl (occurs-those f z l)
+  where
+    go : (t u : Bool) → f x ≡ t → eqb x z ≡ u → occurs z (those f l) ≡ f z && occurs z l
+        → occurs z (cond t (x ∷ those f l) (those f l)) ≡ f z && (u || occurs z l)
+    go true true p q r = rw (q, sym (ap f (eqb-true x z q)) ∙ p)
+    go false true p q r = r ∙ rw (sym (ap f (eqb-true x z q)) ∙ p)
+    go true false p q r = rw q r
+    go false false p q r = r
+
+pub occurs-down : (a n k : ℕ) → k < n → occurs (a + k) (downFrom a n) ≡ true
+occurs-down a zero k h = absurd (omega arith)
+occurs-down a (suc n) k h = go (eqb n k) refl (λ l. occurs-down a n k l)
+  where
+    go : (t : Bool) → eqb n k ≡ t → (k < n → occurs (a + k) (downFrom a n) ≡ true) → eqb (a + n) (a + k) || occurs (a + k) (downFrom a n) ≡ true
+    go true e f = rw (eq-eqb (a + n) (a + k) (omega (arith, eqb-true n k e)))
+    go false e f = rw (f (omega (arith, eqb-false n k e))) (or-true (eqb (a + n) (a + k)))
 
 -- ---- slots: what has been taken so far, and what those of the rest will add
 

@@ -1,4 +1,5 @@
 -- Lists. Definitions only.
+--     occurs z l         z is a member of l
 --     those f l          the members of l of which f holds, in their order
 --     downFrom a n       a + n − 1, .., a + 1, a
 --     upFrom a n         a, a + 1, .., a + n − 1
@@ -11,8 +12,13 @@ use Prim.Native.Nat.{ℕ, zero, suc, _+_, _-_}
 use mathlib.Core.Bool.{Bool, false, cond, _||_}
 use mathlib.Core.List.{List, [], _∷_, _++_}
 use mathlib.Core.Option.{Option, some, none}
+use lib.Dec.{eqb}
 use lib.ListN.{length, replicate, drop}
 use lib.IntN.{ℤ, sucℤ}
+
+abbrev pub occurs : ℕ → List ℕ → Bool
+occurs z [] = false
+occurs z (x ∷ l) = eqb x z || occurs z l
 
 abbrev pub those : (ℕ → Bool) → List ℕ → List ℕ
 those f [] = []

@@ -1,18 +1,18 @@
 -- The paper's cover by a row's place: on its own side of the Equator a zone covers a latitude where its row starts no farther than
 -- the latitude's size and reaches it; on the other side it covers none. Assumes nothing.
 use mathlib.Core.Path.{_≡_, refl, sym, ap, ap₂, _∙_}
-use mathlib.Core.Bool.{Bool, true, false, cond, not, _&&_, _||_}
+use mathlib.Core.Bool.{Bool, true, false, cond, not, _&&_, _||_, and-eq-true-iff, false≢true}
 use mathlib.Core.List.{List, _∷_}
-use mathlib.Core.Option.{some}
+use mathlib.Core.Option.{Option, some, none}
 use Prim.Native.Nat.{ℕ, zero, suc, _+_, _-_, _*_, _≤_, _<_}
 use native.Mathlib.Omega.{arith}
-use borrow.Author.Tests.{ltb-true, ltb-false, le-leb, lt-leb, eq-eqb}
+use borrow.Author.Tests.{ltb-true, ltb-false, le-leb, lt-leb, eq-eqb, eqb-true}
 use lib.Dec.{leb, ltb, eqb}
 use lib.IntN.{ℤ, pos, natAbs}
 use lib.Signed.{ltZ}
 use Rattle.whole.specs.Whole.{outside}
 use Rattle.whole.proofs.Held.{outsides}
-use Rattle.arc.specs.Zones.{circle, quarter, tableRow, from, to, rowAt}
+use Rattle.arc.specs.Zones.{circle, quarter, Row, table, tableRow, from, to, rowAt}
 use Rattle.arc.specs.declared.ConstantAnswer.{ConstantAnswer}
 use Rattle.arc.specs.Spacing.{isScale, rowsOf, rowUnit, spacingAt}
 use Rattle.arc.proofs.Spaced.{grid, rows-least}
@@ -21,8 +21,8 @@ use Rattle.whole.specs.Lists.{those, downFrom}
 use Rattle.zones.specs.Basic.{holdsSize, zoneOn, basicZone}
 use Rattle.zones.specs.Cover.{overlaps, coversIn, covers, firstZone, coverZones}
 use Rattle.zones.specs.Steps.{reaches, coverFrom, Rows, Rowed}
-use Rattle.arc.proofs.Table.{northern-at, southern-at, row-north, row-south, polar-at, last-at, from-to}
-use Rattle.zones.proofs.Rows.{place, is-place}
+use Rattle.arc.proofs.Table.{northern-at, southern-at, row-north, row-south, polar-at, last-at, from-to, found-at}
+use Rattle.zones.proofs.Rows.{place}
 use Rattle.zones.proofs.Order.{within, to-from}
 
 pub leb-ltb : (m n : ℕ) → leb m n ≡ not (ltb n m)
@@ -75,9 +75,21 @@ module _ (b j : ℕ) (h : j < 9) where
         (eq-eqb (firstZone lat + j) (zoneOn lat (rowAt j)) (sym zone-on))
         ∙ row-covers (natAbs lat)
 
+-- what covers a latitude is a zone of its hemisphere
+pub own-side : (b : ℕ) (lat : ℤ) (zone : ℕ) → covers b lat zone ≡ true → (j : ℕ) × (j < 9) × (zone ≡ firstZone lat + j)
+unfolding covers
+own-side b lat zone e = go (tableRow zone) refl e
+  where
+    go : (o : Option Row) → tableRow zone ≡ o → coversIn b lat zone o ≡ true → (j : ℕ) × (j < 9) × (zone ≡ firstZone lat + j)
+    go (some r) p t =
+        let w = found-at table zone r p in
+        let q = and-eq-true-iff (eqb zone (zoneOn lat r)) (holdsSize r (natAbs lat) || overlaps b r (natAbs lat)) .0 t in
+        (w .0, w .1, eqb-true zone (zoneOn lat r) (q .0) ∙ ap (zoneOn lat) (sym (w .2)) ∙ zone-on b (w .0) (w .1) lat)
+    go none p t = absurd (false≢true t)
+
 -- the basic zone by its row's place
 pub basic-is : (lat : ℤ) → basicZone lat ≡ firstZone lat + place (natAbs lat) .at
-basic-is lat = ap (zoneOn lat) (is-place (natAbs lat)) ∙ zone-on 0 (place (natAbs lat) .at) (place (natAbs lat) .in-list) lat
+basic-is lat = ap (zoneOn lat) (place (natAbs lat) .is) ∙ zone-on 0 (place (natAbs lat) .at) (place (natAbs lat) .in-list) lat
 
 those-same : (f g : ℕ → Bool) (a n : ℕ) → ((k : ℕ) → k < n → f (a + k) ≡ g (a + k)) → those f (downFrom a n) ≡ those g (downFrom a n)
 those-same f g a zero e = refl

@@ -4,3 +4,4 @@ pub mod Order
 pub mod Covering
 pub mod Lying
 pub mod Six
+pub mod CoverAll

@@ -1,3 +1,4 @@
 pub mod Basic
 pub mod Cover
+pub mod CoverAll
 pub mod Steps

@@ -16,7 +16,7 @@ returns : tie.Need-returns
 returns c = rw (sym (c .before .before .is-scale .ensures) ∙ not-true _ (c .before .if1 .taken)) (ap ConstantAnswer.Refused (c .refused .ensures))
 
 rows-requires : tie.Need-rows-requires
-rows-requires c κs = sym (c .before .is-scale .ensures) ∙ not-false _ (c .if1 .left)
+rows-requires c κs = search needs
 
 returns-2 : tie.Need-returns-2
 returns-2 c = rw (sym (c .before .before .is-scale .ensures) ∙ not-false _ (c .before .if1 .left)) (ap ConstantAnswer.Pixels (c .rows .ensures))

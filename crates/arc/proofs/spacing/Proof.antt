@@ -20,7 +20,7 @@ served : (c : tie.After-known-told) → (isScale (c .before .before .before .bef
 served c = rows-from (c .before .before .before .before .args .scale) _ (sym (c .before .before .before .b-constant .ensures) ∙ c .before .b .given .1)
 
 columns-requires : tie.Need-columns-requires
-columns-requires c κs = served c .0
+columns-requires c κs = search needs
 
 enum-known-a : tie.Need-enum-known-a
 enum-known-a c = search needs
