@@ -83,7 +83,8 @@ difference-requires-2 c κs = search needs
 cast-difference-5 : tie.Need-cast-difference-5
 cast-difference-5 c =
     let s = c .before .before .before .before in
-    omega (arith, stored-high (rows s) _ (rows-high s), from-near _ _ (c .before .before .before .stored-at .ensures) (few (s .pre .1 .0) (omega (arith, rows-high s))))
+    let e = from-near _ _ (c .before .before .before .stored-at .ensures) (few (s .pre .1 .0) (omega (arith, rows-high s))) in
+    omega (arith, stored-high (rows s) _ (rows-high s))
 
 difference-requires-3 : tie.Need-difference-requires-3
 difference-requires-3 c κs = search needs
@@ -91,7 +92,8 @@ difference-requires-3 c κs = search needs
 cast-difference-6 : tie.Need-cast-difference-6
 cast-difference-6 c =
     let s = c .before .before .before .before .before in
-    omega (arith, stored-high (columns s) _ (columns-high s), from-near _ _ (c .before .before .before .stored-at2 .ensures) (few (s .pre .0) (columns-high s)))
+    let e = from-near _ _ (c .before .before .before .stored-at2 .ensures) (few (s .pre .0) (columns-high s)) in
+    omega (arith, stored-high (columns s) _ (columns-high s))
 
 difference-requires-4 : tie.Need-difference-requires-4
 difference-requires-4 c κs = search needs
@@ -102,13 +104,13 @@ returns c =
     let s = c .before .before .before .before .before .before in
     let n = row-is (rows s) (pos (s .args .north) -ℤ pos quarter) (s .args .north) (is-difference (s .args .north) quarter) in
     let m = column-is (columns s) (pos (s .args .east) -ℤ pos half) (s .args .east) (is-difference (s .args .east) half) in
-    let pso = ap (λ (v : ℕ). pos v -ℤ pos quarter) (from-near _ _ (c .before .before .before .before .before .stored-at .ensures) (few (s .pre .1 .0) (omega (arith, rows-high s)))) in
-    let lso = ap (λ (v : ℕ). pos v -ℤ pos half) (from-near _ _ (c .before .before .before .before .stored-at2 .ensures) (few (s .pre .0) (columns-high s))) in
+    let pso = from-near _ _ (c .before .before .before .before .before .stored-at .ensures) (few (s .pre .1 .0) (omega (arith, rows-high s))) in
+    let lso = from-near _ _ (c .before .before .before .before .stored-at2 .ensures) (few (s .pre .0) (columns-high s)) in
     same
     (told _ _ (c .before .before .before .difference .ok) (c .before .before .before .difference .ensures) n)
     (told _ _ (c .before .before .difference2 .ok) (c .before .before .difference2 .ensures) m)
-    (told _ _ (c .before .difference3 .ok) (c .before .difference3 .ensures ∙ pso) (stored-is (rows s) _ _ n))
-    (told _ _ (c .difference4 .ok) (c .difference4 .ensures ∙ lso) (stored-is (columns s) _ _ m))
+    (told _ _ (c .before .difference3 .ok) (c .before .difference3 .ensures ∙ ap (λ (v : ℕ). pos v -ℤ pos quarter) pso) (stored-is (rows s) _ _ n))
+    (told _ _ (c .difference4 .ok) (c .difference4 .ensures ∙ ap (λ (v : ℕ). pos v -ℤ pos half) lso) (stored-is (columns s) _ _ m))
 
 pub origin-at-spec : {M : Type 1} → statement M
 origin-at-spec =
