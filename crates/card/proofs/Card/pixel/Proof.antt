@@ -46,18 +46,10 @@ returns c =
 returns-2 : tie.Need-returns-2
 unfolding pixelOf
 returns-2 c =
-    let s = c .before .before .before .before in
-    ranged-refused _ _ (s .fits .lat) (s .fits .lon) (c .before .before .before .count-position .ensures) PixelAnswer.Refused _ (c .before .r .given .1)
+    ranged-refused _ _ (c .before .before .before .before .fits .lat) (c .before .before .before .before .fits .lon)
+    (c .before .before .before .count-position .ensures) PixelAnswer.Refused _ (c .before .r .given .1)
 
 pub pixel-spec : {M : Type 1} → statement M
 pixel-spec =
     tie.close
-    (tie.spec
-    count-position-requires
-    enum-known-north
-    row-at-requires
-    column-at-requires
-    pixel-at-requires
-    enum-known-r
-    returns
-    returns-2)
+    (tie.spec count-position-requires enum-known-north row-at-requires column-at-requires pixel-at-requires enum-known-r returns returns-2)
