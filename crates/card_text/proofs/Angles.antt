@@ -1,31 +1,25 @@
 -- The values that the code keeps are those of the definitions: a number, an angle counted from its limit, a flag. Assumes nothing.
-use mathlib.Core.Path.{_≡_, refl, _∙_}
+use mathlib.Core.Path.{_≡_, refl}
 use mathlib.Core.Bool.{Bool, true, false, cond, not, _&&_}
 use mathlib.Core.List.{List}
 use Prim.Native.Nat.{ℕ, _+_, _*_, _-_, _≤_}
 use native.Mathlib.Omega.{arith}
-use borrow.Author.Tests.{leb-true}
 use lib.Dec.{leb, ltb, eqb}
 use lib.ListN.{getD}
 use lib.IntN.{pos, negℤ}
 use Rattle.arc.specs.declared.Verdict.{Verdict}
 use Rattle.whole.proofs.Signed.{Is, is-same, is-nat, is-neg}
-use Rattle.text.specs.Text.{part, isDigit, all, isSign, minus, angleLaid, degrees, minutes, seconds, hundredths, angleSize, angleOf, angleValid}
+use Rattle.text.specs.Text.{part, isDigit, isSign, minus, angleLaid, degrees, minutes, seconds, hundredths, angleSize, angleOf, angleValid}
+use Rattle.text.proofs.Bytes.{all-groups}
+use Rattle.text.proofs.Runs.{laid-tests}
+use Rattle.text.proofs.Angles.{valid-tests}
 use Rattle.card.specs.Layout.{LSO, PSO, layout, bytesOf, walk}
 use Rattle.card_text.specs.StepsFields.{DigitsOf, shifted, valueIn}
 use Rattle.card_text.specs.declared.digits.Digits.{Digits}
-use Rattle.card_text.proofs.Runs.{all-groups, and-l, and-r}
 use Rattle.card.proofs.Walked.{right-in}
 
 -- ---- an angle of d degree digits
 module _ (d limit : ℕ) (s : List ℕ) where
-  pub size-high : angleValid d limit s ≡ true → angleSize d s ≤ limit
-  unfolding angleValid
-  size-high e =
-      let p : Bool = ltb (minutes d s) 60 && ltb (seconds d s) 60 in
-      let q : Bool = leb (angleSize d s) limit in
-      leb-true _ _ (and-r p q (and-l (p && q) (not (minus s && eqb (angleSize d s) 0)) e))
-
   pub is-angle : angleSize d s ≤ limit → Is (angleOf d s) (shifted limit (minus s) (angleSize d s)) limit
   unfolding angleOf
   is-angle h = go (minus s)
@@ -58,30 +52,22 @@ module _ (w limit : ℕ) (p : List ℕ) {d m t h : Digits} (ed : DigitsOf (part 
       × (shifted limit (minus p) size ≡ shifted limit (minus p) (angleSize w p))
   unfolding angleLaid angleValid angleSize degrees minutes seconds hundredths
   angle-right e =
-      let sign = isSign (getD p 0 0) in
-      let groups = all isDigit (part 1 (w + 4) p) in
-      let dot = eqb (getD p (w + 5) 0) 46 in
-      let last = all isDigit (part (w + 6) 2 p) in
-      let x = all isDigit (part 1 w p) in
-      let y = all isDigit (part (w + 1) 2 p) in
-      let z = all isDigit (part (w + 3) 2 p) in
-      let g = all-groups isDigit w p ∙ and-r sign groups (and-l (sign && groups) dot (and-l (sign && groups && dot) last e)) in
-      let xy = and-l (x && y) z g in
-      let rd = ed .read (and-l x y xy) in
-      let rm = em .read (and-r x y xy) in
-      let rt = et .read (and-r (x && y) z g) in
-      let rh = eh .read (and-r (sign && groups && dot) last e) in
+      let g = laid-tests w p e in
+      let rd = ed .read (g .d) in
+      let rm = em .read (g .m) in
+      let rt = et .read (g .s) in
+      let rh = eh .read (g .h) in
       (rw (rd, rm, rt, rh), rw (rd, rm, rt, rh))
 
 -- ---- the two angles of a card whose subfields are right
 module _ (s : List ℕ) (w : walk layout s ≡ Verdict.Accepted) where
   lso-size : angleSize 3 (bytesOf LSO s) ≤ 64800000
   unfolding layout
-  lso-size = size-high 3 64800000 (bytesOf LSO s) (right-in s w 3 (omega arith) .1)
+  lso-size = valid-tests 3 64800000 (bytesOf LSO s) (right-in s w 3 (omega arith) .1) .2
 
   pso-size : angleSize 2 (bytesOf PSO s) ≤ 32400000
   unfolding layout
-  pso-size = size-high 2 32400000 (bytesOf PSO s) (right-in s w 4 (omega arith) .1)
+  pso-size = valid-tests 2 32400000 (bytesOf PSO s) (right-in s w 4 (omega arith) .1) .2
 
   pub lso-is : Is (angleOf 3 (bytesOf LSO s)) (valueIn LSO s) 64800000
   unfolding valueIn

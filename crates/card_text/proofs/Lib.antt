@@ -1,9 +1,7 @@
-pub mod Runs
 pub mod Table
 pub mod Angles
 pub mod Axes
 pub mod Tiled
 pub mod Values
-pub mod Splices
 pub mod Written
 pub mod Tests

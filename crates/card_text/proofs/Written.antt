@@ -2,13 +2,13 @@
 -- record's values stand for it. Assumes nothing.
 use mathlib.Core.Path.{_≡_, sym, ap, _∙_}
 use mathlib.Core.List.{List, [], _∷_, _++_}
-use mathlib.Core.Bool.{Bool, true, _&&_}
+use mathlib.Core.Bool.{Bool, true, _&&_, and-eq-true-iff}
 use Prim.Native.Nat.{ℕ, _+_, _*_, _-_, _/_, _≤_}
 use native.Mathlib.Nat.{zero-add, add-zero}
 use native.Mathlib.Omega.{arith}
 use borrow.Author.Tests.{leb-true, eqb-true}
 use lib.Dec.{leb, ltb, eqb}
-use lib.ListN.{length, length-append}
+use lib.ListN.{length}
 use lib.IntN.{pos, natAbs, _-ℤ_}
 use lib.Signed.{ltZ}
 use Rattle.whole.specs.Whole.{near}
@@ -20,12 +20,12 @@ use Rattle.card.specs.declared.Record.{Record}
 use Rattle.card.specs.Layout.{Subfield}
 use Rattle.card.specs.Layout.{layout}
 use Rattle.card.specs.Write.{Value, counted, angle, named, flagged, textOf, written, valuesOf, cardText}
-use Rattle.text.specs.Text.{angleText}
-use Rattle.card_text.specs.StepsRead.{tileAngle}
 use Rattle.text.specs.Steps.{splice}
+use Rattle.text.proofs.Digits.{length-digits}
+use Rattle.text.proofs.Angles.{length-angle}
+use Rattle.text.proofs.Splices.{splice-nil, length-splice, run-next}
+use Rattle.card_text.specs.StepsRead.{tileAngle}
 use Rattle.card_text.specs.StepsWrite.{FieldsPut, end, _▸_, heldBy}
-use Rattle.card_text.proofs.Runs.{and-l, and-r}
-use Rattle.card_text.proofs.Splices.{splice-nil, length-splice, run-next, length-digits}
 
 -- ---- an angle counted from its limit
 
@@ -51,9 +51,8 @@ contiguous o (f ∷ fs) [] = true
 contiguous o (f ∷ fs) (v ∷ vs) = (eqb (f .at) o && leb (o + f .width) 98) && (fits (f .width) v && contiguous (o + f .width) fs vs)
 
 length-text : (w : ℕ) (v : Value) → fits w v ≡ true → length (textOf w v) ≡ w
-unfolding angleText
 length-text w (counted v) e = length-digits w v
-length-text w (angle d z) e = simp (length-append, length-digits) (omega (arith, eqb-true (d + 8) w e))
+length-text w (angle d z) e = length-angle d z ∙ eqb-true (d + 8) w e
 length-text w (named s) e = eqb-true (length s) w e
 length-text w (flagged t) e = eqb-true 1 w e
 
@@ -68,16 +67,16 @@ pub put-all : {fs : List Subfield} {vs : List Value} {s u : List ℕ} → Fields
 put-all (end {s}) o c h = sym (splice-nil o s)
 put-all (_▸_ {f} {fs} {v} {vs} {s} {t} {u} e p) o c h =
     let x = textOf (f .width) v in
-    let rest = fits (f .width) v && contiguous (o + f .width) fs vs in
-    let here = and-l (eqb (f .at) o && leb (o + f .width) 98) rest c in
-    let then = and-r (eqb (f .at) o && leb (o + f .width) 98) rest c in
-    let at = eqb-true (f .at) o (and-l (eqb (f .at) o) (leb (o + f .width) 98) here) in
-    let most = leb-true (o + f .width) 98 (and-r (eqb (f .at) o) (leb (o + f .width) 98) here) in
-    let wide = length-text (f .width) v (and-l (fits (f .width) v) (contiguous (o + f .width) fs vs) then) in
+    let both = and-eq-true-iff (eqb (f .at) o && leb (o + f .width) 98) (fits (f .width) v && contiguous (o + f .width) fs vs) .0 c in
+    let here = and-eq-true-iff (eqb (f .at) o) (leb (o + f .width) 98) .0 (both .0) in
+    let then = and-eq-true-iff (fits (f .width) v) (contiguous (o + f .width) fs vs) .0 (both .1) in
+    let at = eqb-true (f .at) o (here .0) in
+    let most = leb-true (o + f .width) 98 (here .1) in
+    let wide = length-text (f .width) v (then .0) in
     let first : t ≡ splice o x s = rw at at e in
     let long : length t ≡ length s = ap length first ∙ length-splice o x s (omega arith) in
     run-next o (o + f .width) x (written fs vs) s t u first (omega arith) (omega arith)
-    (put-all p (o + f .width) (and-r (fits (f .width) v) (contiguous (o + f .width) fs vs) then) (omega arith))
+    (put-all p (o + f .width) (then .1) (omega arith))
 
 -- ---- the record's values
 

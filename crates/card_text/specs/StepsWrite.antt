@@ -10,7 +10,7 @@ use Prim.Native.Nat.{ℕ, _+_, _*_, _<_}
 use mathlib.Core.List.{List, [], _∷_, _++_}
 use mathlib.Core.Bool.{_&&_}
 use lib.Dec.{leb}
-use lib.ListN.{length, take, drop}
+use lib.ListN.{length}
 use lib.IntN.{pos, _-ℤ_}
 use Rattle.whole.specs.Whole.{near}
 use Rattle.arc.specs.declared.SpacingAnswer.{SpacingAnswer}

@@ -1,6 +1,4 @@
 pub mod Prints
-pub mod Pieces
-pub mod Digits
 pub mod Scan
 pub mod Pairs
 pub mod Openings

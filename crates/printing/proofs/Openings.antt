@@ -9,7 +9,8 @@ use borrow.Author.Tests.{lt-ltb, le-ltb, le-leb, lt-leb}
 use mathlib.Core.Bool.{true}
 use Rattle.card.specs.declared.Card.{Card}
 use Rattle.whole.specs.Lists.{over}
-use Rattle.text.specs.Steps.{splice, Put}
+use Rattle.text.specs.Steps.{Put}
+use Rattle.text.proofs.Splices.{front-length, front-left}
 use Rattle.printing.specs.Lines.{upTo, numbersOf}
 use Rattle.printing.specs.Printed.{badLine, tooLong}
 use Rattle.printing.specs.Run.{lineAt, nextAt, closed, openedCard, openingOf}
@@ -18,25 +19,18 @@ use Rattle.printing.specs.declared.OpeningAnswer.{OpeningAnswer}
 use Rattle.printing.proofs.Scan.{upTo-take, line-part}
 
 module _ {x s t : List ℕ} {r : ℕ} (p : Put x 0 s t r) where
-  pub front-length : r ≡ length x
-  front-length = p .ends ∙ zero-add (length x)
-
-  pub front-left : t ≡ over x s
-  unfolding splice
-  front-left = p .holds ∙ rw zero-add
-
   -- nothing follows
-  pub stops : (a : OpeningAnswer) → a ≡ stopped r → Opens (closed x) s t a
-  stops a e = record { answer = e ∙ ap stopped front-length; left = front-left }
+  pub stops : (a : OpeningAnswer) (end : ℕ) → a ≡ stopped r end → Opens (closed x end) s t a
+  stops a end e = record { answer = e ∙ rw (front-length p); left = front-left p }
 
   -- lines follow
   pub follows : (k : Card) (n : ℕ)
       → Opens (record { text = x; more = true; card = k; next = n }) s t (record { length = r; more = true; card = k; next = n })
-  follows k n = record { answer = rw front-length; left = front-left }
+  follows k n = record { answer = rw (front-length p); left = front-left p }
 
 -- ---- the tests of an opening
 
-pub opened-long : (s : List ℕ) → 65536 < length s → closed tooLong ≡ openingOf s
+pub opened-long : (s : List ℕ) → 65536 < length s → closed tooLong (length s) ≡ openingOf s
 unfolding openingOf
 opened-long s h = rw (lt-ltb 65536 (length s) h)
 
@@ -45,12 +39,12 @@ module _ (s : List ℕ) (e : ℕ) (ends : e ≡ 0 + length (upTo 10 s)) (small :
   second-starts : e + 1 ≡ nextAt s 0
   second-starts = rw ends
 
-  pub opened-bad : length s ≤ e + 1 → closed badLine ≡ openingOf s
+  pub opened-bad : length s ≤ e + 1 → closed badLine (length s) ≡ openingOf s
   unfolding openingOf
   opened-bad h = rw (le-ltb 65536 (length s) small, le-leb (length s) (nextAt s 0) (omega (arith, second-starts)))
 
   pub opened-two : (q : ℕ) → e + 1 < length s → q ≡ e + 1 + length (upTo 10 (drop (e + 1) s))
-      → openedCard (numbersOf (take e s)) (take (q - (e + 1)) (drop (e + 1) s)) (q + 1) ≡ openingOf s
+      → openedCard (numbersOf (take e s)) (take (q - (e + 1)) (drop (e + 1) s)) (q + 1) (length s) ≡ openingOf s
   unfolding openingOf
   opened-two q h w =
       let a : take e s ≡ lineAt s 0 = rw (ends, zero-add) (upTo-take 10 s) in
@@ -58,7 +52,7 @@ module _ (s : List ℕ) (e : ℕ) (ends : e ≡ 0 + length (upTo 10 s)) (small :
       rw (a, b, w, second-starts, le-ltb 65536 (length s) small, lt-leb (length s) (nextAt s 0) (omega (arith, second-starts)))
 
 -- a buffer that is too short is left as it was
-pub opened-none : (s out : List ℕ) (r : OpeningAnswer) → length out < 64 → r ≡ stopped 0
+pub opened-none : (s out : List ℕ) (r : OpeningAnswer) → length out < 64 → r ≡ stopped 0 (length s)
     → (r ≡ openingAnswer (openingFor s out)) × (out ≡ over (openingFor s out .text) out)
 unfolding openingFor
 opened-none s out r h e = rw (lt-leb 64 (length out) h) (e, refl)

@@ -1,20 +1,19 @@
 -- The two numbers of a line are those of its parts before and after the first space. Assumes nothing.
 use mathlib.Core.Path.{_≡_, refl, sym, _∙_}
-use Prim.Native.Nat.{ℕ, suc, _+_, _*_, _-_, _^_, _≤_, _<_}
-use native.Mathlib.Nat.{zero-add, one-mul, mul-one, mul-assoc, mul-le-mul-right, pow-succ', pow-le-pow-right}
+use Prim.Native.Nat.{ℕ, _+_, _-_, _≤_, _<_}
+use native.Mathlib.Nat.{zero-add}
 use native.Mathlib.Omega.{arith}
-use mathlib.Core.Bool.{Bool, true, false, cond, _&&_, and-false}
-use mathlib.Core.List.{List, [], _∷_}
+use mathlib.Core.Bool.{Bool, true, false, cond, _&&_, and-false, and-eq-true-iff}
+use mathlib.Core.List.{List, []}
 use mathlib.Core.Option.{Option, some, none}
 use lib.ListN.{length, take, drop, drop-of-length-le, length-drop}
 use lib.Seq.{take-all}
-use borrow.Author.Tests.{leb-true}
-use lib.Dec.{leb}
-use Rattle.text.specs.Text.{all, isDigit, onward, number}
+use Rattle.text.specs.Text.{number}
+use Rattle.text.proofs.Digits.{number-below}
 use Rattle.printing.specs.Lines.{upTo, beforeSpace, afterSpace, isNumber, Pair, numbersOf}
 use Rattle.printing.specs.Steps.{numbersAnswer}
 use Rattle.printing.specs.declared.parse.Numbers.{Numbers}
-use Rattle.printing.proofs.Scan.{both, upTo-take, space-drop, is-number}
+use Rattle.printing.proofs.Scan.{upTo-take, space-drop, is-number}
 
 -- what stands after place k
 abbrev rest : List ℕ → ℕ → List ℕ
@@ -48,22 +47,8 @@ module _ (s : List ℕ) (k : ℕ) (e : k ≡ 0 + length (upTo 32 s)) where
 
 -- ---- the numbers are below 10 ^ 9
 
-onward-below : (bs : List ℕ) (v : ℕ) → all isDigit bs ≡ true → onward v bs < (v + 1) * 10 ^ length bs
-onward-below [] v t = omega (arith, mul-one (v + 1))
-onward-below (b ∷ bs) v t =
-    let w = both (isDigit b) (all isDigit bs) t in
-    let d = leb-true b 57 (both (leb 48 b) (leb b 57) (w .0) .1) in
-    let x : ℕ = v * 10 + (b - 48) in
-    let m : (x + 1) * 10 ^ length bs ≤ (v + 1) * 10 * 10 ^ length bs = mul-le-mul-right (10 ^ length bs) (omega arith) in
-    let e : (v + 1) * 10 * 10 ^ length bs ≡ (v + 1) * 10 ^ suc (length bs) = rw pow-succ' (mul-assoc (v + 1) 10 (10 ^ length bs)) in
-    omega (arith, onward-below bs x (w .1))
-
-number-below : (s : List ℕ) → isNumber s ≡ true → number s < 1000000000
-unfolding number
-number-below s t =
-    let n = is-number s t in
-    let p : 10 ^ length s ≤ 1000000000 = pow-le-pow-right (omega arith) (n .nine-digits) in
-    omega (arith, onward-below s 0 (n .of-digits), one-mul (10 ^ length s))
+below : (s : List ℕ) → isNumber s ≡ true → number s < 1000000000
+below s t = let n = is-number s t in number-below 9 s (n .nine-digits) (n .of-digits)
 
 pub pair-below : (l : List ℕ) (p : Pair) → numbersOf l ≡ some p → (p .left < 1000000000) × (p .right < 1000000000)
 unfolding numbersOf
@@ -75,9 +60,9 @@ pair-below l p e = split (isNumber (beforeSpace l) && isNumber (afterSpace l)) r
     split : (t : Bool) → isNumber (beforeSpace l) && isNumber (afterSpace l) ≡ t → cond t (some x) none ≡ some p
         → (p .left < 1000000000) × (p .right < 1000000000)
     split true t e =
-        let b = both (isNumber (beforeSpace l)) (isNumber (afterSpace l)) t in
+        let b = and-eq-true-iff (isNumber (beforeSpace l)) (isNumber (afterSpace l)) .0 t in
         let w : x ≡ p = cc in
-        rw (← w) (number-below (beforeSpace l) (b .0), number-below (afterSpace l) (b .1))
+        rw (← w) (below (beforeSpace l) (b .0), below (afterSpace l) (b .1))
     split false t e = let z : _≡_ {A = ℕ} 0 1 = cc in absurd (omega arith)
 
 -- ---- what `numbers_in` tells of a line

@@ -55,12 +55,12 @@ from-lines k s (suc n) at h = turn (ltb at (length s)) refl (λ g. from-lines k 
     turn false e more = rw (lines-end s at (ltb-false at (length s) e))
 
 -- what is printed of a card, its lines being ls
-opened-card : (o : Option Pair) (card : List ℕ) (next : ℕ) (s : List ℕ) (ls : List (List ℕ))
-    → ((k : Card) → fromOn k s next (length s) ≡ linesFor k ls) → runFrom (openedCard o card next) s ≡ withCard o card ls
-opened-card none card next s ls more = refl
-opened-card (some p) card next s ls more = verdict (readOf (p .left) (p .right) card .verdict) (readOf (p .left) (p .right) card .card)
+opened-card : (o : Option Pair) (card : List ℕ) (next end : ℕ) (s : List ℕ) (ls : List (List ℕ))
+    → ((k : Card) → fromOn k s next (length s) ≡ linesFor k ls) → runFrom (openedCard o card next end) s ≡ withCard o card ls
+opened-card none card next end s ls more = refl
+opened-card (some p) card next end s ls more = verdict (readOf (p .left) (p .right) card .verdict) (readOf (p .left) (p .right) card .card)
   where
-    verdict : (v : Verdict) (k : Card) → runFrom (openedWith v k next) s ≡ cardOut v k ls
+    verdict : (v : Verdict) (k : Card) → runFrom (openedWith v k next end) s ≡ cardOut v k ls
     verdict Verdict.Accepted k = rw (more k)
     verdict (Verdict.Refused e) k = append-nil (cardOut (Verdict.Refused e) k ls)
 
@@ -71,10 +71,10 @@ no-second [] h = refl
 no-second (b ∷ bs) h = rw (lines-at (b ∷ bs) 0 (omega arith), lines-end (b ∷ bs) (nextAt (b ∷ bs) 0) h)
 
 second : (s : List ℕ) → nextAt s 0 < length s
-    → runFrom (openedCard (numbersOf (lineAt s 0)) (lineAt s (nextAt s 0)) (nextAt s (nextAt s 0))) s ≡ run (linesOf s)
+    → runFrom (openedCard (numbersOf (lineAt s 0)) (lineAt s (nextAt s 0)) (nextAt s (nextAt s 0)) (length s)) s ≡ run (linesOf s)
 second s h =
     rw (lines-at s 0 (omega arith), lines-at s (nextAt s 0) h)
-    (opened-card (numbersOf (lineAt s 0)) (lineAt s (nextAt s 0)) (nextAt s (nextAt s 0)) s (linesOf (drop (nextAt s (nextAt s 0)) s))
+    (opened-card (numbersOf (lineAt s 0)) (lineAt s (nextAt s 0)) (nextAt s (nextAt s 0)) (length s) s (linesOf (drop (nextAt s (nextAt s 0)) s))
     (λ k. from-lines k s (length s) (nextAt s (nextAt s 0)) (omega arith)))
 
 pub run-prints : RunPrints
@@ -82,10 +82,10 @@ unfolding openingOf printed
 run-prints s = limit (ltb 65536 (length s)) (leb (length s) (nextAt s 0)) refl
   where
     rest : Opened
-    rest = openedCard (numbersOf (lineAt s 0)) (lineAt s (nextAt s 0)) (nextAt s (nextAt s 0))
+    rest = openedCard (numbersOf (lineAt s 0)) (lineAt s (nextAt s 0)) (nextAt s (nextAt s 0)) (length s)
 
     limit : (t u : Bool) → leb (length s) (nextAt s 0) ≡ u
-        → runFrom (cond t (closed tooLong) (cond u (closed badLine) rest)) s ≡ cond t tooLong (run (linesOf s))
+        → runFrom (cond t (closed tooLong (length s)) (cond u (closed badLine (length s)) rest)) s ≡ cond t tooLong (run (linesOf s))
     limit true u e = refl
     limit false true e = no-second s (leb-true (length s) (nextAt s 0) e)
     limit false false e = second s (leb-false (length s) (nextAt s 0) e)

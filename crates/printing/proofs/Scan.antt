@@ -4,21 +4,16 @@ use Prim.Native.Nat.{ℕ, suc, _+_, _*_, _-_, _^_, _≤_, _<_}
 use native.Mathlib.Nat.{pow-succ', add-zero, pow-le-pow-right}
 use native.Mathlib.Numerals.{add-one}
 use native.Mathlib.Omega.{arith}
-use mathlib.Core.Bool.{Bool, true, false, cond, _&&_, false≢true}
+use mathlib.Core.Bool.{Bool, true, false, cond, _&&_, and-eq-true-iff}
 use mathlib.Core.List.{List, [], _∷_}
 use lib.Dec.{eqb, leb}
 use lib.ListN.{length, getD, take, drop, drop-of-length-le}
-use lib.Seq.{drop-cons, drop-nil}
+use lib.Seq.{drop-nil}
 use borrow.Author.Tests.{eq-eqb, ne-eqb, leb-true}
-use Rattle.text.specs.Text.{all, isDigit, onward}
+use Rattle.text.specs.Text.{all, isDigit}
+use Rattle.text.proofs.Bytes.{drop-next}
+use Rattle.text.proofs.Digits.{digit-in}
 use Rattle.printing.specs.Lines.{upTo, beforeSpace, afterSpace, isNumber}
-
-pub both : (a b : Bool) → a && b ≡ true → (a ≡ true) × (b ≡ true)
-both true b e = (refl, e)
-both false b e = absurd (false≢true e)
-
-pub drop-next : (s : List ℕ) (i : ℕ) → i < length s → drop i s ≡ getD s i 0 ∷ drop (i + 1) s
-drop-next s i h = rw add-one (drop-cons s i 0 h)
 
 -- ---- the first e
 
@@ -74,12 +69,9 @@ digits-next ok s i h = rw (drop-next s i h) (split ok (leb 48 (getD s i 0)) (leb
 pub digit-known : (s : List ℕ) (i : ℕ) → i < length s → all isDigit (drop i s) ≡ true
     → (48 ≤ getD s i 0) × (getD s i 0 ≤ 57) × (all isDigit (drop (i + 1) s) ≡ true)
 digit-known s i h t =
-    let b = both (isDigit (getD s i 0)) (all isDigit (drop (i + 1) s)) (rw (drop-next s i h) at t) in
-    let d = both (leb 48 (getD s i 0)) (leb (getD s i 0) 57) (b .0) in
-    (leb-true 48 (getD s i 0) (d .0), leb-true (getD s i 0) 57 (d .1), b .1)
-
-pub onward-next : (v : ℕ) (s : List ℕ) (i : ℕ) → i < length s → onward (v * 10 + (getD s i 0 - 48)) (drop (i + 1) s) ≡ onward v (drop i s)
-onward-next v s i h = rw (drop-next s i h)
+    let b = and-eq-true-iff (isDigit (getD s i 0)) (all isDigit (drop (i + 1) s)) .0 (rw (drop-next s i h) at t) in
+    let d = digit-in (getD s i 0) (b .0) in
+    (d .0, d .1, b .1)
 
 -- i digits make a number below 10 ^ i, i being at most 9
 pub below-next : (v d i : ℕ) → v < 10 ^ i → d ≤ 9 → i ≤ 9 → (v < 1000000000) × (v * 10 + d < 10 ^ (i + 1))
@@ -95,6 +87,6 @@ pub record IsNumber (s : List ℕ) : Type 0 where
 
 pub is-number : (s : List ℕ) → isNumber s ≡ true → IsNumber s
 is-number s t =
-    let b = both (leb 1 (length s) && leb (length s) 9) (all isDigit s) t in
-    let d = both (leb 1 (length s)) (leb (length s) 9) (b .0) in
+    let b = and-eq-true-iff (leb 1 (length s) && leb (length s) 9) (all isDigit s) .0 t in
+    let d = and-eq-true-iff (leb 1 (length s)) (leb (length s) 9) .0 (b .0) in
     record { some-digit = leb-true 1 (length s) (d .0); nine-digits = leb-true (length s) 9 (d .1); of-digits = b .1 }

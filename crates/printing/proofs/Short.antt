@@ -1,18 +1,17 @@
 -- Every text that is printed at once fits 64 bytes, and lines follow only an accepted card. Assumes nothing.
 use mathlib.Core.Path.{_≡_, refl}
-use Prim.Native.Nat.{ℕ, _+_, _≤_}
+use Prim.Native.Nat.{ℕ, _≤_}
 use native.Mathlib.Omega.{arith}
 use mathlib.Core.Bool.{Bool, true, false, cond, false≢true}
 use mathlib.Core.List.{List, []}
 use mathlib.Core.Option.{Option, some, none}
 use lib.Dec.{leb, ltb}
-use lib.IntN.{ℤ, pos}
+use lib.IntN.{pos}
 use lib.ListN.{length, length-append}
 use borrow.Author.Tests.{ltb-false}
 use Rattle.arc.specs.declared.Verdict.{Verdict}
 use Rattle.card.specs.declared.Card.{Card}
 use Rattle.card.specs.declared.PositionAnswer.{PositionAnswer}
-use Rattle.text.specs.Text.{bytes, angleText}
 use Rattle.card.specs.Grid.{positionOf}
 use Rattle.card.specs.Read.{readOf, Accepted, Known}
 use Rattle.printing.specs.Lines.{Pair, numbersOf}
@@ -21,12 +20,9 @@ use Rattle.printing.specs.Run.{lineAt, nextAt, Opened, closed, openedWit
 use Rattle.printing.specs.Steps.{openingFor, openingAnswer, served, textAt, lineAnswer}
 use Rattle.printing.specs.declared.OpeningAnswer.{OpeningAnswer}
 use Rattle.printing.specs.declared.LineAnswer.{LineAnswer}
-use Rattle.printing.proofs.Digits.{length-digits, decimal-short, decimal-most}
+use Rattle.text.proofs.Digits.{decimal-short, decimal-most}
+use Rattle.text.proofs.Angles.{length-angle}
 use Rattle.printing.proofs.Pairs.{pair-below}
-
-length-angle : (d : ℕ) (z : ℤ) → length (angleText d z) ≡ d + 8
-unfolding angleText
-length-angle d z = simp (length-append, length-digits) (omega arith)
 
 answer-short : (a : PositionAnswer) → length (answerText a) ≤ 29
 answer-short (PositionAnswer.At lat lon) = simp (length-append, length-angle) (omega arith)
@@ -61,14 +57,14 @@ pub record Opening (s : List ℕ) (o : Opened) : Type 0 where
   pub known : o .more ≡ true → Known (o .card)
   pub small : o .more ≡ true → length s ≤ 65536
 
-shut : (s x : List ℕ) → length x ≤ 64 → Opening s (closed x)
+shut : (s x : List ℕ) → length x ≤ 64 → Opening s (closed x (length s))
 shut s x h = record { short = h; known = λ e. absurd (false≢true e); small = λ e. absurd (false≢true e) }
 
-with-card : (s : List ℕ) → length s ≤ 65536 → (o : Option Pair) (card : List ℕ) (next : ℕ) → Opening s (openedCard o card next)
+with-card : (s : List ℕ) → length s ≤ 65536 → (o : Option Pair) (card : List ℕ) (next : ℕ) → Opening s (openedCard o card next (length s))
 with-card s h none card next = shut s badLine (omega arith)
 with-card s h (some p) card next = verdict (readOf (p .left) (p .right) card .verdict) (readOf (p .left) (p .right) card .card) refl
   where
-    verdict : (v : Verdict) (k : Card) → readOf (p .left) (p .right) card ≡ record { verdict = v; card = k } → Opening s (openedWith v k next)
+    verdict : (v : Verdict) (k : Card) → readOf (p .left) (p .right) card ≡ record { verdict = v; card = k } → Opening s (openedWith v k next (length s))
     verdict Verdict.Accepted k e =
         record {
           short = omega arith;
@@ -83,9 +79,9 @@ unfolding openingFor openingOf
 openings s out = split (leb 64 (length out)) (ltb 65536 (length s)) (leb (length s) (nextAt s 0)) refl
   where
     rest : Opened
-    rest = openedCard (numbersOf (lineAt s 0)) (lineAt s (nextAt s 0)) (nextAt s (nextAt s 0))
+    rest = openedCard (numbersOf (lineAt s 0)) (lineAt s (nextAt s 0)) (nextAt s (nextAt s 0)) (length s)
 
-    split : (t u v : Bool) → ltb 65536 (length s) ≡ u → Opening s (cond t (cond u (closed tooLong) (cond v (closed badLine) rest)) (closed []))
+    split : (t u v : Bool) → ltb 65536 (length s) ≡ u → Opening s (cond t (cond u (closed tooLong (length s)) (cond v (closed badLine (length s)) rest)) (closed [] (length s)))
     split true true v e = shut s tooLong (omega arith)
     split true false true e = shut s badLine (omega arith)
     split true false false e = with-card s (ltb-false 65536 (length s) e) (numbersOf (lineAt s 0)) (lineAt s (nextAt s 0)) (nextAt s (nextAt s 0))

@@ -1,32 +1,20 @@
 -- What the program prints, from input bytes to output bytes (01, "The printing program"). Definitions only.
---     decimal n          a number with no leading zeros
 --     lineFor k l        what is printed for a line of row and column
 --     printed s          the whole output
 use Prim.Native.Nat.{ℕ}
 use mathlib.Core.List.{List, [], _∷_, _++_}
 use mathlib.Core.Bool.{cond}
 use mathlib.Core.Option.{Option, some, none}
-use lib.Dec.{ltb, eqb}
+use lib.Dec.{ltb}
 use lib.ListN.{length}
 use lib.IntN.{pos}
-use Rattle.arc.specs.declared.Refusal.{Refusal}
 use Rattle.arc.specs.declared.Verdict.{Verdict}
 use Rattle.card.specs.declared.Card.{Card}
-use Rattle.card.specs.declared.Reading.{Reading}
 use Rattle.card.specs.declared.PositionAnswer.{PositionAnswer}
-use Rattle.text.specs.Text.{bytes, digits, angleText}
+use Rattle.text.specs.Text.{bytes, decimal, angleText}
 use Rattle.card.specs.Read.{readOf}
 use Rattle.card.specs.Grid.{positionOf}
 use Rattle.printing.specs.Lines.{linesOf, Pair, numbersOf}
-
--- leading zeros off, but for a last digit
-abbrev pub trimmed : List ℕ → List ℕ
-trimmed [] = []
-trimmed (d ∷ []) = d ∷ []
-trimmed (d ∷ e ∷ ds) = cond (eqb d 48) (trimmed (e ∷ ds)) (d ∷ e ∷ ds)
-
-unfoldable pub decimal : ℕ → List ℕ
-decimal n = trimmed (digits 20 n)
 
 abbrev pub header : List ℕ
 header = bytes "row column latitude longitude\n"

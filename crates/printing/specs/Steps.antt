@@ -20,7 +20,7 @@ use Rattle.card.specs.Read.{noCard}
 use Rattle.whole.specs.Lists.{over}
 use Rattle.printing.specs.Lines.{Pair}
 use Rattle.printing.specs.Printed.{lineFor}
-use Rattle.printing.specs.Run.{lineAt, nextAt, Opened, closed, openingOf}
+use Rattle.printing.specs.Run.{lineAt, Opened, closed, openingOf, goesOn}
 use Rattle.printing.specs.declared.parse.Numbers.{Numbers}
 use Rattle.printing.specs.declared.OpeningAnswer.{OpeningAnswer}
 use Rattle.printing.specs.declared.LineAnswer.{LineAnswer}
@@ -30,7 +30,7 @@ numbersAnswer (some p) = Numbers.Pair (p .left) (p .right)
 numbersAnswer none = Numbers.Bad
 
 unfoldable pub openingFor : List ℕ → List ℕ → Opened
-openingFor s out = cond (leb 64 (length out)) (openingOf s) (closed [])
+openingFor s out = cond (leb 64 (length out)) (openingOf s) (closed [] (length s))
 
 abbrev pub openingAnswer : Opened → OpeningAnswer
 openingAnswer o = record { length = length (o .text); more = o .more; card = o .card; next = o .next }
@@ -40,8 +40,8 @@ abbrev pub openingLeft : List ℕ → List ℕ → List ℕ
 openingLeft s out = over (openingFor s out .text) out
 
 -- nothing follows a text of n bytes
-abbrev pub stopped : ℕ → OpeningAnswer
-stopped n = record { length = n; more = false; card = noCard; next = 0 }
+abbrev pub stopped : ℕ → ℕ → OpeningAnswer
+stopped n end = record { length = n; more = false; card = noCard; next = end }
 
 -- the buffer s is t then, and r is answered
 pub record Opens (o : Opened) (s t : List ℕ) (r : OpeningAnswer) : Type 0 where
@@ -56,7 +56,11 @@ unfoldable pub textAt : Card → List ℕ → ℕ → List ℕ → List ℕ
 textAt k s at out = cond (served s at out) (lineFor k (lineAt s at)) []
 
 unfoldable pub lineAnswer : Card → List ℕ → ℕ → List ℕ → LineAnswer
-lineAnswer k s at out = record { length = length (textAt k s at out); next = cond (served s at out) (nextAt s at) 0 }
+lineAnswer k s at out = record { length = length (textAt k s at out); next = goesOn s at out }
+
+-- nothing is printed for a line
+abbrev pub nothing : ℕ → LineAnswer
+nothing next = record { length = 0; next = next }
 
 abbrev pub lineLeft : Card → List ℕ → ℕ → List ℕ → List ℕ
 lineLeft k s at out = over (textAt k s at out) out

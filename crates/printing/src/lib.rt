@@ -2,14 +2,14 @@
 use card::Card;
 ghost use mathlib.Core.Path.{_≡_};
 ghost use Rattle.card.specs.Read.{Known};
-ghost use Rattle.printing.specs.Steps.{openingFor, openingAnswer, openingLeft, lineAnswer, lineLeft};
+ghost use Rattle.printing.specs.Steps.{openingFor, openingAnswer, openingLeft, lineAnswer, lineLeft, nothing};
 
 mod line;
 mod parse;
 mod start;
 mod write;
 
-// What is printed first: its length; then whether lines follow, of which card, and from where.
+// What is printed first: its length; then whether lines follow, of which card, and from where; the end of the input, where none do.
 pub struct OpeningAnswer {
     pub length: usize,
     pub more: bool,
@@ -17,7 +17,7 @@ pub struct OpeningAnswer {
     pub next: usize,
 }
 
-// What is printed for a line: its length, and where the next line starts.
+// What is printed for a line: its length, and where the caller goes on.
 pub struct LineAnswer {
     pub length: usize,
     pub next: usize,
@@ -30,25 +30,38 @@ pub fn opening(input: &[u8], out: &mut [u8]) -> OpeningAnswer
     ensures left { λ _. ⌜ now (out .exit) ≡ openingLeft (now (input .entry)) (now (out .entry)) ⌝ }
 {
     if out.len() < 64 {
-        return start::stop(0);
+        return start::stop(0, input.len());
     }
     start::opening_of(out, input)
 }
 
+// Nothing is printed for a line.
+fn no_line(next: usize) -> LineAnswer
+    ensures { λ r. ⌜ r ≡ nothing next ⌝ }
+{
+    LineAnswer { length: 0, next }
+}
+
 // The line that starts at an offset: row, column and position, "refused" and the number, or "bad line".
-// Nothing, where no line starts there, or the input is above 64 KiB or the buffer below 64 bytes.
+// Nothing, where no line starts there, or the input is above 64 KiB or the buffer below 64 bytes; with a longer buffer the caller may come again.
 pub fn pixel_line(k: Card, input: &[u8], at: usize, out: &mut [u8]) -> LineAnswer
     requires { ⌜ Known k ⌝ }
     ensures answer { λ r. ⌜ r ≡ lineAnswer k (now (input .entry)) at (now (out .entry)) ⌝ }
     ensures left { λ _. ⌜ now (out .exit) ≡ lineLeft k (now (input .entry)) at (now (out .entry)) ⌝ }
 {
-    if (input.len() <= 65536) & (at < input.len()) & (64 <= out.len()) {
-        let end = parse::until(input, at, 10);
-        let length = line::put_pixel(out, k, &input[at..end]);
-        return LineAnswer {
-            length,
-            next: end + 1,
-        };
+    if input.len() <= at {
+        return no_line(at);
     }
-    LineAnswer { length: 0, next: 0 }
+    if 65536 < input.len() {
+        return no_line(input.len());
+    }
+    if out.len() < 64 {
+        return no_line(at);
+    }
+    let end = parse::until(input, at, 10);
+    let length = line::put_pixel(out, k, &input[at..end]);
+    LineAnswer {
+        length,
+        next: end + 1,
+    }
 }

@@ -31,8 +31,8 @@ fn put_refusal(out: &mut [u8], e: Refusal) -> usize
 }
 
 // Nothing follows.
-pub fn stop(length: usize) -> OpeningAnswer
-    ensures { λ r. ⌜ r ≡ stopped length ⌝ }
+pub fn stop(length: usize, end: usize) -> OpeningAnswer
+    ensures { λ r. ⌜ r ≡ stopped length end ⌝ }
 {
     let card = Card {
         scale: 0,
@@ -56,14 +56,14 @@ pub fn stop(length: usize) -> OpeningAnswer
         length,
         more: false,
         card,
-        next: 0,
+        next: end,
     }
 }
 
 // The header, where the card is accepted; lines follow.
-fn opened(out: &mut [u8], verdict: Verdict, card: Card, next: usize) -> OpeningAnswer
+fn opened(out: &mut [u8], verdict: Verdict, card: Card, next: usize, end: usize) -> OpeningAnswer
     requires { ⌜ 64 ≤ length (now out) ⌝ }
-    ensures { λ r. ⌜ Opens (openedWith verdict card next) (now (out .entry)) (now (out .exit)) r ⌝ }
+    ensures { λ r. ⌜ Opens (openedWith verdict card next end) (now (out .entry)) (now (out .exit)) r ⌝ }
 {
     match verdict {
         Verdict::Accepted => {
@@ -77,33 +77,33 @@ fn opened(out: &mut [u8], verdict: Verdict, card: Card, next: usize) -> OpeningA
         }
         Verdict::Refused(e) => {
             let length = put_refusal(out, e);
-            stop(length)
+            stop(length, end)
         }
     }
 }
 
 // A text after which nothing follows.
-fn stop_with(out: &mut [u8], text: &[u8]) -> OpeningAnswer
+fn stop_with(out: &mut [u8], text: &[u8], end: usize) -> OpeningAnswer
     requires { ⌜ length (now text) ≤ length (now out) ⌝ }
-    ensures { λ r. ⌜ Opens (closed (now (text .entry))) (now (out .entry)) (now (out .exit)) r ⌝ }
+    ensures { λ r. ⌜ Opens (closed (now (text .entry)) end) (now (out .entry)) (now (out .exit)) r ⌝ }
 {
     let length = write::text(out, 0, text);
-    stop(length)
+    stop(length, end)
 }
 
-// The scale and the zone of the first line, the card of the second; the other lines start at `next`.
-fn two_lines(out: &mut [u8], first: &[u8], second: &[u8], next: usize) -> OpeningAnswer
+// The scale and the zone of the first line, the card of the second; the other lines start at `next`, and the input ends at `end`.
+fn two_lines(out: &mut [u8], first: &[u8], second: &[u8], next: usize, end: usize) -> OpeningAnswer
     requires { ⌜ 64 ≤ length (now out) ⌝ }
-    ensures { λ r. ⌜ Opens (openedCard (numbersOf (now (first .entry))) (now (second .entry)) next) (now (out .entry)) (now (out .exit)) r ⌝ }
+    ensures { λ r. ⌜ Opens (openedCard (numbersOf (now (first .entry))) (now (second .entry)) next end) (now (out .entry)) (now (out .exit)) r ⌝ }
 {
     match parse::numbers_in(first) {
         Numbers::Pair { left, right } => {
             let r = card_text::read_card(left, right, second);
             let verdict = r.verdict;
             let card = r.card;
-            opened(out, verdict, card, next)
+            opened(out, verdict, card, next, end)
         }
-        Numbers::Bad => stop_with(out, b"bad line\n"),
+        Numbers::Bad => stop_with(out, b"bad line\n", end),
     }
 }
 
@@ -113,13 +113,13 @@ pub fn opening_of(out: &mut [u8], input: &[u8]) -> OpeningAnswer
     ensures { λ r. ⌜ Opens (openingOf (now (input .entry))) (now (out .entry)) (now (out .exit)) r ⌝ }
 {
     if 65536 < input.len() {
-        return stop_with(out, b"input too long\n");
+        return stop_with(out, b"input too long\n", input.len());
     }
     let end = parse::until(input, 0, 10);
     let from = end + 1;
     if input.len() <= from {
-        return stop_with(out, b"bad line\n");
+        return stop_with(out, b"bad line\n", input.len());
     }
     let to = parse::until(input, from, 10);
-    two_lines(out, &input[..end], &input[from..to], to + 1)
+    two_lines(out, &input[..end], &input[from..to], to + 1, input.len())
 }

@@ -6,9 +6,8 @@ ghost use Prim.Native.Nat.{_+_, _/_, _%_, _^_, _<_, _≤_};
 ghost use lib.IntN.{pos};
 ghost use lib.ListN.{length};
 ghost use lib.Signed.{ltZ};
-ghost use Rattle.text.specs.Text.{digits, angleText};
+ghost use Rattle.text.specs.Text.{digits, decimal, angleText};
 ghost use Rattle.text.specs.Steps.{Put};
-ghost use Rattle.printing.specs.Printed.{decimal};
 
 const POWERS: [u64; 20] = [
     1,

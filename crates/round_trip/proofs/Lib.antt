@@ -1,7 +1,3 @@
-pub mod Bytes
-pub mod Digits
-pub mod Runs
-pub mod Angles
 pub mod Table
 pub mod Records
 pub mod ReadBack

@@ -15,9 +15,9 @@ use Rattle.card.specs.Layout.{Subfield, STR, ARV, BRV, LSO, PSO, NUL, NUS, NLL,
 use Rattle.card.specs.Read.{numberIn, cardOf}
 use Rattle.card.specs.Write.{valuesOf, cardText}
 use Rattle.card.specs.RoundTrips.{recordOf, WrittenBack, WritesBack}
-use Rattle.round_trip.proofs.Bytes.{length-part, drop-next}
-use Rattle.round_trip.proofs.Digits.{digits-number}
-use Rattle.round_trip.proofs.Angles.{text-of-angle}
+use Rattle.text.proofs.Bytes.{length-part, drop-next}
+use Rattle.text.proofs.Digits.{digits-number}
+use Rattle.text.proofs.Angles.{text-of-angle}
 use Rattle.round_trip.proofs.Table.{Along, done, _then_, Text, written-back}
 use Rattle.round_trip.proofs.Records.{Good, Writes, is-written, text-out}
 use Rattle.card.proofs.Walked.{between, RightIn, right-in}

@@ -10,6 +10,7 @@
 --     angleValid d limit s     minutes and seconds below 60, within the limit, and no minus zero
 --     nameLaid s         eight letters or digits, a dot, three more
 --     digits w v         the w digits of v, zero-filled
+--     decimal n          a number with no leading zeros
 --     angleText d z      ±DDDMMSS.SS or ±DDMMSS.SS; zero carries a plus
 use Prim.Native.Nat.{ℕ, zero, suc, _+_, _*_, _-_, _/_, _%_, _^_}
 use Prim.Native.Char.{code}
@@ -95,6 +96,15 @@ isFlag b = eqb b 89 || eqb b 78
 abbrev pub digits : ℕ → ℕ → List ℕ
 digits zero v = []
 digits (suc w) v = (48 + v / 10 ^ w % 10) ∷ digits w v
+
+-- leading zeros off, but for a last digit
+abbrev pub trimmed : List ℕ → List ℕ
+trimmed [] = []
+trimmed (d ∷ []) = d ∷ []
+trimmed (d ∷ e ∷ ds) = cond (eqb d 48) (trimmed (e ∷ ds)) (d ∷ e ∷ ds)
+
+unfoldable pub decimal : ℕ → List ℕ
+decimal n = trimmed (digits 20 n)
 
 -- the degrees, the minutes, the seconds, the dot and the hundredths of a size z
 abbrev pub sizeText : ℕ → ℕ → List ℕ

@@ -44,7 +44,7 @@ loop-less c =
     let a = p .before .before .before .before .before .args in
     omega (
       arith,
-      next-further (a .k) (a .input .now) (g .at) (replicate 64 0) (p .pixel-line .ensures .0) (g .inv)
+      next-further (a .k) (a .input .now) (g .at) (replicate 64 0) (p .pixel-line .ensures .0)
           (p .before .before .loop-test .taken) (omega arith),
     )
 

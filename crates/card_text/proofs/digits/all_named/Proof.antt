@@ -5,7 +5,7 @@ use mathlib.Core.Bool.{_&&_, and-true}
 use native.Mathlib.Omega.{arith}
 use lib.ListN.{length, drop, drop-of-length-le}
 use Rattle.text.specs.Text.{all, isNameByte}
-use Rattle.card_text.proofs.Runs.{all-next}
+use Rattle.text.proofs.Bytes.{all-next}
 use borrow.Author.Needs.{needs}
 use Rattle.card_text.proofs.digits.all_named.Statement.{statement}
 use Rattle.card_text.proofs.digits.all_named.Tie as tie

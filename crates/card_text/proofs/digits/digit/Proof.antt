@@ -1,8 +1,6 @@
 -- From 48 to 57 the difference does not wrap. Assumes nothing.
 use native.Mathlib.Omega.{arith}
-use borrow.Author.Tests.{leb-true}
-use lib.Dec.{leb}
-use Rattle.card_text.proofs.Runs.{and-l, and-r}
+use Rattle.text.proofs.Digits.{digit-in}
 use borrow.Author.Needs.{needs}
 use Rattle.card_text.proofs.digits.digit.Statement.{statement}
 use Rattle.card_text.proofs.digits.digit.Tie as tie
@@ -16,7 +14,7 @@ cast-result c = search needs
 returns : tie.Need-returns
 returns c =
     let b = c .before .args .b in (
-      λ e. omega (arith, leb-true 48 b (and-l (leb 48 b) (leb b 57) e), leb-true b 57 (and-r (leb 48 b) (leb b 57) e), c .wrapping-sub-u8 .ensures),
+      λ e. omega (arith, digit-in b e, c .wrapping-sub-u8 .ensures),
       omega arith,
     )
 

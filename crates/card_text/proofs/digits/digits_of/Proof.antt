@@ -1,15 +1,23 @@
 -- The test so far, and the one of what is left, are the whole's; where each byte is a digit, so is the value. The value is
 -- small, whatever the bytes are. Assumes nothing.
-use Prim.Native.Nat.{_≤_, _<_, _-_, _+_, _*_, _^_}
+use Prim.Native.Nat.{ℕ, _≤_, _<_, _-_, _+_, _*_, _^_}
 use mathlib.Core.Path.{_≡_, refl, sym, _∙_}
 use mathlib.Core.Bool.{true, _&&_, and-true}
+use native.Mathlib.Numerals.{add-one}
+use native.Mathlib.Nat.{pow-succ', pow-le-pow-right}
 use native.Mathlib.Omega.{arith}
 use lib.ListN.{length, drop, drop-of-length-le}
 use Rattle.text.specs.Text.{number, onward, all, isDigit}
-use Rattle.card_text.proofs.Runs.{onward-next, all-next, all-at, pow-next, pow-bound}
+use Rattle.text.proofs.Bytes.{onward-next, all-next, all-at}
 use borrow.Author.Needs.{needs}
 use Rattle.card_text.proofs.digits.digits_of.Statement.{statement}
 use Rattle.card_text.proofs.digits.digits_of.Tie as tie
+
+pow-next : (i : ℕ) → 10 ^ (i + 1) ≡ 10 * 10 ^ i
+pow-next i = rw add-one (pow-succ' 10 i)
+
+pow-bound : (i : ℕ) → i ≤ 8 → 10 ^ i ≤ 100000000
+pow-bound i h = pow-le-pow-right (omega arith) h
 
 abbrev Inv-loop : tie.InvT-loop
 Inv-loop s value₀ ok₀ i₀ value ok i =

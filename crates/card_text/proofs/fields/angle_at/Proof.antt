@@ -5,7 +5,7 @@ use Rattle.card.specs.Layout.{Kind}
 use Rattle.text.specs.Text.{part}
 use Rattle.card.specs.Layout.{sub}
 use Rattle.card_text.specs.StepsFields.{DigitsOf}
-use Rattle.card_text.proofs.Runs.{part-in}
+use Rattle.text.proofs.Bytes.{part-in}
 use Rattle.card_text.proofs.Table.{field-at}
 use Rattle.card_text.proofs.Angles.{angle-laid, angle-right}
 use borrow.Author.Needs.{needs}

@@ -9,7 +9,7 @@ use mir.Val.{boolByte}
 use Rattle.card.specs.Layout.{Kind}
 use Rattle.text.specs.Text.{part}
 use Rattle.card.specs.Layout.{sub}
-use Rattle.card_text.proofs.Runs.{part-at}
+use Rattle.text.proofs.Bytes.{byte-in}
 use Rattle.card_text.proofs.Table.{field-at}
 use borrow.Author.Needs.{needs}
 use Rattle.card_text.proofs.fields.flag_at.Statement.{statement}
@@ -32,7 +32,7 @@ joined-requires c κs = search needs
 returns : tie.Need-returns
 returns c =
     let a = c .before .before .before .args in
-    let b : getD (part (a .o) 1 (a .s .now)) 0 0 ≡ getD (a .s .now) (a .o) 0 = part-at (a .o) 0 1 (a .s .now) (omega arith) ∙ rw add-zero in
+    let b : getD (part (a .o) 1 (a .s .now)) 0 0 ≡ getD (a .s .now) (a .o) 0 = byte-in (a .o) 0 1 (a .s .now) (omega arith) ∙ rw add-zero in
     field-at (sub (a .o) 1 Kind.Flag) (a .s .now) (a .before .verdict) _ _ _ _ (c .joined .ensures) refl
     (λ e. (rw b, rw b (one-or-none (eqb (getD (a .s .now) (a .o) 0) 89))))
 

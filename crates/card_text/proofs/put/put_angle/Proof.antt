@@ -5,7 +5,8 @@ use mathlib.Core.List.{List, [], _∷_, _++_}
 use native.Mathlib.Omega.{arith}
 use lib.ListN.{length, length-append}
 use Rattle.text.specs.Text.{digits, angleText}
-use Rattle.card_text.proofs.Splices.{run-next, length-digits}
+use Rattle.text.proofs.Digits.{length-digits}
+use Rattle.text.proofs.Splices.{run-next}
 use Rattle.card_text.proofs.Written.{sign-is}
 use borrow.Author.Needs.{needs}
 use Rattle.card_text.proofs.put.put_angle.Statement.{statement}

@@ -1,5 +1,5 @@
 -- A byte stored is a run of one. Assumes nothing.
-use Rattle.card_text.proofs.Splices.{splice-set}
+use Rattle.text.proofs.Splices.{splice-set}
 use borrow.Author.Needs.{needs}
 use Rattle.card_text.proofs.put.put_byte.Statement.{statement}
 use Rattle.card_text.proofs.put.put_byte.Tie as tie

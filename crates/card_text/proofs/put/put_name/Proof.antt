@@ -5,7 +5,7 @@ use native.Mathlib.Omega.{arith}
 use lib.ListN.{length, take}
 use lib.Seq.{take-all}
 use Rattle.text.specs.Steps.{splice}
-use Rattle.card_text.proofs.Splices.{splice-nil, put-next}
+use Rattle.text.proofs.Splices.{splice-nil, put-next}
 use borrow.Author.Needs.{needs}
 use Rattle.card_text.proofs.put.put_name.Statement.{statement}
 use Rattle.card_text.proofs.put.put_name.Tie as tie

@@ -6,7 +6,8 @@ use lib.ListN.{length, take}
 use lib.Seq.{take-all}
 use Rattle.text.specs.Text.{digits}
 use Rattle.text.specs.Steps.{splice}
-use Rattle.card_text.proofs.Splices.{splice-nil, put-next, length-digits, digit-at}
+use Rattle.text.proofs.Digits.{length-digits, digit-at}
+use Rattle.text.proofs.Splices.{splice-nil, put-next}
 use Rattle.card_text.proofs.put.put_number.Statement.{statement}
 use Rattle.card_text.proofs.put.put_number.Tie as tie
 

@@ -5,7 +5,7 @@ use native.Mathlib.Omega.{arith}
 use lib.ListN.{length, getD, drop, take, length-set, length-take, length-drop}
 use lib.Seq.{take-all, getD-take, getD-drop}
 use Rattle.text.specs.Text.{part}
-use Rattle.card_text.proofs.Runs.{copy-next}
+use Rattle.text.proofs.Bytes.{copy-next}
 use Rattle.card_text.proofs.read.name_of.Statement.{statement}
 use Rattle.card_text.proofs.read.name_of.Tie as tie
 

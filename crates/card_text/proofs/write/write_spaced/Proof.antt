@@ -17,7 +17,7 @@ use Rattle.arc.specs.Refusals.{refusal}
 use Rattle.card.specs.Write.{first, recordTests, writeIn}
 use Rattle.text.specs.Steps.{splice}
 use Rattle.card_text.specs.StepsWrite.{countTests, outIn}
-use Rattle.card_text.proofs.Splices.{splice-over}
+use Rattle.text.proofs.Splices.{splice-over}
 use Rattle.card_text.proofs.Tests.{inside-is, narrow, counts-refused, rows-refused, columns-refused, extents-judged}
 use Rattle.card_text.proofs.Written.{held-are}
 use borrow.Author.Needs.{needs}

@@ -2,7 +2,7 @@
 use mir.Syntax.{w64}
 use mir.ValLaws.{toZ-ofZ}
 use borrow.Author.Needs.{needs}
-use Rattle.printing.proofs.Pieces.{put-then}
+use Rattle.text.proofs.Splices.{put-then}
 use Rattle.printing.proofs.line.put_answer.Statement.{statement}
 use Rattle.printing.proofs.line.put_answer.Tie as tie
 

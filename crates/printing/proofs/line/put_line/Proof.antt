@@ -1,8 +1,8 @@
 -- The pieces one after the other; a number below 10 ^ 9 takes at most nine bytes, so all of them fit. Assumes nothing.
 use native.Mathlib.Omega.{arith}
 use borrow.Author.Needs.{needs}
-use Rattle.printing.proofs.Digits.{decimal-short}
-use Rattle.printing.proofs.Pieces.{put-then, put-length}
+use Rattle.text.proofs.Digits.{decimal-short}
+use Rattle.text.proofs.Splices.{put-then, put-length}
 use Rattle.printing.proofs.line.put_line.Statement.{statement}
 use Rattle.printing.proofs.line.put_line.Tie as tie
 

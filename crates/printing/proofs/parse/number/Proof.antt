@@ -5,7 +5,8 @@ use Prim.Native.Nat.{_-_, _^_, _≤_, _<_}
 use native.Mathlib.Omega.{arith}
 use lib.ListN.{length, drop, getD, drop-of-length-le}
 use Rattle.text.specs.Text.{all, isDigit, onward, number}
-use Rattle.printing.proofs.Scan.{IsNumber, is-number, digit-known, onward-next, below-next}
+use Rattle.text.proofs.Bytes.{onward-next}
+use Rattle.printing.proofs.Scan.{IsNumber, is-number, digit-known, below-next}
 use Rattle.printing.proofs.parse.number.Statement.{statement}
 use Rattle.printing.proofs.parse.number.Tie as tie
 

@@ -1,8 +1,8 @@
 -- The parts before and after the first space, each tested and read. Assumes nothing.
 use mathlib.Core.Path.{sym, _∙_}
+use mathlib.Core.Bool.{and-eq-true-iff}
 use lib.Seq.{length-take-le}
 use borrow.Author.Needs.{needs}
-use Rattle.printing.proofs.Scan.{both}
 use Rattle.printing.proofs.Pairs.{bad-whole, bad-parts, good-parts}
 use Rattle.printing.proofs.parse.numbers_in.Statement.{statement}
 use Rattle.printing.proofs.parse.numbers_in.Tie as tie
@@ -37,12 +37,12 @@ is-number-requires-2 c κs = search needs
 number-requires : tie.Need-number-requires
 number-requires c κs =
     let t = c .before in
-    sym (t .before .is-number .ensures) ∙ both (t .before .is-number .result) (t .is-number2 .result) (c .if2 .taken) .0
+    sym (t .before .is-number .ensures) ∙ and-eq-true-iff (t .before .is-number .result) (t .is-number2 .result) .0 (c .if2 .taken) .0
 
 number-requires-2 : tie.Need-number-requires-2
 number-requires-2 c κs =
     let t = c .before .before in
-    sym (t .is-number2 .ensures) ∙ both (t .before .is-number .result) (t .is-number2 .result) (c .before .if2 .taken) .1
+    sym (t .is-number2 .ensures) ∙ and-eq-true-iff (t .before .is-number .result) (t .is-number2 .result) .0 (c .before .if2 .taken) .1
 
 returns-2 : tie.Need-returns-2
 returns-2 c =

@@ -37,7 +37,7 @@ same-length-2 c = search needs
 returns-2 : tie.Need-returns-2
 returns-2 c =
     let p = c .before .before .before in
-    rw (p .before .before .before .verdict .given .1) (stops (p .put-refusal .ensures) (c .stop .result) (c .stop .ensures))
+    rw (p .before .before .before .verdict .given .1) (stops (p .put-refusal .ensures) (c .stop .result) _ (c .stop .ensures))
 
 pub opened-spec : {M : Type 1} → statement M
 opened-spec =

@@ -1,6 +1,6 @@
 -- The pieces one after the other. Assumes nothing.
 use borrow.Author.Needs.{needs}
-use Rattle.printing.proofs.Pieces.{put-then}
+use Rattle.text.proofs.Splices.{put-then}
 use Rattle.printing.proofs.start.put_refusal.Statement.{statement}
 use Rattle.printing.proofs.start.put_refusal.Tie as tie
 

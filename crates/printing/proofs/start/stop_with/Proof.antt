@@ -14,7 +14,7 @@ same-length : tie.Need-same-length
 same-length c = search needs
 
 returns : tie.Need-returns
-returns c = stops (c .before .before .before .text .ensures) (c .stop .result) (c .stop .ensures)
+returns c = stops (c .before .before .before .text .ensures) (c .stop .result) _ (c .stop .ensures)
 
 pub stop-with-spec : {M : Type 1} → statement M
 stop-with-spec = tie.close (tie.spec text-requires stop-requires same-length returns)

@@ -4,7 +4,7 @@ use mir.Syntax.{w64}
 use mir.ValLaws.{toZ-ofZ}
 use borrow.Author.Needs.{needs}
 use Rattle.text.specs.Text.{angleText}
-use Rattle.printing.proofs.Pieces.{put-then}
+use Rattle.text.proofs.Splices.{put-then}
 use Rattle.printing.proofs.write.angle.Statement.{statement}
 use Rattle.printing.proofs.write.angle.Tie as tie
 

@@ -1,6 +1,6 @@
 -- One store puts one byte. Assumes nothing.
 use borrow.Author.Needs.{needs}
-use Rattle.printing.proofs.Pieces.{put-byte}
+use Rattle.text.proofs.Splices.{put-byte}
 use Rattle.printing.proofs.write.byte.Statement.{statement}
 use Rattle.printing.proofs.write.byte.Tie as tie
 

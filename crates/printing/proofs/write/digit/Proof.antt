@@ -5,7 +5,7 @@ use native.Mathlib.Nat.{zero-add, one-le-pow}
 use native.Mathlib.Omega.{arith}
 use lib.ListN.{getD}
 use borrow.Author.Needs.{needs}
-use Rattle.printing.proofs.Digits.{powers, power-at}
+use Rattle.text.proofs.Digits.{powers, power-at}
 use Rattle.printing.proofs.write.digit.Statement.{statement}
 use Rattle.printing.proofs.write.digit.Tie as tie
 

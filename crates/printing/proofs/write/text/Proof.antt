@@ -3,7 +3,7 @@ use mathlib.Core.Path.{refl}
 use Prim.Native.Nat.{_-_, _≤_}
 use native.Mathlib.Omega.{arith}
 use lib.ListN.{length}
-use Rattle.printing.proofs.Pieces.{Partly, partly-none, partly-next, partly-all}
+use Rattle.text.proofs.Splices.{Partly, partly-none, partly-next, partly-all}
 use Rattle.printing.proofs.write.text.Statement.{statement}
 use Rattle.printing.proofs.write.text.Tie as tie
 

@@ -2,9 +2,8 @@
 use mathlib.Core.Path.{_≡_, refl, sym, _∙_}
 use Prim.Native.Nat.{_≤_}
 use native.Mathlib.Omega.{arith}
-use Rattle.text.specs.Text.{digits}
-use Rattle.printing.specs.Printed.{trimmed, decimal}
-use Rattle.printing.proofs.Digits.{trim-zero, trim-stop}
+use Rattle.text.specs.Text.{digits, trimmed, decimal}
+use Rattle.text.proofs.Digits.{trim-zero, trim-stop}
 use Rattle.printing.proofs.write.width.Statement.{statement}
 use Rattle.printing.proofs.write.width.Tie as tie
 

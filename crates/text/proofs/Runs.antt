@@ -2,16 +2,15 @@
 -- offset, and bytes that are laid out are such runs. Assumes nothing.
 use mathlib.Core.Path.{_≡_, refl, ap, _∙_}
 use mathlib.Core.List.{List, [], _∷_, _++_, append-assoc, append-nil}
-use mathlib.Core.Bool.{true, _&&_}
-use Prim.Native.Nat.{ℕ, _+_, _*_, _≤_}
+use mathlib.Core.Bool.{true, and-eq-true-iff}
+use Prim.Native.Nat.{ℕ, _+_, _*_}
 use native.Mathlib.Omega.{arith}
-use lib.Dec.{eqb}
 use lib.ListN.{length, getD, drop, length-append, drop-of-length-le}
 use lib.Seq.{getD-at}
 use borrow.Author.Tests.{eqb-true, eq-eqb}
 use Rattle.text.specs.Text.{all, part, isDigit, isSign, number, angleLaid, degrees, minutes, seconds, hundredths, angleSize, digits}
-use Rattle.round_trip.proofs.Bytes.{and-l, and-r, and-both, part-at, length-part, cut, drop-next, part-part, all-append, all-part}
-use Rattle.round_trip.proofs.Digits.{length-digits, all-digits}
+use Rattle.text.proofs.Bytes.{part-at, length-part, cut, drop-next, all-append, all-groups}
+use Rattle.text.proofs.Digits.{length-digits, all-digits}
 
 -- w digits
 pub record Run (w : ℕ) (x : List ℕ) : Type 0 where
@@ -72,12 +71,9 @@ module _ {n : ℕ} {t : List ℕ} (r : Runs n t) where
   pub laid : angleLaid n t ≡ true
   unfolding angleLaid
   laid =
-      and-both (isSign (getD t 0 0) && all isDigit (part 1 (n + 4) t) && eqb (getD t (n + 5) 0) 46) (all isDigit (part (n + 6) 2 t))
-      (and-both (isSign (getD t 0 0) && all isDigit (part 1 (n + 4) t)) (eqb (getD t (n + 5) 0) 46)
-      (and-both (isSign (getD t 0 0)) (all isDigit (part 1 (n + 4) t)) (rw sign-at (r .is-sign))
-      (rw whole-at (all-append isDigit (r .d ++ r .m) (r .s) (all-append isDigit (r .d) (r .m) (r .d-run .digit) (r .m-run .digit)) (r .s-run .digit))))
-      (eq-eqb (getD t (n + 5) 0) 46 dot-at))
-      (rw hundredths-at (r .h-run .digit))
+      let groups : all isDigit (r .d ++ r .m ++ r .s) ≡ true =
+      rw (all-append isDigit (r .d ++ r .m) (r .s), all-append isDigit (r .d) (r .m), r .d-run .digit, r .m-run .digit) (r .s-run .digit) in
+      rw (sign-at, r .is-sign, whole-at, groups, eq-eqb (getD t (n + 5) 0) 46 dot-at, hundredths-at) (r .h-run .digit)
 
   pub minutes-is : minutes n t ≡ number (r .m)
   unfolding minutes
@@ -91,27 +87,29 @@ module _ {n : ℕ} {t : List ℕ} (r : Runs n t) where
   unfolding angleSize degrees minutes seconds hundredths
   size-is = rw (degrees-at, minutes-at, seconds-at, hundredths-at)
 
--- bytes that are laid out
-module _ (n : ℕ) (t : List ℕ) (long : length t ≡ n + 8) (is-laid : angleLaid n t ≡ true) where
-  -- the four tests
-  tests : (isSign (getD t 0 0) ≡ true) × (all isDigit (part 1 (n + 4) t) ≡ true) × (getD t (n + 5) 0 ≡ 46) × (all isDigit (part (n + 6) 2 t) ≡ true)
-  unfolding angleLaid
-  tests =
-      let a = isSign (getD t 0 0) in
-      let b = all isDigit (part 1 (n + 4) t) in
-      let c = eqb (getD t (n + 5) 0) 46 in
-      let e = all isDigit (part (n + 6) 2 t) in
-      let abc = and-l (a && b && c) e is-laid in
-      let ab = and-l (a && b) c abc in
-      (and-l a b ab, and-r a b ab, eqb-true (getD t (n + 5) 0) 46 (and-r (a && b) c abc), and-r (a && b && c) e is-laid)
+-- the tests of bytes that are laid out; degrees, minutes and seconds are tested together
+pub record Laid (n : ℕ) (t : List ℕ) : Type 0 where
+  pub sign : isSign (getD t 0 0) ≡ true
+  pub d : all isDigit (part 1 n t) ≡ true
+  pub m : all isDigit (part (n + 1) 2 t) ≡ true
+  pub s : all isDigit (part (n + 3) 2 t) ≡ true
+  pub dot : getD t (n + 5) 0 ≡ 46
+  pub h : all isDigit (part (n + 6) 2 t) ≡ true
 
-  -- degrees, minutes and seconds are tested together
-  inner : (o w k : ℕ) → 1 + k ≡ o → k + w ≤ n + 4 → Run w (part o w t)
-  inner o w k e h =
-      record {
-        long = length-part o w t (omega arith);
-        digit = rw (← e, ← part-part k w 1 (n + 4) t h) (all-part isDigit k w (part 1 (n + 4) t) (tests .1));
-      }
+pub laid-tests : (n : ℕ) (t : List ℕ) → angleLaid n t ≡ true → Laid n t
+unfolding angleLaid
+laid-tests n t e =
+    let abc = and-eq-true-iff _ _ .0 e in
+    let ab = and-eq-true-iff _ _ .0 (abc .0) in
+    let a = and-eq-true-iff _ _ .0 (ab .0) in
+    let xyz = and-eq-true-iff _ _ .0 (all-groups isDigit n t ∙ a .1) in
+    let xy = and-eq-true-iff _ _ .0 (xyz .0) in
+    record { sign = a .0; d = xy .0; m = xy .1; s = xyz .1; dot = eqb-true (getD t (n + 5) 0) 46 (ab .1); h = abc .1 }
+
+-- bytes that are laid out are such runs
+module _ (n : ℕ) (t : List ℕ) (long : length t ≡ n + 8) (is-laid : angleLaid n t ≡ true) where
+  abbrev tests : Laid n t
+  tests = laid-tests n t is-laid
 
   split : t ≡ joined (getD t 0 0) (part 1 n t) (part (n + 1) 2 t) (part (n + 3) 2 t) (part (n + 6) 2 t)
   split =
@@ -120,7 +118,7 @@ module _ (n : ℕ) (t : List ℕ) (long : length t ≡ n + 8) (is-laid : angleLa
       let e2 : drop (n + 1) t ≡ part (n + 1) 2 t ++ drop (n + 3) t = cut (n + 1) 2 (n + 3) t (omega arith) in
       let e3 : drop (n + 3) t ≡ part (n + 3) 2 t ++ drop (n + 5) t = cut (n + 3) 2 (n + 5) t (omega arith) in
       let n6 : n + 5 + 1 ≡ n + 6 = omega arith in
-      let e4 : drop (n + 5) t ≡ 46 ∷ drop (n + 6) t = rw (n6, tests .2) at (drop-next t (n + 5) (omega arith)) in
+      let e4 : drop (n + 5) t ≡ 46 ∷ drop (n + 6) t = rw (n6, tests .dot) at (drop-next t (n + 5) (omega arith)) in
       let e5 : drop (n + 6) t ≡ part (n + 6) 2 t ++ drop (n + 8) t = cut (n + 6) 2 (n + 8) t (omega arith) in
       let e6 : drop (n + 8) t ≡ [] = drop-of-length-le t {i = n + 8} (omega arith) in
       let e : drop 1 t ≡ part 1 n t ++ (part (n + 1) 2 t ++ (part (n + 3) 2 t ++ (46 ∷ part (n + 6) 2 t))) = cc (append-nil (part (n + 6) 2 t)) in
@@ -138,9 +136,9 @@ module _ (n : ℕ) (t : List ℕ) (long : length t ≡ n + 8) (is-laid : angleLa
         s = part (n + 3) 2 t;
         h = part (n + 6) 2 t;
         whole = split;
-        is-sign = tests .0;
-        d-run = inner 1 n 0 refl (omega arith);
-        m-run = inner (n + 1) 2 n (omega arith) (omega arith);
-        s-run = inner (n + 3) 2 (n + 2) (omega arith) (omega arith);
-        h-run = record { long = length-part (n + 6) 2 t (omega arith); digit = tests .3 };
+        is-sign = tests .sign;
+        d-run = record { long = length-part 1 n t (omega arith); digit = tests .d };
+        m-run = record { long = length-part (n + 1) 2 t (omega arith); digit = tests .m };
+        s-run = record { long = length-part (n + 3) 2 t (omega arith); digit = tests .s };
+        h-run = record { long = length-part (n + 6) 2 t (omega arith); digit = tests .h };
       }

@@ -2,18 +2,17 @@
 -- minutes, seconds and hundredths are the quotients and remainders of the size, and they give it back. Assumes nothing.
 use mathlib.Core.Path.{_≡_, refl, sym, ap, _∙_}
 use mathlib.Core.List.{List}
-use mathlib.Core.Bool.{Bool, true, false, cond, _&&_, _||_, not, false≢true}
+use mathlib.Core.Bool.{Bool, true, false, cond, _&&_, _||_, not, false≢true, and-eq-true-iff}
 use Prim.Native.Nat.{ℕ, zero, suc, _+_, _*_, _/_, _%_, _^_, _≤_, _<_}
 use native.Mathlib.Omega.{arith}
-use lib.Dec.{leb, ltb, eqb}
+use lib.Dec.{eqb}
 use lib.IntN.{ℤ, pos, negsuc, negℤ, natAbs}
 use lib.Signed.{ltZ}
 use lib.ListN.{length, getD, length-append}
 use borrow.Author.Tests.{leb-true, ltb-true, eqb-true, le-leb, lt-ltb, le-ltb, ne-eqb}
 use Rattle.text.specs.Text.{isSign, minus, number, angleLaid, minutes, seconds, angleSize, angleOf, angleValid, digits, angleText}
-use Rattle.round_trip.proofs.Bytes.{and-l, and-r}
-use Rattle.round_trip.proofs.Digits.{length-digits, number-digits, digits-number, number-below}
-use Rattle.round_trip.proofs.Runs.{Run, Runs, joined, digits-run, laid, sign-at, minutes-is, seconds-is, size-is, runs}
+use Rattle.text.proofs.Digits.{length-digits, number-digits, digits-number, number-below}
+use Rattle.text.proofs.Runs.{Run, Runs, joined, digits-run, laid, sign-at, minutes-is, seconds-is, size-is, runs}
 
 abbrev signByte : ℤ → ℕ
 signByte z = cond (ltZ z (pos 0)) 45 43
@@ -99,29 +98,24 @@ plus b e n = eqb-true b 43 (go (eqb b 43) (rw n at e))
     go true q = refl
     go false q = q
 
+-- the four tests
+pub valid-tests : (d limit : ℕ) (s : List ℕ) → angleValid d limit s ≡ true
+    → (minutes d s < 60) × (seconds d s < 60) × (angleSize d s ≤ limit) × (not (minus s && eqb (angleSize d s) 0) ≡ true)
+unfolding angleValid
+valid-tests d limit s valid =
+    let abc = and-eq-true-iff _ _ .0 valid in
+    let ab = and-eq-true-iff _ _ .0 (abc .0) in
+    let a = and-eq-true-iff _ _ .0 (ab .0) in
+    (ltb-true (minutes d s) 60 (a .0), ltb-true (seconds d s) 60 (a .1), leb-true (angleSize d s) limit (ab .1), abc .1)
+
 module _ (d limit : ℕ) (s : List ℕ) (long : length s ≡ d + 8) (is-laid : angleLaid d s ≡ true) (valid : angleValid d limit s ≡ true) where
   abbrev r : Runs d s
   r = runs d s long is-laid
 
-  tests : (minutes d s < 60) × (seconds d s < 60) × (angleSize d s ≤ limit) × (not (minus s && eqb (angleSize d s) 0) ≡ true)
-  unfolding angleValid
-  tests =
-      let a = ltb (minutes d s) 60 in
-      let b = ltb (seconds d s) 60 in
-      let c = leb (angleSize d s) limit in
-      let e = not (minus s && eqb (angleSize d s) 0) in
-      let abc = and-l (a && b && c) e valid in
-      let ab = and-l (a && b) c abc in (
-        ltb-true (minutes d s) 60 (and-l a b ab),
-        ltb-true (seconds d s) 60 (and-r a b ab),
-        leb-true (angleSize d s) limit (and-r (a && b) c abc),
-        and-r (a && b && c) e valid,
-      )
-
   -- the size and the sign of the angle
   parted : (natAbs (angleOf d s) ≡ angleSize d s) × (signByte (angleOf d s) ≡ r .sign)
   unfolding angleOf
-  parted = go (angleSize d s) (eqb (getD s 0 0) 45) refl (tests .3)
+  parted = go (angleSize d s) (eqb (getD s 0 0) 45) refl (valid-tests d limit s valid .3)
     where
       go : (z : ℕ) (t : Bool) → eqb (getD s 0 0) 45 ≡ t → not (t && eqb z 0) ≡ true
           → (natAbs (cond t (negℤ (pos z)) (pos z)) ≡ z) × (signByte (cond t (negℤ (pos z)) (pos z)) ≡ r .sign)
@@ -133,9 +127,9 @@ module _ (d limit : ℕ) (s : List ℕ) (long : length s ≡ d + 8) (is-laid : a
   text-of-angle =
       let a : ℕ = natAbs (angleOf d s) in
       let e : a ≡ number (r .d) * 360000 + number (r .m) * 6000 + number (r .s) * 100 + number (r .h) = parted .0 ∙ size-is r in
-      let m : number (r .m) < 60 = rw (minutes-is r) at (tests .0) in
-      let c : number (r .s) < 60 = rw (seconds-is r) at (tests .1) in
-      let h : number (r .h) < 100 = number-below 2 (r .h) (r .h-run .long) (r .h-run .digit) in
+      let m : number (r .m) < 60 = rw (minutes-is r) at (valid-tests d limit s valid .0) in
+      let c : number (r .s) < 60 = rw (seconds-is r) at (valid-tests d limit s valid .1) in
+      let h : number (r .h) < 100 = number-below 2 (r .h) (omega (arith, r .h-run .long)) (r .h-run .digit) in
       joins d (angleOf d s)
       ∙ alike (parted .1) (again (r .d-run) (omega arith)) (again (r .m-run) (omega arith)) (again (r .s-run) (omega arith)) (again (r .h-run) (omega arith))
       ∙ sym (r .whole)
