@@ -100,7 +100,8 @@ module _ (scale zone : ℕ) (s : List ℕ) (k : Card) where
       → isPolar zone ≡ p → eqb (length s) 98 ≡ w
       → walk layout s ≡ v → constantsIn a b s ≡ c
       → cond p (refusedCard (refusal 3))
-      (cond w (onVerdict v refusedCard (cond c (withOrigin scale zone a b s (rowTile b s) (columnTile a s)) (refusedCard (refusal 9)))) (refusedCard (refusal 6)))
+      (cond w (onVerdict v refusedCard (cond c (withOrigin scale zone a b s (rowTile b s) (columnTile a s)) (refusedCard (refusal 9))))
+      (refusedCard (refusal 6)))
       ≡ acceptedCard k
       → ReadTo scale zone s k
   by-tests a b sp true w c v po wh ju co e = never (refusal 3) k e

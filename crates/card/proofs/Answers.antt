@@ -16,7 +16,7 @@ use Rattle.arc.specs.declared.Verdict.{Verdict}
 use Rattle.arc.specs.Refusals.{refusal, onVerdict}
 use Rattle.card.specs.declared.Card.{Card}
 use Rattle.card.specs.Grid.{inTiles, inChart, verdictOf}
-use Rattle.card.proofs.Regions.{Within}
+use Rattle.card.proofs.Regions.{Within, Inside, tiles-inside}
 
 -- a result
 pub result-is : {r k : ℤ} → mag r < 2 ^ 63 → r ≡ k → toZ w64 (ofZ w64 r) ≡ k
@@ -47,6 +47,13 @@ module _ (k : Card) (r c : ℤ) (f : SFits w64 r) (g : SFits w64 c) {v : Verdict
 
   pub judged-accepted : v ≡ Verdict.Accepted → (inTiles k r c ≡ true) × (inChart k r c ≡ true)
   judged-accepted o = accepted-in k r c (sym plain-verdict ∙ o)
+
+  -- or has its answer, and the pixel is one of the tiles
+  pub judged-answered : {A : Type 0} (F : Refusal → A) (x : A) → v ≡ Verdict.Accepted → x ≡ onVerdict (verdictOf k r c) F x
+  judged-answered F x o = ap (λ (w : Verdict). onVerdict w F x) (sym o ∙ plain-verdict)
+
+  pub judged-inside : v ≡ Verdict.Accepted → Inside k r c
+  judged-inside o = tiles-inside k r c (judged-accepted o .0)
 
 -- a test of two numbers, likewise
 pub tested : (P : ℤ → ℤ → Bool) (r c : ℤ) → SFits w64 r → SFits w64 c → {x t : Bool}

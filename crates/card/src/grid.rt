@@ -12,18 +12,9 @@ use arc::Verdict;
 ghost use mathlib.Core.Path.{_≡_};
 ghost use Prim.Native.Nat.{_+_, _-_, _*_, _%_, _≤_, _<_};
 ghost use lib.IntN.{pos, _-ℤ_};
-ghost use Rattle.whole.specs.Whole.{near};
 ghost use Rattle.card.specs.Read.{Known};
 ghost use Rattle.card.specs.Grid.{placeRow, placeColumn, inTiles, inChart, latitudeOf, longitudeOf, extentsOf, verdictOf};
 ghost use Rattle.card.specs.Grid.{rowOf, columnOf, placeOf, positionOf, pixelAt, pixelOf};
-
-// The nearest whole number to x / d.
-fn nearest(x: u64, d: u64) -> u64
-    requires { ⌜ x ≤ 100000000000000000 ⌝ ∗ ⌜ 1 ≤ d ⌝ ∗ ⌜ d ≤ 129600000 ⌝ }
-    ensures { λ r. ⌜ r ≡ near x d ⌝ }
-{
-    (2 * x + d) / (2 * d)
-}
 
 // v − s, round the circle of a columns.
 fn turned(v: u64, s: u64, a: u64) -> u64
@@ -108,7 +99,7 @@ impl Card {
         ensures { λ r. ⌜ r ≡ latitudeOf self (pos row) ⌝ }
     {
         whole::difference(
-            nearest((self.north - row) * Circle::H, self.b) as u32,
+            whole::nearest((self.north - row) * Circle::H, self.b) as u32,
             Circle::LATITUDE,
         )
     }
@@ -118,7 +109,7 @@ impl Card {
         requires { ⌜ Known self ⌝ ∗ ⌜ column < 128 * self .nfc ⌝ }
         ensures { λ r. ⌜ r ≡ longitudeOf self (pos column) ⌝ }
     {
-        let east = nearest((self.east + column) * Circle::H, self.a) % Circle::H;
+        let east = whole::nearest((self.east + column) * Circle::H, self.a) % Circle::H;
         whole::difference(east as u32, Circle::LONGITUDE)
     }
 
@@ -128,7 +119,7 @@ impl Card {
         ensures { λ r. ⌜ r ≡ rowOf self (pos north -ℤ pos 32400000) ⌝ }
     {
         let half = self.b / 2;
-        let rows = nearest((self.north + half) * Circle::H - north * self.b, Circle::H);
+        let rows = whole::nearest((self.north + half) * Circle::H - north * self.b, Circle::H);
         whole::difference(rows as u32, half as u32)
     }
 
@@ -137,7 +128,7 @@ impl Card {
         requires { ⌜ Known self ⌝ ∗ ⌜ east ≤ 129600000 ⌝ }
         ensures { λ r. ⌜ r ≡ columnOf self (pos east -ℤ pos 64800000) ⌝ }
     {
-        turned(nearest(east * self.a, Circle::H), self.east, self.a) as i64
+        turned(whole::nearest(east * self.a, Circle::H), self.east, self.a) as i64
     }
 
     // The place of a pixel (01, "Origins and the zone grid"). Refuses 12.

@@ -1,6 +1,8 @@
 // The card value, and the questions put to it (001, 3.4.3 to 3.4.5; 002, 3.17.1).
 use arc::Refusal;
 use arc::Verdict;
+ghost use mathlib.Core.Path.{_≡_};
+ghost use Rattle.card.specs.Read.{noCard};
 
 mod centre;
 mod grid;
@@ -35,6 +37,30 @@ pub struct Card {
     // 128n and 128m, counted from the South Pole and from 180° west
     pub north: u64,
     pub east: u64,
+}
+
+// The card of a refusal: value parts are 0 (01, "Numbers given in refusal").
+pub fn no_card() -> Card
+    ensures { λ r. ⌜ r ≡ noCard ⌝ }
+{
+    Card {
+        scale: 0,
+        zone: 0,
+        a: 0,
+        b: 0,
+        n: 0,
+        m: 0,
+        nul: 0,
+        nus: 0,
+        nll: 0,
+        nls: 0,
+        nfl: 0,
+        nfc: 0,
+        bad: [0; 12],
+        tif: false,
+        north: 0,
+        east: 0,
+    }
 }
 
 // What reading answers: the card is all 0 in a refusal.

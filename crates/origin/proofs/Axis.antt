@@ -1,9 +1,10 @@
 -- Laws of one axis of the tile grid, latitude or longitude: a line whose unit is a tile. Assumes nothing.
-use mathlib.Core.Path.{_≡_}
+use mathlib.Core.Path.{_≡_, _∙_}
 use mathlib.Core.Bool.{false}
 use Prim.Native.Nat.{ℕ, _+_, _*_, _/_, _≤_}
 use native.Mathlib.Nat.{mul-assoc, mul-le-mul-right}
 use native.Mathlib.Omega.{arith}
+use borrow.Author.Tests.{le-ltb}
 use lib.IntN.{ℤ, pos, natAbs, _*ℤ_}
 use Rattle.whole.specs.Whole.{near, outside, raise}
 use Rattle.whole.proofs.Signed.{Is, is-same, is-mul, is-lmul, is-size, is-floor, is-ceil, is-raise, raise-high}
@@ -11,6 +12,7 @@ use Rattle.whole.proofs.Near.{near-le}
 use Rattle.arc.specs.Zones.{circle, half, quarter, tile}
 use Rattle.arc.specs.Spacing.{Grid}
 use Rattle.origin.specs.Origin.{rowTiles, columnTiles, storedAngle}
+use Rattle.origin.specs.Steps.{storedFrom}
 use Rattle.origin.proofs.Line.{Line, angle-is, scaled-is}
 
 -- 128 × H
@@ -27,6 +29,11 @@ latitudes b g = record { some = omega (arith, g .some); exact = omega (arith, g 
 
 pub longitudes : (a : ℕ) → Grid a → Axis a (a / 256) half
 longitudes a g = record { some = omega (arith, g .some); exact = omega (arith, g .whole) }
+
+-- an angle that `stored_at` answers
+pub from-near : (x n : ℕ) {v : ℕ} → v ≡ storedFrom x n → n ≤ circle → v ≡ near (n * tileAngle) x
+unfolding storedFrom
+from-near x n e h = e ∙ rw (le-ltb circle n h)
 
 -- 128 × k × H
 pub is-tiles : (k : ℤ) (n t : ℕ) → Is k n t → Is (pos tile *ℤ k *ℤ pos circle) (n * tileAngle) (t * tileAngle)

@@ -5,12 +5,12 @@ use arc::SpacingAnswer;
 use arc::Tile;
 use whole::Counted;
 ghost use mathlib.Core.Path.{_≡_};
-ghost use Prim.Native.Nat.{_*_, _≤_};
+ghost use Prim.Native.Nat.{_≤_};
 ghost use lib.IntN.{pos, _-ℤ_};
-ghost use Rattle.whole.specs.Whole.{near};
 ghost use Rattle.arc.specs.declared.SpacingAnswer.{SpacingAnswer};
 ghost use Rattle.arc.specs.Spacing.{Grid};
 ghost use Rattle.origin.specs.Origin.{originOf, alignIn, alignOf};
+ghost use Rattle.origin.specs.Steps.{storedFrom};
 
 mod parts;
 
@@ -29,12 +29,14 @@ pub enum OriginAnswer {
     Refused(Refusal),
 }
 
-// The nearest hundredth to 128 × tiles × H / spacing, both counted from the South Pole or from 180° west.
-fn stored_at(tiles: u64, spacing: u64) -> u64
-    requires { ⌜ Grid spacing ⌝ ∗ ⌜ 128 * tiles ≤ spacing ⌝ }
-    ensures { λ r. ⌜ r ≡ near (tiles * 16588800000) spacing ⌝ }
+// The angle stored for a count of tiles, both counted from the South Pole or from 180° west (01, "Origins and the zone grid").
+pub fn stored_at(tiles: u64, spacing: u64) -> u64
+    ensures { λ r. ⌜ r ≡ storedFrom spacing tiles ⌝ }
 {
-    (2 * (tiles * Tile::ANGLE) + spacing) / (2 * spacing)
+    if Circle::H < tiles {
+        return 0;
+    }
+    whole::nearest(tiles * Tile::ANGLE, spacing)
 }
 
 // The origin of a point north of the South Pole and east of 180° west by these angles.
@@ -59,7 +61,7 @@ fn align_in(a: u64, b: u64, zone: u64, lat: i64, lon: i64) -> OriginAnswer
     requires { ⌜ Grid a ⌝ ∗ ⌜ Grid b ⌝ }
     ensures { λ r. ⌜ r ≡ alignIn zone (SpacingAnswer.Constants a b) lat lon ⌝ }
 {
-    if (zone == 9) | (zone == 18) {
+    if arc::is_polar(zone) {
         return OriginAnswer::Refused(arc::refused(3));
     }
     let Counted::From(north) = whole::count_from(lat, Circle::LATITUDE) else {

@@ -1,7 +1,8 @@
 -- Each test decides one case of `alignIn`, in its order, and `count_from` hands over each angle counted from its limit.
 -- Assumes nothing.
-use mathlib.Core.Path.{ap, ap₂, _∙_}
-use Rattle.arc.specs.Zones.{half, quarter}
+use mathlib.Core.Path.{_≡_, sym, ap, ap₂, _∙_}
+use mathlib.Core.Bool.{false}
+use Rattle.arc.specs.Zones.{half, quarter, isPolar}
 use Rattle.origin.specs.declared.OriginAnswer.{OriginAnswer}
 use Rattle.origin.specs.Origin.{originOf}
 use Rattle.whole.proofs.Counts.{Inside, counted-outside, counted-from}
@@ -9,22 +10,28 @@ use borrow.Author.Needs.{needs}
 use Rattle.origin.proofs.align_in.Statement.{statement}
 use Rattle.origin.proofs.align_in.Tie as tie
 
-lat-inside : (c : tie.After-known-told) → Inside quarter (c .before .before .before .before .before .args .lat) (c .before .north .given .0 .0)
+lat-inside : (c : tie.After-known-told) → Inside quarter (c .before .before .before .before .before .before .args .lat) (c .before .north .given .0 .0)
 lat-inside c =
-    let s = c .before .before .before .before .before in
+    let s = c .before .before .before .before .before .before in
     counted-from quarter (s .args .lat) (s .fits .lat) (c .before .before .before .count-from .ensures) (c .before .north .given .1)
 
 lon-inside : (c : tie.After-known-told2)
-    → Inside half (c .before .before .before .before .before .before .before .before .before .args .lon) (c .before .east .given .0 .0)
+    → Inside half (c .before .before .before .before .before .before .before .before .before .before .args .lon) (c .before .east .given .0 .0)
 lon-inside c =
-    let s = c .before .before .before .before .before .before .before .before .before in
+    let s = c .before .before .before .before .before .before .before .before .before .before in
     counted-from half (s .args .lon) (s .fits .lon) (c .before .before .before .count-from2 .ensures) (c .before .east .given .1)
+
+is-polar-requires : tie.Need-is-polar-requires
+is-polar-requires c κs = search needs
+
+not-polar : (c : tie.Else1) → isPolar (c .before .before .args .zone) ≡ false
+not-polar c = sym (c .before .is-polar .ensures) ∙ c .if1 .left
 
 refused-requires : tie.Need-refused-requires
 refused-requires c κs = search needs
 
 returns : tie.Need-returns
-returns c = rw (c .before .if1 .taken) (ap OriginAnswer.Refused (c .refused .ensures))
+returns c = rw (sym (c .before .before .is-polar .ensures) ∙ c .before .if1 .taken) (ap OriginAnswer.Refused (c .refused .ensures))
 
 count-from-requires : tie.Need-count-from-requires
 count-from-requires c κs = search needs
@@ -40,9 +47,9 @@ refused-requires-2 c κs = search needs
 
 returns-2 : tie.Need-returns-2
 returns-2 c =
-    let s = c .before .before .before .before .before in
+    let s = c .before .before .before .before .before .before in
     let out = counted-outside quarter (s .args .lat) (s .fits .lat) (c .before .before .before .count-from .ensures) (c .before .enum-told .given .1) in
-    rw (c .before .before .before .before .if1 .left, out) (ap OriginAnswer.Refused (c .refused2 .ensures))
+    rw (not-polar (c .before .before .before .before), out) (ap OriginAnswer.Refused (c .refused2 .ensures))
 
 count-from-requires-2 : tie.Need-count-from-requires-2
 count-from-requires-2 c κs = search needs
@@ -58,10 +65,10 @@ refused-requires-3 c κs = search needs
 
 returns-3 : tie.Need-returns-3
 returns-3 c =
-    let s = c .before .before .before .before .before .before .before .before .before in
+    let s = c .before .before .before .before .before .before .before .before .before .before in
     let out = counted-outside half (s .args .lon) (s .fits .lon) (c .before .before .before .count-from2 .ensures) (c .before .enum-told2 .given .1) in
     rw (
-      c .before .before .before .before .before .before .before .before .if1 .left,
+      not-polar (c .before .before .before .before .before .before .before .before),
       lat-inside (c .before .before .before .before) .test,
       out,
     )
@@ -69,21 +76,22 @@ returns-3 c =
 
 origin-at-requires : tie.Need-origin-at-requires
 origin-at-requires c κs =
-    let s = c .before .before .before .before .before .before .before .before .before in
+    let s = c .before .before .before .before .before .before .before .before .before .before in
     (s .pre .0, (s .pre .1, (lat-inside (c .before .before .before .before) .high, lon-inside c .high)))
 
 returns-4 : tie.Need-returns-4
 returns-4 c =
-    let s = c .before .before .before .before .before .before .before .before .before .before in
+    let s = c .before .before .before .before .before .before .before .before .before .before .before in
     let lat = lat-inside (c .before .before .before .before .before) in
     let lon = lon-inside (c .before) in
-    rw (c .before .before .before .before .before .before .before .before .before .if1 .left, lat .test, lon .test)
+    rw (not-polar (c .before .before .before .before .before .before .before .before .before), lat .test, lon .test)
     (ap OriginAnswer.Aligned (c .origin-at .ensures ∙ ap₂ (originOf (s .args .a) (s .args .b)) (lat .same) (lon .same)))
 
 pub align-in-spec : {M : Type 1} → statement M
 align-in-spec =
     tie.close
     (tie.spec
+    is-polar-requires
     refused-requires
     returns
     count-from-requires

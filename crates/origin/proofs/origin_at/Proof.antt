@@ -10,10 +10,11 @@ use mir.Val.{toZ, ofZ}
 use mir.ValLaws.{toZ-ofZ}
 use Rattle.whole.proofs.Signed.{Is, is-difference, is-unique}
 use Rattle.whole.proofs.Machine.{fits-mul}
-use Rattle.arc.specs.Zones.{half, quarter}
+use Rattle.arc.specs.Zones.{circle, half, quarter}
+use Rattle.arc.specs.Spacing.{Grid}
 use Rattle.origin.specs.declared.Origin.{Origin}
 use Rattle.origin.specs.Origin.{originOf}
-use Rattle.origin.proofs.Axis.{Axis, latitudes, longitudes, row-is, column-is, stored-is, row-high, column-high, stored-high}
+use Rattle.origin.proofs.Axis.{Axis, latitudes, longitudes, row-is, column-is, stored-is, row-high, column-high, stored-high, from-near}
 use borrow.Author.Needs.{needs}
 use Rattle.origin.proofs.origin_at.Statement.{statement}
 use Rattle.origin.proofs.origin_at.Tie as tie
@@ -30,6 +31,10 @@ rows-high s = row-high (rows s) (s .args .north) (s .pre .1 .1 .0)
 
 columns-high : (s : tie.Start) → s .args .east * s .args .a / 16588800000 ≤ 2 * (s .args .a / 256)
 columns-high s = column-high (columns s) (s .args .east) (s .pre .1 .1 .1)
+
+-- fewer tiles than the circle has hundredths
+few : {x n : ℕ} → Grid x → n ≤ 2 * (x / 256) → n ≤ circle
+few g h = omega (arith, g .most)
 
 -- a result that is the difference k, as the machine reads it back
 told : {r k : ℤ} (n t : ℕ) → mag r < 2 ^ 63 → r ≡ pos n -ℤ pos t → Is k n t → toZ w64 (ofZ w64 r) ≡ k
@@ -52,10 +57,10 @@ mul-columns : tie.Need-mul-columns
 mul-columns c = fits-mul 129600000 80076800 tt (c .pre .1 .1 .1) (c .pre .0 .most)
 
 stored-at-requires : tie.Need-stored-at-requires
-stored-at-requires c κs = (c .pre .1 .0, omega (arith, rows-high c))
+stored-at-requires c κs = search needs
 
 stored-at-requires-2 : tie.Need-stored-at-requires-2
-stored-at-requires-2 c κs = (c .before .pre .0, omega (arith, columns-high (c .before)))
+stored-at-requires-2 c κs = search needs
 
 cast-difference : tie.Need-cast-difference
 cast-difference c = omega (arith, rows-high (c .before .before))
@@ -76,17 +81,19 @@ difference-requires-2 : tie.Need-difference-requires-2
 difference-requires-2 c κs = search needs
 
 cast-difference-5 : tie.Need-cast-difference-5
-cast-difference-5 c = omega (arith, stored-high (rows (c .before .before .before .before)) _ (rows-high (c .before .before .before .before)))
+cast-difference-5 c =
+    let s = c .before .before .before .before in
+    let e = from-near _ _ (c .before .before .before .stored-at .ensures) (few (s .pre .1 .0) (omega (arith, rows-high s))) in
+    omega (arith, stored-high (rows s) _ (rows-high s))
 
 difference-requires-3 : tie.Need-difference-requires-3
 difference-requires-3 c κs = search needs
 
 cast-difference-6 : tie.Need-cast-difference-6
 cast-difference-6 c =
-    omega (
-      arith,
-      stored-high (columns (c .before .before .before .before .before)) _ (columns-high (c .before .before .before .before .before)),
-    )
+    let s = c .before .before .before .before .before in
+    let e = from-near _ _ (c .before .before .before .stored-at2 .ensures) (few (s .pre .0) (columns-high s)) in
+    omega (arith, stored-high (columns s) _ (columns-high s))
 
 difference-requires-4 : tie.Need-difference-requires-4
 difference-requires-4 c κs = search needs
@@ -97,13 +104,13 @@ returns c =
     let s = c .before .before .before .before .before .before in
     let n = row-is (rows s) (pos (s .args .north) -ℤ pos quarter) (s .args .north) (is-difference (s .args .north) quarter) in
     let m = column-is (columns s) (pos (s .args .east) -ℤ pos half) (s .args .east) (is-difference (s .args .east) half) in
-    let pso = ap (λ (v : ℕ). pos v -ℤ pos quarter) (c .before .before .before .before .before .stored-at .ensures) in
-    let lso = ap (λ (v : ℕ). pos v -ℤ pos half) (c .before .before .before .before .stored-at2 .ensures) in
+    let pso = from-near _ _ (c .before .before .before .before .before .stored-at .ensures) (few (s .pre .1 .0) (omega (arith, rows-high s))) in
+    let lso = from-near _ _ (c .before .before .before .before .stored-at2 .ensures) (few (s .pre .0) (columns-high s)) in
     same
     (told _ _ (c .before .before .before .difference .ok) (c .before .before .before .difference .ensures) n)
     (told _ _ (c .before .before .difference2 .ok) (c .before .before .difference2 .ensures) m)
-    (told _ _ (c .before .difference3 .ok) (c .before .difference3 .ensures ∙ pso) (stored-is (rows s) _ _ n))
-    (told _ _ (c .difference4 .ok) (c .difference4 .ensures ∙ lso) (stored-is (columns s) _ _ m))
+    (told _ _ (c .before .difference3 .ok) (c .before .difference3 .ensures ∙ ap (λ (v : ℕ). pos v -ℤ pos quarter) pso) (stored-is (rows s) _ _ n))
+    (told _ _ (c .difference4 .ok) (c .difference4 .ensures ∙ ap (λ (v : ℕ). pos v -ℤ pos half) lso) (stored-is (columns s) _ _ m))
 
 pub origin-at-spec : {M : Type 1} → statement M
 origin-at-spec =

@@ -1,29 +1,25 @@
--- The product stays far below 2 ^ 64, and the quotient is `near` as it is defined. Assumes nothing.
-use mathlib.Core.Path.{refl}
-use Rattle.whole.specs.Whole.{near}
+-- The one test decides the case; the product stays below 2 ^ 64. Assumes nothing.
+use mathlib.Core.Path.{refl, sym, _∙_}
+use borrow.Author.Tests.{lt-ltb}
+use Rattle.arc.specs.Zones.{circle}
+use Rattle.origin.specs.Steps.{storedFrom}
+use Rattle.origin.proofs.Axis.{from-near}
 use borrow.Author.Needs.{needs}
 use Rattle.origin.proofs.stored_at.Statement.{statement}
 use Rattle.origin.proofs.stored_at.Tie as tie
 
-mul-result : tie.Need-mul-result
-mul-result c = search needs
-
-mul-result-2 : tie.Need-mul-result-2
-mul-result-2 c = search needs
-
-add-result : tie.Need-add-result
-add-result c = search needs
-
-mul-result-3 : tie.Need-mul-result-3
-mul-result-3 c = search needs
-
-div-result : tie.Need-div-result
-div-result c = search needs
-
 returns : tie.Need-returns
-unfolding near
-returns c = refl
+unfolding storedFrom
+returns c = rw (lt-ltb circle (c .before .args .tiles) (c .if1 .taken))
+
+mul-nearest : tie.Need-mul-nearest
+mul-nearest c = search needs
+
+nearest-requires : tie.Need-nearest-requires
+nearest-requires c κs = search needs
+
+returns-2 : tie.Need-returns-2
+returns-2 c = c .nearest .ensures ∙ sym (from-near _ _ refl (c .before .if1 .left))
 
 pub stored-at-spec : {M : Type 1} → statement M
-stored-at-spec =
-    tie.close (tie.spec mul-result mul-result-2 add-result mul-result-3 div-result returns)
+stored-at-spec = tie.close (tie.spec returns mul-nearest nearest-requires returns-2)

@@ -1,7 +1,7 @@
 -- The nearest column from 180° west less the origin's, round the circle: the first modulo changes nothing after the second. Assumes nothing.
 use mathlib.Core.Path.{sym, ap, _∙_}
 use Prim.Native.Nat.{ℕ, _+_, _-_, _%_, _<_}
-use native.Mathlib.Nat.{mod-lt, mul-le-mul}
+use native.Mathlib.Nat.{mod-lt}
 use native.Mathlib.Omega.{arith}
 use lib.IntN.{pos, _-ℤ_}
 use mir.Syntax.{w64}
@@ -11,6 +11,7 @@ use Rattle.whole.proofs.Machine.{fits-mul}
 use Rattle.arc.specs.Zones.{half}
 use Rattle.card.proofs.Laid.{known-laid}
 use Rattle.card.proofs.Axes.{column-at, column-high}
+use borrow.Author.Needs.{needs}
 use Rattle.card.proofs.Card.column_at.Statement.{statement}
 use Rattle.card.proofs.Card.column_at.Tie as tie
 
@@ -29,7 +30,7 @@ mul-nearest : tie.Need-mul-nearest
 mul-nearest c = let s = c .before in fits-mul 129600000 80076800 tt (s .pre .1) (known-laid _ (s .pre .0) .columns .most)
 
 nearest-requires : tie.Need-nearest-requires
-nearest-requires c κs = let s = c .before in omega (arith, mul-le-mul (s .pre .1) (known-laid _ (s .pre .0) .columns .most))
+nearest-requires c κs = search needs
 
 turned-requires : tie.Need-turned-requires
 turned-requires c κs =

@@ -19,7 +19,7 @@ mul-nearest : tie.Need-mul-nearest
 mul-nearest c = omega (arith, known-laid _ (c .before .pre .0))
 
 nearest-requires : tie.Need-nearest-requires
-nearest-requires c κs = omega (arith, known-laid _ (c .before .pre .0))
+nearest-requires c κs = search needs
 
 cast-difference : tie.Need-cast-difference
 cast-difference c =

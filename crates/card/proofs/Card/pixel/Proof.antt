@@ -9,11 +9,9 @@ use Rattle.card.proofs.Card.pixel.Statement.{statement}
 use Rattle.card.proofs.Card.pixel.Tie as tie
 
 counts : (c : tie.After-known-told)
-    → Counts (c .before .before .before .before .args .lat) (c .before .before .before .before .args .lon)
-    (c .before .north .given .0 .0) (c .before .north .given .0 .1 .0)
+    → let s = c .before .before .before .before in Counts (s .args .lat) (s .args .lon) (c .before .north .given .0 .0) (c .before .north .given .0 .1 .0)
 counts c =
-    let s = c .before .before .before .before in
-    ranged-at (s .args .lat) (s .args .lon) (s .fits .lat) (s .fits .lon) (c .before .before .before .count-position .ensures) (c .before .north .given .1)
+    let s = c .before .before .before in ranged-at _ _ (s .before .fits .lat) (s .before .fits .lon) (s .count-position .ensures) (c .before .north .given .1)
 
 count-position-requires : tie.Need-count-position-requires
 count-position-requires c κs = search needs
@@ -48,19 +46,10 @@ returns c =
 returns-2 : tie.Need-returns-2
 unfolding pixelOf
 returns-2 c =
-    let s = c .before .before .before .before in
-    ranged-refused (s .args .lat) (s .args .lon) (s .fits .lat) (s .fits .lon) (c .before .before .before .count-position .ensures)
-    PixelAnswer.Refused (pixelAt (s .args .self) (rowOf (s .args .self) (s .args .lat)) (columnOf (s .args .self) (s .args .lon))) (c .before .r .given .1)
+    ranged-refused _ _ (c .before .before .before .before .fits .lat) (c .before .before .before .before .fits .lon)
+    (c .before .before .before .count-position .ensures) PixelAnswer.Refused _ (c .before .r .given .1)
 
 pub pixel-spec : {M : Type 1} → statement M
 pixel-spec =
     tie.close
-    (tie.spec
-    count-position-requires
-    enum-known-north
-    row-at-requires
-    column-at-requires
-    pixel-at-requires
-    enum-known-r
-    returns
-    returns-2)
+    (tie.spec count-position-requires enum-known-north row-at-requires column-at-requires pixel-at-requires enum-known-r returns returns-2)

@@ -1,9 +1,9 @@
 -- The verdict decides as `pixelAt` does. Assumes nothing.
-use mathlib.Core.Path.{ap₂}
+use mathlib.Core.Path.{ap₂, _∙_}
 use mir.Syntax.{w64}
 use mir.ValLaws.{toZ-ofZ}
 use Rattle.card.specs.declared.PixelAnswer.{PixelAnswer}
-use Rattle.card.proofs.Answers.{judged-refused, judged-accepted}
+use Rattle.card.proofs.Answers.{judged-refused, judged-answered}
 use borrow.Author.Needs.{needs}
 use Rattle.card.proofs.Card.pixel_at.Statement.{statement}
 use Rattle.card.proofs.Card.pixel_at.Tie as tie
@@ -20,16 +20,15 @@ enum-known-r c = search needs
 returns : tie.Need-returns
 returns c =
     let s = c .before .before .before in
-    let i =
-    judged-accepted (s .args .self) (s .args .row) (s .args .column) (s .fits .row) (s .fits .column)
-    (c .before .before .judge-pixel .ensures) (c .enum-told .given .1) in
-    rw (i .0, i .1) (ap₂ PixelAnswer.At (toZ-ofZ w64 (s .args .row) (s .fits .row)) (toZ-ofZ w64 (s .args .column) (s .fits .column)))
+    ap₂ PixelAnswer.At (toZ-ofZ w64 (s .args .row) (s .fits .row)) (toZ-ofZ w64 (s .args .column) (s .fits .column))
+    ∙ judged-answered (s .args .self) _ _ (s .fits .row) (s .fits .column) (c .before .before .judge-pixel .ensures)
+    PixelAnswer.Refused _ (c .enum-told .given .1)
 
 returns-2 : tie.Need-returns-2
 returns-2 c =
     let s = c .before .before .before .before in
-    judged-refused (s .args .self) (s .args .row) (s .args .column) (s .fits .row) (s .fits .column) (c .before .before .before .judge-pixel .ensures)
-    PixelAnswer.Refused (PixelAnswer.At (s .args .row) (s .args .column)) (c .before .r .given .1)
+    judged-refused (s .args .self) _ _ (s .fits .row) (s .fits .column) (c .before .before .before .judge-pixel .ensures)
+    PixelAnswer.Refused _ (c .before .r .given .1)
 
 pub pixel-at-spec : {M : Type 1} → statement M
 pixel-at-spec = tie.close (tie.spec judge-pixel-requires enum-told enum-known-r returns returns-2)

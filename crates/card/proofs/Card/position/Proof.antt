@@ -1,28 +1,21 @@
 -- The verdict decides as `positionOf` does; an accepted pixel is one of naturals, and its angles are those of its axes. Assumes nothing.
-use mathlib.Core.Path.{_≡_, ap, ap₂, _∙_}
-use mathlib.Core.Bool.{true}
+use mathlib.Core.Path.{ap, ap₂, _∙_}
 use native.Mathlib.Omega.{arith}
 use Rattle.card.specs.declared.PositionAnswer.{PositionAnswer}
-use Rattle.card.specs.Grid.{inTiles, inChart, latitudeOf, longitudeOf, positionOf}
+use Rattle.card.specs.Grid.{latitudeOf, longitudeOf, positionOf}
 use Rattle.card.proofs.Laid.{known-laid}
-use Rattle.card.proofs.Regions.{Inside, tiles-inside}
-use Rattle.card.proofs.Answers.{result-is, judged-refused, judged-accepted, cast-fits, cast-below, cast-same}
+use Rattle.card.proofs.Regions.{Inside}
+use Rattle.card.proofs.Answers.{result-is, judged-refused, judged-answered, judged-inside, cast-fits, cast-below, cast-same}
 use borrow.Author.Needs.{needs}
 use Rattle.card.proofs.Card.position.Statement.{statement}
 use Rattle.card.proofs.Card.position.Tie as tie
 
 -- what the verdict tells where it accepts
-tests : (c : tie.After-enum-told)
-    → (inTiles (c .before .before .before .args .self) (c .before .before .before .args .row) (c .before .before .before .args .column) ≡ true)
-    × (inChart (c .before .before .before .args .self) (c .before .before .before .args .row) (c .before .before .before .args .column) ≡ true)
-tests c =
-    let s = c .before .before .before in
-    judged-accepted (s .args .self) (s .args .row) (s .args .column) (s .fits .row) (s .fits .column)
-    (c .before .before .judge-pixel .ensures) (c .enum-told .given .1)
-
 inside : (c : tie.After-enum-told)
     → Inside (c .before .before .before .args .self) (c .before .before .before .args .row) (c .before .before .before .args .column)
-inside c = tiles-inside _ _ _ (tests c .0)
+inside c =
+    let s = c .before .before .before in
+    judged-inside (s .args .self) _ _ (s .fits .row) (s .fits .column) (c .before .before .judge-pixel .ensures) (c .enum-told .given .1)
 
 judge-pixel-requires : tie.Need-judge-pixel-requires
 judge-pixel-requires c κs = search needs
@@ -55,20 +48,19 @@ unfolding positionOf
 returns c =
     let s = c .before .before .before .before .before in
     let k = s .args .self in
-    let t = tests (c .before .before) in
     let i = inside (c .before .before) in
-    rw (t .0, t .1)
-    (ap₂ PositionAnswer.At
+    ap₂ PositionAnswer.At
     (result-is (c .before .latitude .ok) (c .before .latitude .ensures ∙ ap (latitudeOf k) (cast-same _ (s .args .row) (s .fits .row) (i .row))))
-    (result-is (c .longitude .ok) (c .longitude .ensures ∙ ap (longitudeOf k) (cast-same _ (s .args .column) (s .fits .column) (i .column)))))
+    (result-is (c .longitude .ok) (c .longitude .ensures ∙ ap (longitudeOf k) (cast-same _ (s .args .column) (s .fits .column) (i .column))))
+    ∙ judged-answered k _ _ (s .fits .row) (s .fits .column) (c .before .before .before .before .judge-pixel .ensures) PositionAnswer.Refused _
+    (c .before .before .enum-told .given .1)
 
 returns-2 : tie.Need-returns-2
 unfolding positionOf
 returns-2 c =
     let s = c .before .before .before .before in
-    let k = s .args .self in
-    judged-refused k (s .args .row) (s .args .column) (s .fits .row) (s .fits .column) (c .before .before .before .judge-pixel .ensures)
-    PositionAnswer.Refused (PositionAnswer.At (latitudeOf k (s .args .row)) (longitudeOf k (s .args .column))) (c .before .r .given .1)
+    judged-refused (s .args .self) _ _ (s .fits .row) (s .fits .column) (c .before .before .before .judge-pixel .ensures)
+    PositionAnswer.Refused _ (c .before .r .given .1)
 
 pub position-spec : {M : Type 1} → statement M
 position-spec =

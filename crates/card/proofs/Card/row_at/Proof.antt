@@ -27,7 +27,7 @@ sub-nearest : tie.Need-sub-nearest
 sub-nearest c = let s = c .before .before .before in row-fits _ (known-laid _ (s .pre .0)) _ (s .pre .1)
 
 nearest-requires : tie.Need-nearest-requires
-nearest-requires c κs = omega (arith, known-laid _ (c .before .before .before .pre .0))
+nearest-requires c κs = search needs
 
 cast-difference : tie.Need-cast-difference
 cast-difference c =

@@ -1,39 +1,26 @@
 -- The position is judged before the centre, and a difference of counts is that of the angles. Assumes nothing.
 use mathlib.Core.Path.{ap, ap₂, _∙_}
-use mathlib.Core.Bool.{cond}
 use lib.IntN.{ℤ}
 use lib.Ieee.{ofInt, binary64}
-use Rattle.whole.specs.Whole.{outside}
-use Rattle.arc.specs.Refusals.{refusal}
-use Rattle.arc.specs.Zones.{half, quarter}
 use Rattle.card.specs.declared.OffsetAnswer.{OffsetAnswer}
 use Rattle.card.specs.Grid.{intoRange}
-use Rattle.card.specs.Offset.{difference, offsetOf}
+use Rattle.card.specs.Offset.{offsetOf}
 use Rattle.card.proofs.Ranges.{Counts, counts-apart, ranged-at, ranged-refused}
 use borrow.Author.Needs.{needs}
 use Rattle.card.proofs.centre.offset_from.Statement.{statement}
 use Rattle.card.proofs.centre.offset_from.Tie as tie
 
 counts : (c : tie.After-known-told)
-    → Counts (c .before .before .before .before .args .lat) (c .before .before .before .before .args .lon)
-    (c .before .north .given .0 .0) (c .before .north .given .0 .1 .0)
+    → let s = c .before .before .before .before in Counts (s .args .lat) (s .args .lon) (c .before .north .given .0 .0) (c .before .north .given .0 .1 .0)
 counts c =
-    let s = c .before .before .before .before in
-    ranged-at (s .args .lat) (s .args .lon) (s .fits .lat) (s .fits .lon) (c .before .before .before .count-position .ensures) (c .before .north .given .1)
+    let s = c .before .before .before in ranged-at _ _ (s .before .fits .lat) (s .before .fits .lon) (s .count-position .ensures) (c .before .north .given .1)
 
 centre : (c : tie.After-known-told2)
-    → Counts (c .before .before .before .before .before .before .before .before .args .clat)
-    (c .before .before .before .before .before .before .before .before .args .clon) (c .before .cnorth .given .0 .0) (c .before .cnorth .given .0 .1 .0)
+    → let s = c .before .before .before .before .before .before .before .before in
+    Counts (s .args .clat) (s .args .clon) (c .before .cnorth .given .0 .0) (c .before .cnorth .given .0 .1 .0)
 centre c =
     let s = c .before .before .before .before .before .before .before .before in
-    ranged-at (s .args .clat) (s .args .clon) (s .fits .clat) (s .fits .clon)
-    (c .before .before .before .count-position2 .ensures) (c .before .cnorth .given .1)
-
--- the answer where the position is in range
-abbrev centred : ℤ → ℤ → ℤ → ℤ → OffsetAnswer
-centred lat lon clat clon =
-    cond (outside quarter clat) (OffsetAnswer.Refused (refusal 4))
-    (cond (outside half clon) (OffsetAnswer.Refused (refusal 5)) (OffsetAnswer.At (difference lat lon clat clon)))
+    ranged-at _ _ (s .fits .clat) (s .fits .clon) (c .before .before .before .count-position2 .ensures) (c .before .cnorth .given .1)
 
 count-position-requires : tie.Need-count-position-requires
 count-position-requires c κs = search needs
@@ -75,15 +62,13 @@ returns-2 c =
     let s = c .before .before .before .before .before .before .before .before in
     let p = counts (c .before .before .before .before) in
     rw (p .rows .test, p .columns .test)
-    (ranged-refused (s .args .clat) (s .args .clon) (s .fits .clat) (s .fits .clon) (c .before .before .before .count-position2 .ensures)
-    OffsetAnswer.Refused (OffsetAnswer.At (difference (s .args .lat) (s .args .lon) (s .args .clat) (s .args .clon))) (c .before .r .given .1))
+    (ranged-refused _ _ (s .fits .clat) (s .fits .clon) (c .before .before .before .count-position2 .ensures) OffsetAnswer.Refused _ (c .before .r .given .1))
 
 returns-3 : tie.Need-returns-3
 unfolding offsetOf
 returns-3 c =
     let s = c .before .before .before .before in
-    ranged-refused (s .args .lat) (s .args .lon) (s .fits .lat) (s .fits .lon) (c .before .before .before .count-position .ensures)
-    OffsetAnswer.Refused (centred (s .args .lat) (s .args .lon) (s .args .clat) (s .args .clon)) (c .before .r2 .given .1)
+    ranged-refused _ _ (s .fits .lat) (s .fits .lon) (c .before .before .before .count-position .ensures) OffsetAnswer.Refused _ (c .before .r2 .given .1)
 
 pub offset-from-spec : {M : Type 1} → statement M
 offset-from-spec =

@@ -13,12 +13,6 @@ lat-inside c =
     let s = c .before .before .before .before in
     counted-from quarter (s .args .lat) (s .fits .lat) (c .before .before .before .count-from .ensures) (c .before .north .given .1)
 
-lon-inside : (c : tie.After-known-told2)
-    → Inside half (c .before .before .before .before .before .before .before .before .args .lon) (c .before .east .given .0 .0)
-lon-inside c =
-    let s = c .before .before .before .before .before .before .before .before in
-    counted-from half (s .args .lon) (s .fits .lon) (c .before .before .before .count-from2 .ensures) (c .before .east .given .1)
-
 count-from-requires : tie.Need-count-from-requires
 count-from-requires c κs = search needs
 
@@ -60,8 +54,10 @@ returns-2 c =
 
 returns-3 : tie.Need-returns-3
 returns-3 c =
+    let s = c .before .before .before .before .before .before .before .before in
     let lat = lat-inside (c .before .before .before .before) in
-    rw (lat .test, lon-inside c .test) (ap₂ Ranged.At (sym (inside-raise lat)) (sym (inside-raise (lon-inside c))))
+    let lon = counted-from half (s .args .lon) (s .fits .lon) (c .before .before .before .count-from2 .ensures) (c .before .east .given .1) in
+    rw (lat .test, lon .test) (ap₂ Ranged.At (sym (inside-raise lat)) (sym (inside-raise lon)))
 
 pub count-position-spec : {M : Type 1} → statement M
 count-position-spec =
