@@ -21,7 +21,7 @@ use Rattle.card.specs.declared.PixelAnswer.{PixelAnswer}
 use Rattle.whole.specs.Lists.{over, each}
 use Rattle.card.specs.Grid.{positionOf, pixelOf, positionReport, pixelReport}
 use Rattle.lists.specs.declared.Asked.{Asked}
-use Rattle.lists.specs.Lists.{pairs, listsFit, pairAt, reportAt, reportValues, reportNumbers}
+use Rattle.lists.specs.Lists.{pairs, listsFit, askedReport, reportValues, reportNumbers}
 
 module _ {A : Type 0} where
   pub length-over : (xs out : List A) → length xs ≤ length out → length (over xs out) ≡ length out
@@ -116,6 +116,6 @@ pixel-values : (a : PixelAnswer) → length (pixelReport a .values) ≡ 2
 pixel-values (PixelAnswer.At row column) = refl
 pixel-values (PixelAnswer.Refused r) = refl
 
-pub report-values : (asked : Asked) (k : Card) (ps : List ℤ) (i : ℕ) → length (reportAt asked k ps i .values) ≡ 2
-report-values Asked.Positions k ps i = position-values (positionOf k (pairAt ps i .first) (pairAt ps i .second))
-report-values Asked.Pixels k ps i = pixel-values (pixelOf k (pairAt ps i .first) (pairAt ps i .second))
+pub report-values : (asked : Asked) (k : Card) (u v : ℤ) → length (askedReport asked k u v .values) ≡ 2
+report-values Asked.Positions k u v = position-values (positionOf k u v)
+report-values Asked.Pixels k u v = pixel-values (pixelOf k u v)

@@ -8,7 +8,7 @@ ghost use Prim.Native.Nat.{_+_, _*_, _<_};
 ghost use lib.ListN.{length, set};
 ghost use Rattle.card.specs.Read.{Known};
 ghost use Rattle.lists.specs.Steps.{Made, pairTold};
-ghost use Rattle.lists.specs.Lists.{listsFit, listsVerdict, pairAt, reportAt, positionReportAt, pixelReportAt, valuesLeft, numbersLeft};
+ghost use Rattle.lists.specs.Lists.{listsFit, listsVerdict, pairAt, askedReport, reportAt, positionReportAt, pixelReportAt, valuesLeft, numbersLeft};
 
 mod engine;
 
@@ -60,15 +60,14 @@ pub struct PairParts {
     pub second: i64,
 }
 
-// What is told of pair i of a list.
-fn answer_pair(e: Engine, asked: Asked, list: &[i64], i: usize) -> PairParts
-    requires { ⌜ Made e ⌝ ∗ ⌜ 2 * i + 1 < length (now list) ⌝ }
-    ensures { λ r. ⌜ pairTold r ≡ reportAt asked (e .card) (now (list .entry)) i ⌝ }
+// What is told of a pair.
+fn answer_pair(e: Engine, asked: Asked, first: i64, second: i64) -> PairParts
+    requires { ⌜ Made e ⌝ }
+    ensures { λ r. ⌜ pairTold r ≡ askedReport asked (e .card) first second ⌝ }
 {
-    let x = pair_at(list, i);
     match asked {
         Asked::Positions => {
-            let p = e.position(x.first, x.second).into_parts();
+            let p = e.position(first, second).into_parts();
             PairParts {
                 number: p.number,
                 at: p.at,
@@ -77,7 +76,7 @@ fn answer_pair(e: Engine, asked: Asked, list: &[i64], i: usize) -> PairParts
             }
         }
         Asked::Pixels => {
-            let p = e.pixel(x.first, x.second).into_parts();
+            let p = e.pixel(first, second).into_parts();
             PairParts {
                 number: p.number,
                 at: p.at,
@@ -91,15 +90,14 @@ fn answer_pair(e: Engine, asked: Asked, list: &[i64], i: usize) -> PairParts
 // What is told of each pair.
 fn fill(e: Engine, asked: Asked, list: &[i64], values: &mut [i64], numbers: &mut [u32])
     requires { ⌜ Made e ⌝ ∗ ⌜ listsFit (length (now list)) (length (now values)) (length (now numbers)) ≡ true ⌝ }
-    ensures values { λ _. ⌜ now (values .exit)
-        ≡ valuesLeft (reportAt asked (e .card)) (now (list .entry)) (now (values .entry)) (now (numbers .entry)) ⌝ }
-    ensures numbers { λ _. ⌜ now (numbers .exit)
-        ≡ numbersLeft (reportAt asked (e .card)) (now (list .entry)) (now (values .entry)) (now (numbers .entry)) ⌝ }
+    ensures values { λ _. ⌜ now (values .exit) ≡ valuesLeft (reportAt asked (e .card)) (now (list .entry)) (now (values .entry)) (now (numbers .entry)) ⌝ }
+    ensures numbers { λ _. ⌜ now (numbers .exit) ≡ numbersLeft (reportAt asked (e .card)) (now (list .entry)) (now (values .entry)) (now (numbers .entry)) ⌝ }
 {
     let n = list.len() / 2;
     let mut i = 0;
     while i < n {
-        let p = answer_pair(e, asked, list, i);
+        let x = pair_at(list, i);
+        let p = answer_pair(e, asked, x.first, x.second);
         put_pair(values, numbers, i, p.first, p.second, p.number);
         i += 1;
     }
@@ -114,12 +112,9 @@ pub fn answer_list(
     numbers: &mut [u32],
 ) -> Verdict
     requires { ⌜ Known k ⌝ }
-    ensures answer { λ r. ⌜ r
-        ≡ listsVerdict (length (now (list .entry))) (length (now (values .entry))) (length (now (numbers .entry))) ⌝ }
-    ensures values { λ _. ⌜ now (values .exit)
-        ≡ valuesLeft (reportAt asked k) (now (list .entry)) (now (values .entry)) (now (numbers .entry)) ⌝ }
-    ensures numbers { λ _. ⌜ now (numbers .exit)
-        ≡ numbersLeft (reportAt asked k) (now (list .entry)) (now (values .entry)) (now (numbers .entry)) ⌝ }
+    ensures answer { λ r. ⌜ r ≡ listsVerdict (length (now (list .entry))) (length (now (values .entry))) (length (now (numbers .entry))) ⌝ }
+    ensures values { λ _. ⌜ now (values .exit) ≡ valuesLeft (reportAt asked k) (now (list .entry)) (now (values .entry)) (now (numbers .entry)) ⌝ }
+    ensures numbers { λ _. ⌜ now (numbers .exit) ≡ numbersLeft (reportAt asked k) (now (list .entry)) (now (values .entry)) (now (numbers .entry)) ⌝ }
 {
     if !lists_fit(list.len(), values.len(), numbers.len()) {
         return Verdict::Refused(arc::refused(6));
@@ -131,12 +126,10 @@ pub fn answer_list(
 // The positions of a list of pixels, pairs of row and column; a number is 0 where its pixel is answered. Refuses 6, and then both lists stay.
 pub fn positions(k: Card, pixels: &[i64], positions: &mut [i64], numbers: &mut [u32]) -> Verdict
     requires { ⌜ Known k ⌝ }
-    ensures answer { λ r. ⌜ r
-        ≡ listsVerdict (length (now (pixels .entry))) (length (now (positions .entry))) (length (now (numbers .entry))) ⌝ }
+    ensures answer { λ r. ⌜ r ≡ listsVerdict (length (now (pixels .entry))) (length (now (positions .entry))) (length (now (numbers .entry))) ⌝ }
     ensures positions { λ _. ⌜ now (positions .exit)
         ≡ valuesLeft (positionReportAt k) (now (pixels .entry)) (now (positions .entry)) (now (numbers .entry)) ⌝ }
-    ensures numbers { λ _. ⌜ now (numbers .exit)
-        ≡ numbersLeft (positionReportAt k) (now (pixels .entry)) (now (positions .entry)) (now (numbers .entry)) ⌝ }
+    ensures numbers { λ _. ⌜ now (numbers .exit) ≡ numbersLeft (positionReportAt k) (now (pixels .entry)) (now (positions .entry)) (now (numbers .entry)) ⌝ }
 {
     answer_list(k, Asked::Positions, pixels, positions, numbers)
 }
@@ -144,12 +137,9 @@ pub fn positions(k: Card, pixels: &[i64], positions: &mut [i64], numbers: &mut [
 // The pixels of a list of positions, likewise.
 pub fn pixels(k: Card, positions: &[i64], pixels: &mut [i64], numbers: &mut [u32]) -> Verdict
     requires { ⌜ Known k ⌝ }
-    ensures answer { λ r. ⌜ r
-        ≡ listsVerdict (length (now (positions .entry))) (length (now (pixels .entry))) (length (now (numbers .entry))) ⌝ }
-    ensures pixels { λ _. ⌜ now (pixels .exit)
-        ≡ valuesLeft (pixelReportAt k) (now (positions .entry)) (now (pixels .entry)) (now (numbers .entry)) ⌝ }
-    ensures numbers { λ _. ⌜ now (numbers .exit)
-        ≡ numbersLeft (pixelReportAt k) (now (positions .entry)) (now (pixels .entry)) (now (numbers .entry)) ⌝ }
+    ensures answer { λ r. ⌜ r ≡ listsVerdict (length (now (positions .entry))) (length (now (pixels .entry))) (length (now (numbers .entry))) ⌝ }
+    ensures pixels { λ _. ⌜ now (pixels .exit) ≡ valuesLeft (pixelReportAt k) (now (positions .entry)) (now (pixels .entry)) (now (numbers .entry)) ⌝ }
+    ensures numbers { λ _. ⌜ now (numbers .exit) ≡ numbersLeft (pixelReportAt k) (now (positions .entry)) (now (pixels .entry)) (now (numbers .entry)) ⌝ }
 {
     answer_list(k, Asked::Pixels, positions, pixels, numbers)
 }
