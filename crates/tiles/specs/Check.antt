@@ -48,15 +48,15 @@ abbrev pub before : List ℕ → Option ℕ → List ℕ
 before index (some i) = take i index
 before index none = index
 
--- 1 where j + 1 is among these entries, else 0
+-- mark j: 1 if j + 1 is among these entries, else 0
 abbrev pub markAt : List ℕ → ℕ → ℕ
 markAt entries j = cond (occurs (j + 1) entries) 1 0
 
--- these for the numbers 1 .. count; marks beyond stay
+-- for the numbers 1 .. count; marks beyond stay
 abbrev pub marked : ℕ → List ℕ → List ℕ → List ℕ
 marked count entries marks = each count (λ j. markAt entries j ∷ []) ++ drop count marks
 
--- by the entries before the refused one
+-- after the pass over the entries
 abbrev pub marksPassed : ℕ → List ℕ → List ℕ → List ℕ
 marksPassed count index marks = marked count (before index (firstBad count index)) marks
 
