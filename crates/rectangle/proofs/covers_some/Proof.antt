@@ -16,15 +16,6 @@ returns c =
     let e : a .zone ≡ 1 + j = omega (arith, c .before .before .pre .some-zone, c .before .if1 .taken) in
     rw e (sym (north-none (a .b) j (omega (arith, c .before .if1 .taken)) (a .south) (a .north) (c .before .before .pre .order) (c .if2 .taken)))
 
-sub-row-meets : tie.Need-sub-row-meets
-sub-row-meets c = search needs
-
-less-requires : tie.Need-less-requires
-less-requires c κs = search needs
-
-row-meets-requires : tie.Need-row-meets-requires
-row-meets-requires c κs = search needs
-
 returns-2 : tie.Need-returns-2
 returns-2 c =
     let a = c .before .before .before .before .args in
@@ -43,18 +34,6 @@ returns-3 c =
     let e : a .zone ≡ 10 + j = omega (arith, c .before .before .pre .some-zone, c .before .if1 .left) in
     rw e (sym (south-none (a .b) j (omega (arith, c .before .before .pre .last-zone)) (a .south) (a .north) (c .before .before .pre .order) (c .if3 .taken)))
 
-sub-row-meets-2 : tie.Need-sub-row-meets-2
-sub-row-meets-2 c = search needs
-
-less-requires-2 : tie.Need-less-requires-2
-less-requires-2 c κs = search needs
-
-sub-row-meets-3 : tie.Need-sub-row-meets-3
-sub-row-meets-3 c = search needs
-
-row-meets-requires-2 : tie.Need-row-meets-requires-2
-row-meets-requires-2 c κs = search needs
-
 returns-4 : tie.Need-returns-4
 returns-4 c =
     let a = c .before .before .before .before .args in
@@ -71,13 +50,8 @@ covers-some-spec =
     tie.close
     (tie.spec
     returns
-    sub-row-meets
-    less-requires
-    row-meets-requires
+    (λ c. search needs) (λ c κs. search needs) (λ c κs. search needs)
     returns-2
     returns-3
-    sub-row-meets-2
-    less-requires-2
-    sub-row-meets-3
-    row-meets-requires-2
+    (λ c. search needs) (λ c κs. search needs) (λ c. search needs) (λ c κs. search needs)
     returns-4)
