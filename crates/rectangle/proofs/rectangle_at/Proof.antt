@@ -9,15 +9,13 @@ use Rattle.rectangle.proofs.rectangle_at.Statement.{statement}
 use Rattle.rectangle.proofs.rectangle_at.Tie as tie
 
 south-in : (c : tie.After-known-told) → Inside quarter (c .before .before .before .before .args .south) (c .before .s .given .0 .0)
-south-in c =
-    let s = c .before .before .before .before in
-    counted-from quarter (s .args .south) (s .fits .south) (c .before .before .before .count-from .ensures) (c .before .s .given .1)
+south-in c = counted-from quarter _ (c .before .before .before .before .fits .south) (c .before .before .before .count-from .ensures) (c .before .s .given .1)
 
 north-in : (c : tie.After-known-told2)
     → Inside quarter (c .before .before .before .before .before .before .before .before .args .north) (c .before .n .given .0 .0)
 north-in c =
-    let s = c .before .before .before .before .before .before .before .before in
-    counted-from quarter (s .args .north) (s .fits .north) (c .before .before .before .count-from2 .ensures) (c .before .n .given .1)
+    counted-from quarter _ (c .before .before .before .before .before .before .before .before .fits .north) (c .before .before .before .count-from2 .ensures)
+    (c .before .n .given .1)
 
 returns : tie.Need-returns
 returns c = let s = c .before .before .before .before .before in
