@@ -1,5 +1,5 @@
 -- What an answered pair of constants is: the scale is good, the zone has a row, and its unit is one of the table's. Assumes nothing.
-use mathlib.Core.Path.{_≡_, refl, ap}
+use mathlib.Core.Path.{_≡_, refl}
 use mathlib.Core.Bool.{Bool, true, false, cond, _&&_}
 use mathlib.Core.List.{List, [], _∷_}
 use mathlib.Core.Option.{Option, some, none}
@@ -7,12 +7,11 @@ use Prim.Native.Nat.{ℕ, _≤_}
 use native.Mathlib.Omega.{arith}
 use borrow.Author.Tests.{leb-true}
 use lib.Dec.{leb}
-use Rattle.arc.specs.declared.Refusal.{Refusal}
 use Rattle.arc.specs.declared.ConstantAnswer.{ConstantAnswer}
 use Rattle.arc.specs.declared.SpacingAnswer.{SpacingAnswer}
 use Rattle.arc.specs.Refusals.{refusal}
 use Rattle.arc.specs.Zones.{Row, table, hasZone, rowIn, tableRow}
-use Rattle.arc.specs.Spacing.{isScale, spacingAt, rowUnit, columnsIn, columnsOf, rowsOf, withRows, spacingOf, SpacingUnit, GridsIs}
+use Rattle.arc.specs.Spacing.{isScale, spacingAt, rowUnit, columnsIn, rowsOf, onConstant, spacingOf, SpacingUnit, GridsIs}
 use Rattle.arc.proofs.Spaced.{grid}
 
 -- the units of a table are in range
@@ -48,7 +47,9 @@ pub answered-from : (s zone a b : ℕ) → spacingOf s zone ≡ SpacingAnswer.Co
 answered-from s zone a b e = go (isScale s) (tableRow zone) refl refl e
   where
     go : (t : Bool) (o : Option Row) → isScale s ≡ t → tableRow zone ≡ o
-        → cond t (withRows s (columnsIn s o)) (SpacingAnswer.Refused (refusal 1)) ≡ SpacingAnswer.Constants a b → From s zone a b
+        → onConstant (cond t (ConstantAnswer.Pixels (spacingAt rowUnit s)) (ConstantAnswer.Refused (refusal 1))) SpacingAnswer.Refused (λ y.
+        onConstant (columnsIn s o) SpacingAnswer.Refused (λ x. SpacingAnswer.Constants x y)) ≡ SpacingAnswer.Constants a b
+        → From s zone a b
     go true (some r) p q k = record { scale = p; of-row = r; is-row = q; is-a = cc; is-b = cc }
     go true none p q k = let z : _≡_ {A = ℕ} 0 1 = cc in absurd (omega arith)
     go false o p q k = let z : _≡_ {A = ℕ} 0 1 = cc in absurd (omega arith)
@@ -71,11 +72,3 @@ rows-from s b e = go (isScale s) refl e
         → (isScale s ≡ true) × (b ≡ spacingAt rowUnit s)
     go true p k = (p, cc)
     go false p k = let z : _≡_ {A = ℕ} 0 1 = cc in absurd (omega arith)
-
-pub rows-refused : (s zone : ℕ) (r : Refusal) → rowsOf s ≡ ConstantAnswer.Refused r → spacingOf s zone ≡ SpacingAnswer.Refused r
-rows-refused s zone r e = go (isScale s) e
-  where
-    go : (t : Bool) → cond t (ConstantAnswer.Pixels (spacingAt rowUnit s)) (ConstantAnswer.Refused (refusal 1)) ≡ ConstantAnswer.Refused r
-        → cond t (withRows s (columnsOf s zone)) (SpacingAnswer.Refused (refusal 1)) ≡ SpacingAnswer.Refused r
-    go true k = let z : _≡_ {A = ℕ} 0 1 = cc in absurd (omega arith)
-    go false k = let q : refusal 1 ≡ r = cc in ap SpacingAnswer.Refused q

@@ -7,6 +7,7 @@
 --     spacingAt u S      A or B at 1:S, where A / 512 or B / 512 at 1:1,000,000 is u
 --     columnsOf S zone   what is answered for A, the scale being good: refusal 2
 --     rowsOf S           what `b_constant` answers: refusal 1
+--     onConstant a f g   f of the refusal, else g of the constant
 --     spacingOf S zone   what `spacing` answers: refusals 1, 2
 use mathlib.Core.Path.{_≡_}
 use mathlib.Core.Bool.{Bool, true, cond, _&&_}
@@ -16,6 +17,7 @@ use Prim.Native.Nat.{ℕ, _+_, _*_, _/_, _≤_, _<_}
 use lib.Dec.{leb}
 use lib.IntN.{pos, natAbs}
 use Rattle.whole.specs.Whole.{ceilDiv}
+use Rattle.arc.specs.declared.Refusal.{Refusal}
 use Rattle.arc.specs.declared.ConstantAnswer.{ConstantAnswer}
 use Rattle.arc.specs.declared.SpacingAnswer.{SpacingAnswer}
 use Rattle.arc.specs.declared.parts.ConstantParts.{ConstantParts}
@@ -44,13 +46,16 @@ columnsOf s zone = columnsIn s (tableRow zone)
 abbrev pub rowsOf : ℕ → ConstantAnswer
 rowsOf s = cond (isScale s) (ConstantAnswer.Pixels (spacingAt rowUnit s)) (ConstantAnswer.Refused (refusal 1))
 
-abbrev pub withRows : ℕ → ConstantAnswer → SpacingAnswer
-withRows s (ConstantAnswer.Pixels a) = SpacingAnswer.Constants a (spacingAt rowUnit s)
-withRows s (ConstantAnswer.Refused r) = SpacingAnswer.Refused r
+-- what was refused before comes first
+abbrev pub onConstant : {A : Type 0} → ConstantAnswer → (Refusal → A) → (ℕ → A) → A
+onConstant (ConstantAnswer.Pixels n) f g = g n
+onConstant (ConstantAnswer.Refused r) f g = f r
 
 -- 1, 2
 abbrev pub spacingOf : ℕ → ℕ → SpacingAnswer
-spacingOf s zone = cond (isScale s) (withRows s (columnsOf s zone)) (SpacingAnswer.Refused (refusal 1))
+spacingOf s zone =
+    onConstant (rowsOf s) SpacingAnswer.Refused (λ b.
+    onConstant (columnsOf s zone) SpacingAnswer.Refused (λ a. SpacingAnswer.Constants a b))
 
 -- ---- the paper's number, place and values: of an answer, and as `into_parts` tells them
 

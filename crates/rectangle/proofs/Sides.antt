@@ -2,32 +2,28 @@
 -- zone covers some latitude of it where its row starts no farther than high and reaches low. Assumes nothing.
 use mathlib.Core.Path.{_≡_, refl, sym, ap, _∙_}
 use mathlib.Core.Bool.{Bool, true, false, _&&_, _||_, and-eq-true-iff}
+use mathlib.Mathlib.Data.Bool.Basic.{eq-false-of-not-eq-true}
 use Prim.Native.Nat.{ℕ, zero, suc, _+_, _-_, _*_, _≤_, _<_}
 use native.Mathlib.Nat.{mul-le-mul-right}
 use native.Mathlib.Omega.{arith}
-use borrow.Author.Tests.{ltb-true, ltb-false, lt-ltb, le-ltb, le-leb, leb-true, ne-eqb}
+use borrow.Author.Tests.{ltb-true, ltb-false, lt-ltb, le-ltb, le-leb, leb-true}
 use lib.Dec.{leb, ltb}
 use lib.IntN.{ℤ, pos, negsuc, _-ℤ_}
 use lib.Signed.{_≤ℤ_}
 use Rattle.whole.proofs.Signed.{is-nat, is-difference, is-le, le-is}
 use Rattle.arc.specs.Zones.{circle, quarter, isPolar, Row, from, to, rowAt}
-use Rattle.zones.specs.Basic.{holdsSize}
-use Rattle.zones.specs.Cover.{overlaps, coversIn, covers}
+use Rattle.zones.specs.Cover.{covers}
 use Rattle.zones.specs.Steps.{reaches}
-use Rattle.arc.proofs.Table.{from-to, northern-at, southern-at, row-north, row-south, to-least}
-use Rattle.zones.proofs.Covering.{covers-is}
+use Rattle.arc.proofs.Table.{from-to, to-least}
+use Rattle.zones.proofs.Covering.{covers-is, own-side}
 use Rattle.rectangle.specs.Rectangle.{coversSome, Covered}
-use Rattle.rectangle.specs.Steps.{meets}
+use Rattle.rectangle.specs.Steps.{meets, Sides}
 use Rattle.rectangle.proofs.Some.{somes}
 
 same : (x y : Bool) → (x ≡ true → y ≡ true) → (y ≡ true → x ≡ true) → x ≡ y
 same true y f g = sym (f refl)
 same false true f g = g refl
 same false false f g = refl
-
-none : (x : Bool) → (x ≡ true → ⊥) → x ≡ false
-none true f = absurd (f refl)
-none false f = refl
 
 -- a size that a row covers
 abbrev In : ℕ → ℕ → ℕ → Type 0
@@ -101,19 +97,13 @@ module _ (b j : ℕ) (h : j < 9) where
   south-in n = covers-is b j h (negsuc n)
 
   not-north : (n : ℕ) → covers b (negsuc n) (1 + j) ≡ false
-  unfolding covers
-  not-north n =
-      ap (coversIn b (negsuc n) (1 + j)) (row-north j h)
-      ∙ ap (λ (t : Bool). t && (holdsSize (rowAt j) (suc n) || overlaps b (rowAt j) (suc n)))
-      (ne-eqb (1 + j) (rowAt j .southern) (λ e. omega (arith, southern-at j h)))
+  not-north n = eq-false-of-not-eq-true (λ e. let w = own-side b (negsuc n) (1 + j) e in let z : 1 + j ≡ 10 + w .0 = w .2 in omega arith)
 
   not-south : (s : ℕ) → covers b (pos s) (10 + j) ≡ false
-  unfolding covers
   not-south s =
-      ap (coversIn b (pos s) (10 + j)) (row-south j h)
-      ∙ rw (le-ltb s 0 (omega arith))
-      (ap (λ (t : Bool). t && (holdsSize (rowAt j) s || overlaps b (rowAt j) s))
-      (ne-eqb (10 + j) (rowAt j .northern) (λ e. omega (arith, northern-at j h))))
+      eq-false-of-not-eq-true (λ e.
+      let w = own-side b (pos s) (10 + j) e in
+      let z : 10 + j ≡ 1 + w .0 = rw (le-ltb s 0 (omega arith)) at (w .2) in omega (arith, w .1))
 
   -- the rectangle, its edges counted from the South Pole
   module _ (S N : ℕ) (o : S ≤ N) where
@@ -175,7 +165,7 @@ module _ (b j : ℕ) (h : j < 9) where
           in-zone = south-in n ∙ t;
         }
 
-    pub north-is : quarter ≤ N → coversSome b south north (1 + j) ≡ meets b (rowAt j) (S - quarter) (N - quarter)
+    north-is : quarter ≤ N → coversSome b south north (1 + j) ≡ meets b (rowAt j) (S - quarter) (N - quarter)
     north-is k =
         same (coversSome b south north (1 + j)) (meets b (rowAt j) (S - quarter) (N - quarter))
         (λ t. let w = north-size (somes b south north (1 + j) order .0 t) in
@@ -183,10 +173,10 @@ module _ (b j : ℕ) (h : j < 9) where
         (λ t. let w = met 0 (S - quarter) (N - quarter) (omega arith) (omega arith) (omega arith) t in
         somes b south north (1 + j) order .1 (north-lat (w .0) (omega (arith, w .2)) (omega (arith, w .3)) (w .4)))
 
-    pub north-none : N < quarter → coversSome b south north (1 + j) ≡ false
-    north-none k = none (coversSome b south north (1 + j)) (λ t. let w = north-size (somes b south north (1 + j) order .0 t) in omega (arith, w .2))
+    north-none : N < quarter → coversSome b south north (1 + j) ≡ false
+    north-none k = eq-false-of-not-eq-true (λ t. let w = north-size (somes b south north (1 + j) order .0 t) in omega (arith, w .2))
 
-    pub south-is : S < quarter → coversSome b south north (10 + j) ≡ meets b (rowAt j) (quarter - N) (quarter - S)
+    south-is : S < quarter → coversSome b south north (10 + j) ≡ meets b (rowAt j) (quarter - N) (quarter - S)
     south-is k =
         same (coversSome b south north (10 + j)) (meets b (rowAt j) (quarter - N) (quarter - S))
         (λ t. let w = south-size (somes b south north (10 + j) order .0 t) in
@@ -194,5 +184,32 @@ module _ (b j : ℕ) (h : j < 9) where
         (λ t. let w = met 1 (quarter - N) (quarter - S) (omega arith) (omega arith) (omega arith) t in
         somes b south north (10 + j) order .1 (south-lat (w .0) (w .1) (omega (arith, w .3)) (omega (arith, w .2)) (w .4)))
 
-    pub south-none : quarter ≤ S → coversSome b south north (10 + j) ≡ false
-    south-none k = none (coversSome b south north (10 + j)) (λ t. let w = south-size (somes b south north (10 + j) order .0 t) in omega (arith, w .1))
+    south-none : quarter ≤ S → coversSome b south north (10 + j) ≡ false
+    south-none k = eq-false-of-not-eq-true (λ t. let w = south-size (somes b south north (10 + j) order .0 t) in omega (arith, w .1))
+
+-- by the zone's number, as `covers_some` is asked
+module _ (b zone S N : ℕ) (g : Sides b zone S N) where
+  abbrev some : Bool
+  some = coversSome b (pos S -ℤ pos quarter) (pos N -ℤ pos quarter) zone
+
+  by-one : zone ≡ 1 + (zone - 1)
+  by-one = omega (arith, g .some-zone)
+
+  by-ten : 9 < zone → zone ≡ 10 + (zone - 10)
+  by-ten h = omega arith
+
+  pub in-north : zone ≤ 9 → quarter ≤ N → some ≡ meets b (rowAt (zone - 1)) (S - quarter) (N - quarter)
+  in-north h k =
+      ap (coversSome b (pos S -ℤ pos quarter) (pos N -ℤ pos quarter)) by-one ∙ north-is b (zone - 1) (omega (arith, g .some-zone)) S N (g .order) k
+
+  pub off-north : zone ≤ 9 → N < quarter → some ≡ false
+  off-north h k =
+      ap (coversSome b (pos S -ℤ pos quarter) (pos N -ℤ pos quarter)) by-one ∙ north-none b (zone - 1) (omega (arith, g .some-zone)) S N (g .order) k
+
+  pub in-south : 9 < zone → S < quarter → some ≡ meets b (rowAt (zone - 10)) (quarter - N) (quarter - S)
+  in-south h k =
+      ap (coversSome b (pos S -ℤ pos quarter) (pos N -ℤ pos quarter)) (by-ten h) ∙ south-is b (zone - 10) (omega (arith, g .last-zone)) S N (g .order) k
+
+  pub off-south : 9 < zone → quarter ≤ S → some ≡ false
+  off-south h k =
+      ap (coversSome b (pos S -ℤ pos quarter) (pos N -ℤ pos quarter)) (by-ten h) ∙ south-none b (zone - 10) (omega (arith, g .last-zone)) S N (g .order) k

@@ -12,10 +12,9 @@ use lib.Signed.{ltZ, _≤ℤ_}
 use Rattle.whole.specs.Whole.{outside}
 use Rattle.arc.specs.declared.Refusal.{Refusal}
 use Rattle.arc.specs.declared.Verdict.{Verdict}
-use Rattle.arc.specs.declared.ConstantAnswer.{ConstantAnswer}
 use Rattle.arc.specs.Refusals.{refusal}
 use Rattle.arc.specs.Zones.{quarter}
-use Rattle.arc.specs.Spacing.{rowsOf}
+use Rattle.arc.specs.Spacing.{onConstant, rowsOf}
 use Rattle.rectangle.specs.declared.RectangleAnswer.{RectangleAnswer}
 use Rattle.whole.specs.Lists.{those, upFrom, padded, someFrom}
 use Rattle.zones.specs.Cover.{covers}
@@ -41,13 +40,9 @@ rectangleAt b south north =
     (cond (ltZ north south) (refusedRectangle (refusal 16))
     (acceptedRectangle (rectangleZones b south north))))
 
-abbrev pub rectangleWith : ConstantAnswer → ℤ → ℤ → RectangleAnswer
-rectangleWith (ConstantAnswer.Pixels b) south north = rectangleAt b south north
-rectangleWith (ConstantAnswer.Refused r) south north = refusedRectangle r
-
 -- 1, south 4, north 4, 16
 abbrev pub rectangleOf : ℕ → ℤ → ℤ → RectangleAnswer
-rectangleOf s south north = rectangleWith (rowsOf s) south north
+rectangleOf s south north = onConstant (rowsOf s) refusedRectangle (λ b. rectangleAt b south north)
 
 -- ---- what "covers some latitude in it" is held to: proved in proofs/Some.antt
 

@@ -80,8 +80,8 @@ module _ (f : ℕ → Bool) (k : ℕ) (whole rest slots : List ℕ) (n z : ℕ) 
       }
 
 -- nothing more to come: the answer made of count and slots
-pub finished : {A : Type 0} (made : ℕ → List ℕ → A) (f : ℕ → Bool) (k : ℕ) (whole rest slots : List ℕ) (n : ℕ) → Sofar f k whole rest slots n
-    → those f rest ≡ [] → made n slots ≡ made (length whole) (padded k whole)
+pub finished : {A : Type 0} (made : ℕ → List ℕ → A) (f : ℕ → Bool) (k : ℕ) (whole rest slots : List ℕ) (n : ℕ)
+    → Sofar f k whole rest slots n → those f rest ≡ [] → made n slots ≡ made (length whole) (padded k whole)
 finished made f k whole rest slots n w e =
     let s : w .so ≡ whole = sym (append-nil (w .so)) ∙ ap (λ (l : List ℕ). w .so ++ l) (sym e) ∙ w .joined in
     ap₂ made (w .count ∙ ap length s) (w .filled ∙ ap (padded k) s)

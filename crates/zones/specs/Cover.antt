@@ -16,10 +16,9 @@ use lib.Signed.{ltZ}
 use Rattle.whole.specs.Whole.{outside}
 use Rattle.arc.specs.declared.Refusal.{Refusal}
 use Rattle.arc.specs.declared.Verdict.{Verdict}
-use Rattle.arc.specs.declared.ConstantAnswer.{ConstantAnswer}
 use Rattle.arc.specs.Refusals.{refusal, Report, reportIn}
 use Rattle.arc.specs.Zones.{circle, quarter, Row, tableRow, isPolar, to}
-use Rattle.arc.specs.Spacing.{isScale, rowsOf, rowUnit, spacingAt}
+use Rattle.arc.specs.Spacing.{isScale, onConstant, rowsOf, rowUnit, spacingAt}
 use Rattle.zones.specs.declared.CoverAnswer.{CoverAnswer}
 use Rattle.whole.specs.Lists.{those, downFrom, padded}
 use Rattle.zones.specs.Basic.{holdsSize, zoneOn, basicZone}
@@ -57,13 +56,9 @@ refusedCover r = record { verdict = Verdict.Refused r; length = 0; zones = repli
 abbrev pub coverAt : ℕ → ℤ → CoverAnswer
 coverAt b lat = cond (outside quarter lat) (refusedCover (refusal 4)) (acceptedCover (coverZones b lat))
 
-abbrev pub coverWith : ConstantAnswer → ℤ → CoverAnswer
-coverWith (ConstantAnswer.Pixels b) lat = coverAt b lat
-coverWith (ConstantAnswer.Refused r) lat = refusedCover r
-
 -- 1, 4
 abbrev pub coverOf : ℕ → ℤ → CoverAnswer
-coverOf s lat = coverWith (rowsOf s) lat
+coverOf s lat = onConstant (rowsOf s) refusedCover (λ b. coverAt b lat)
 
 -- the paper's number, place and values: the length and the six slots
 abbrev pub coverReport : CoverAnswer → Report

@@ -7,8 +7,8 @@ use arc::Verdict;
 ghost use mathlib.Core.Path.{_≡_};
 ghost use Prim.Native.Nat.{_+_};
 ghost use Rattle.zones.specs.Basic.{rowHolding, basicZoneOf};
-ghost use Rattle.zones.specs.Cover.{acceptedCover, coverAt, coverOf, refusedCover};
-ghost use Rattle.zones.specs.Steps.{locatedOf, coverFrom, Rows, Rowed};
+ghost use Rattle.zones.specs.Cover.{acceptedCover, coverOf, refusedCover};
+ghost use Rattle.zones.specs.Steps.{locatedOf, coverFrom, Rowed};
 
 mod parts;
 
@@ -116,23 +116,15 @@ fn cover_from(b: u64, first: u64, row: usize, size: u64) -> CoverAnswer
     }
 }
 
-// The cover list, B being known. Refuses 4.
-fn cover_at(b: u64, lat: i64) -> CoverAnswer
-    requires { ⌜ Rows b ⌝ }
-    ensures { λ r. ⌜ r ≡ coverAt b lat ⌝ }
-{
-    match locate(lat) {
-        Located::At { first, row, size } => cover_from(b, first, row as usize, size),
-        Located::Outside => no_cover(arc::refused(4)),
-    }
-}
-
 // The zones that cover a latitude at scale 1:S, the basic zone first, then equatorward. Refuses 1, 4.
 pub fn cover(scale: u64, lat: i64) -> CoverAnswer
     ensures { λ r. ⌜ r ≡ coverOf scale lat ⌝ }
 {
     match arc::b_constant(scale) {
-        ConstantAnswer::Pixels(b) => cover_at(b, lat),
+        ConstantAnswer::Pixels(b) => match locate(lat) {
+            Located::At { first, row, size } => cover_from(b, first, row as usize, size),
+            Located::Outside => no_cover(arc::refused(4)),
+        },
         ConstantAnswer::Refused(r) => no_cover(r),
     }
 }

@@ -8,22 +8,10 @@ use borrow.Author.Needs.{needs}
 use Rattle.rectangle.proofs.rectangle.Statement.{statement}
 use Rattle.rectangle.proofs.rectangle.Tie as tie
 
-b-constant-requires : tie.Need-b-constant-requires
-b-constant-requires c κs = search needs
-
-enum-known-b : tie.Need-enum-known-b
-enum-known-b c = search needs
-
 rectangle-at-requires : tie.Need-rectangle-at-requires
 rectangle-at-requires c κs =
     rows-of (c .before .before .before .before .args .scale) _
     (sym (c .before .before .before .b-constant .ensures) ∙ c .before .b .given .1)
-
-enum-known-r : tie.Need-enum-known-r
-enum-known-r c = search needs
-
-no-rectangle-requires : tie.Need-no-rectangle-requires
-no-rectangle-requires c κs = search needs
 
 returns : tie.Need-returns
 returns c = let s = c .before .before .before .before .before in
@@ -39,10 +27,8 @@ pub rectangle-spec : {M : Type 1} → statement M
 rectangle-spec =
     tie.close
     (tie.spec
-    b-constant-requires
-    enum-known-b
+    (λ c κs. search needs) (λ c. search needs)
     rectangle-at-requires
-    enum-known-r
-    no-rectangle-requires
+    (λ c. search needs) (λ c κs. search needs)
     returns
     returns-2)

@@ -8,31 +8,14 @@ use borrow.Author.Needs.{needs}
 use Rattle.rectangle.proofs.rectangle_at.Statement.{statement}
 use Rattle.rectangle.proofs.rectangle_at.Tie as tie
 
-count-from-requires : tie.Need-count-from-requires
-count-from-requires c κs = search needs
-
-enum-known-s : tie.Need-enum-known-s
-enum-known-s c = search needs
-
-enum-told : tie.Need-enum-told
-enum-told c = search needs
-
-refused-requires : tie.Need-refused-requires
-refused-requires c κs = search needs
-
-no-rectangle-requires : tie.Need-no-rectangle-requires
-no-rectangle-requires c κs = search needs
-
 south-in : (c : tie.After-known-told) → Inside quarter (c .before .before .before .before .args .south) (c .before .s .given .0 .0)
-south-in c =
-    let s = c .before .before .before .before in
-    counted-from quarter (s .args .south) (s .fits .south) (c .before .before .before .count-from .ensures) (c .before .s .given .1)
+south-in c = counted-from quarter _ (c .before .before .before .before .fits .south) (c .before .before .before .count-from .ensures) (c .before .s .given .1)
 
 north-in : (c : tie.After-known-told2)
     → Inside quarter (c .before .before .before .before .before .before .before .before .args .north) (c .before .n .given .0 .0)
 north-in c =
-    let s = c .before .before .before .before .before .before .before .before in
-    counted-from quarter (s .args .north) (s .fits .north) (c .before .before .before .count-from2 .ensures) (c .before .n .given .1)
+    counted-from quarter _ (c .before .before .before .before .before .before .before .before .fits .north) (c .before .before .before .count-from2 .ensures)
+    (c .before .n .given .1)
 
 returns : tie.Need-returns
 returns c = let s = c .before .before .before .before .before in
@@ -41,33 +24,12 @@ returns c = let s = c .before .before .before .before .before in
     (c .before .before .enum-told .given .1) in
     rw out (c .no-rectangle .ensures ∙ ap refusedRectangle (c .before .refused .ensures))
 
-count-from-requires-2 : tie.Need-count-from-requires-2
-count-from-requires-2 c κs = search needs
-
-enum-known-n : tie.Need-enum-known-n
-enum-known-n c = search needs
-
-enum-told-2 : tie.Need-enum-told-2
-enum-told-2 c = search needs
-
-refused-requires-2 : tie.Need-refused-requires-2
-refused-requires-2 c κs = search needs
-
-no-rectangle-requires-2 : tie.Need-no-rectangle-requires-2
-no-rectangle-requires-2 c κs = search needs
-
 returns-2 : tie.Need-returns-2
 returns-2 c = let s = c .before .before .before .before .before .before .before .before .before in
     let out =
     counted-outside quarter (s .args .north) (s .fits .north) (c .before .before .before .before .count-from2 .ensures)
     (c .before .before .enum-told2 .given .1) in
     rw (south-in (c .before .before .before .before .before) .test, out) (c .no-rectangle2 .ensures ∙ ap refusedRectangle (c .before .refused2 .ensures))
-
-refused-requires-3 : tie.Need-refused-requires-3
-refused-requires-3 c κs = search needs
-
-no-rectangle-requires-3 : tie.Need-no-rectangle-requires-3
-no-rectangle-requires-3 c κs = search needs
 
 returns-3 : tie.Need-returns-3
 returns-3 c =
@@ -90,20 +52,11 @@ pub rectangle-at-spec : {M : Type 1} → statement M
 rectangle-at-spec =
     tie.close
     (tie.spec
-    count-from-requires
-    enum-known-s
-    enum-told
-    refused-requires
-    no-rectangle-requires
+    (λ c κs. search needs) (λ c. search needs) (λ c. search needs) (λ c κs. search needs) (λ c κs. search needs)
     returns
-    count-from-requires-2
-    enum-known-n
-    enum-told-2
-    refused-requires-2
-    no-rectangle-requires-2
+    (λ c κs. search needs) (λ c. search needs) (λ c. search needs) (λ c κs. search needs) (λ c κs. search needs)
     returns-2
-    refused-requires-3
-    no-rectangle-requires-3
+    (λ c κs. search needs) (λ c κs. search needs)
     returns-3
     zones-of-requires
     returns-4)

@@ -13,12 +13,6 @@ use borrow.Author.Needs.{needs}
 use Rattle.rectangle.proofs.row_meets.Statement.{statement}
 use Rattle.rectangle.proofs.row_meets.Tie as tie
 
-equatorward-requires : tie.Need-equatorward-requires
-equatorward-requires c κs = search needs
-
-poleward-requires : tie.Need-poleward-requires
-poleward-requires c κs = search needs
-
 -- the tests `low < to` and `row == 8`
 sooner : (low i limit : ℕ) (h : i < 9) → limit ≡ to (rowAt i) → ltb low (to (rowAt i)) || isPolar (rowAt i .northern) ≡ ltb low limit || eqb i 8
 sooner low i limit h e = rw (e, polar-at i h)
@@ -36,9 +30,6 @@ returns-2 c =
       le-leb _ _ (c .before .if1 .left),
       sooner (a .low) (a .row) _ (c .before .before .before .before .pre .1 .0) (c .before .before .poleward .ensures) ∙ c .if2 .taken,
     )
-
-less-requires : tie.Need-less-requires
-less-requires c κs = search needs
 
 mul-result : tie.Need-mul-result
 mul-result c =
@@ -61,10 +52,9 @@ pub row-meets-spec : {M : Type 1} → statement M
 row-meets-spec =
     tie.close
     (tie.spec
-    equatorward-requires
-    poleward-requires
+    (λ c κs. search needs) (λ c κs. search needs)
     returns
     returns-2
-    less-requires
+    (λ c κs. search needs)
     mul-result
     returns-3)

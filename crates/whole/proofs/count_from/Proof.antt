@@ -9,9 +9,6 @@ use borrow.Author.Needs.{needs}
 use Rattle.whole.proofs.count_from.Statement.{statement}
 use Rattle.whole.proofs.count_from.Tie as tie
 
-cast-k : tie.Need-cast-k
-cast-k c = search needs
-
 sub-if1 : tie.Need-sub-if1
 sub-if1 c = rw (negated (c .args .limit) (c .fits .limit .fits)) (negated-fits (c .args .limit) (c .fits .limit .fits))
 
@@ -44,4 +41,13 @@ returns-3 c = let s = c .before .before in
     rw (inside c) (ap (λ (x : ℤ). From (natAbs x)) (sum-is (s .args .limit) (s .fits .limit .fits) (s .args .z) (s .fits .z) (inside c)))
 
 pub count-from-spec : {M : Type 1} → statement M
-count-from-spec = tie.close (tie.spec cast-k sub-if1 returns returns-2 add-t4 cast-t6 returns-3)
+count-from-spec =
+    tie.close
+    (tie.spec
+    (λ c. search needs)
+    sub-if1
+    returns
+    returns-2
+    add-t4
+    cast-t6
+    returns-3)

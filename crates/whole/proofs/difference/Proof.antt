@@ -7,12 +7,6 @@ use borrow.Author.Needs.{needs}
 use Rattle.whole.proofs.difference.Statement.{statement}
 use Rattle.whole.proofs.difference.Tie as tie
 
-cast-result : tie.Need-cast-result
-cast-result c = search needs
-
-cast-result-2 : tie.Need-cast-result-2
-cast-result-2 c = search needs
-
 sub-result : tie.Need-sub-result
 sub-result c = rw (minus-plain (c .args .a) (c .args .b) (c .fits .a .fits) (c .fits .b .fits))
     (minus-fits (c .args .a) (c .args .b) (c .fits .a .fits) (c .fits .b .fits))
@@ -23,4 +17,9 @@ returns c =
     (toZ-ofZ w64 (pos (c .args .a) -ℤ pos (c .args .b)) (minus-fits (c .args .a) (c .args .b) (c .fits .a .fits) (c .fits .b .fits)))
 
 pub difference-spec : {M : Type 1} → statement M
-difference-spec = tie.close (tie.spec cast-result cast-result-2 sub-result returns)
+difference-spec =
+    tie.close
+    (tie.spec
+    (λ c. search needs) (λ c. search needs)
+    sub-result
+    returns)

@@ -31,12 +31,6 @@ none x d e = ap (near x) e ∙ div-zero (2 * x + 0)
 returns : tie.Need-returns
 returns c = sym (none (c .before .args .x) (c .before .args .d) (c .if1 .taken))
 
-div-floor : tie.Need-div-floor
-div-floor c = search needs
-
-rem-rest : tie.Need-rem-rest
-rem-rest c = search needs
-
 some : (c : tie.Else1) → 0 < c .before .args .d
 some c = omega (arith, c .if1 .left)
 
@@ -54,4 +48,11 @@ returns-3 c = let a = c .before .before .args in sym (up (a .x) (a .d) (some (c 
 
 pub nearest-spec : {M : Type 1} → statement M
 nearest-spec =
-    tie.close (tie.spec returns div-floor rem-rest sub-if2 returns-2 add-result returns-3)
+    tie.close
+    (tie.spec
+    returns
+    (λ c. search needs) (λ c. search needs)
+    sub-if2
+    returns-2
+    add-result
+    returns-3)

@@ -29,10 +29,14 @@ cast-result-2 c =
     casts (natAbs (c .before .args .z)) (whole-held (c .before .args .z) (c .before .fits .z) (c .if1 .left))
     (omega (arith, size-fits (c .before .args .z) (c .before .fits .z)))
 
-returns-2 : tie.Need-returns-2
-returns-2 c = search needs
-
 pub size-spec : {M : Type 1} → statement M
 size-spec =
     tie.close
-    (tie.spec add-result sub-result cast-result add-result-2 returns cast-result-2 returns-2)
+    (tie.spec
+    add-result
+    sub-result
+    cast-result
+    add-result-2
+    returns
+    cast-result-2
+    (λ c. search needs))

@@ -11,12 +11,6 @@ use borrow.Author.Needs.{needs}
 use Rattle.zones.proofs.basic_zone.Statement.{statement}
 use Rattle.zones.proofs.basic_zone.Tie as tie
 
-locate-requires : tie.Need-locate-requires
-locate-requires c κs = search needs
-
-enum-known-first : tie.Need-enum-known-first
-enum-known-first c = search needs
-
 lies : (c : tie.After-known-told) → let g = c .before .first .given .0 in Lies (c .before .before .before .before .args .lat) (g .0) (g .1 .0) (g .1 .1 .0)
 lies c = let s = c .before .before .before .before in
     located-at (s .args .lat) (s .fits .lat) (c .before .before .before .locate .ensures) (c .before .first .given .1)
@@ -24,12 +18,6 @@ lies c = let s = c .before .before .before .before in
 add-t6 : tie.Need-add-t6
 add-t6 c = let l = lies c in let z = c .before .before .before .before .args .lat in
     omega (arith, l .is-first, l .is-row, first-small z, place (natAbs z) .in-list)
-
-enum-told : tie.Need-enum-told
-enum-told c = search needs
-
-refused-requires : tie.Need-refused-requires
-refused-requires c κs = search needs
 
 returns : tie.Need-returns
 returns c = let l = lies c in
@@ -43,4 +31,9 @@ returns-2 c = let s = c .before .before .before .before in
 pub basic-zone-spec : {M : Type 1} → statement M
 basic-zone-spec =
     tie.close
-    (tie.spec locate-requires enum-known-first add-t6 enum-told refused-requires returns returns-2)
+    (tie.spec
+    (λ c κs. search needs) (λ c. search needs)
+    add-t6
+    (λ c. search needs) (λ c κs. search needs)
+    returns
+    returns-2)

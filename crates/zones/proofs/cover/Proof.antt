@@ -1,46 +1,51 @@
--- B comes first, with its refusal, and then `cover_at` answers. Assumes nothing.
-use mathlib.Core.Path.{sym, ap, _∙_}
-use mir.Syntax.{w64}
-use mir.ValLaws.{toZ-ofZ}
-use Rattle.zones.specs.Cover.{coverAt}
-use Rattle.zones.proofs.Covering.{rows-of}
+-- B comes first, with its refusal; then the cover list as `cover_from` goes through it, from the row that holds the latitude. Assumes nothing.
+use mathlib.Core.Path.{_≡_, sym, ap, _∙_}
+use Rattle.arc.specs.declared.ConstantAnswer.{ConstantAnswer}
+use Rattle.arc.specs.Spacing.{rowsOf}
+use Rattle.zones.specs.Cover.{acceptedCover, refusedCover}
+use Rattle.zones.proofs.Covering.{cover-is, rowed, rows-of}
+use Rattle.zones.proofs.Lying.{Lies, located-outside, located-at}
 use borrow.Author.Needs.{needs}
 use Rattle.zones.proofs.cover.Statement.{statement}
 use Rattle.zones.proofs.cover.Tie as tie
 
-b-constant-requires : tie.Need-b-constant-requires
-b-constant-requires c κs = search needs
+known : (c : tie.After-known-told) → rowsOf (c .before .before .before .before .args .scale) ≡ ConstantAnswer.Pixels (c .before .b .given .0 .0)
+known c = sym (c .before .before .before .b-constant .ensures) ∙ c .before .b .given .1
 
-enum-known-b : tie.Need-enum-known-b
-enum-known-b c = search needs
+lies : (c : tie.After-known-told2) → let g = c .before .first .given .0 in
+    Lies (c .before .before .before .before .before .before .before .before .args .lat) (g .0) (g .1 .0) (g .1 .1 .0)
+lies c = let s = c .before .before .before .before .before .before .before .before in
+    located-at (s .args .lat) (s .fits .lat) (c .before .before .before .locate .ensures) (c .before .first .given .1)
 
-cover-at-requires : tie.Need-cover-at-requires
-cover-at-requires c κs =
-    rows-of (c .before .before .before .before .args .scale) _
-    (sym (c .before .before .before .b-constant .ensures) ∙ c .before .b .given .1)
-
-enum-known-r : tie.Need-enum-known-r
-enum-known-r c = search needs
-
-no-cover-requires : tie.Need-no-cover-requires
-no-cover-requires c κs = search needs
+cover-from-requires : tie.Need-cover-from-requires
+cover-from-requires c κs = let a = c .before .before .before .before .before .before .before .before .args in
+    let l = lies c in
+    rw (l .is-first, l .is-row, l .is-size) (rowed _ (a .lat) (rows-of (a .scale) _ (known (c .before .before .before .before))) (l .test))
 
 returns : tie.Need-returns
-returns c = let s = c .before .before .before .before .before in
-    rw (sym (c .before .before .before .before .b-constant .ensures) ∙ c .before .before .b .given .1)
-    (c .cover-at .ensures ∙ ap (coverAt (c .before .before .b .given .0 .0)) (toZ-ofZ w64 (s .args .lat) (s .fits .lat)))
+returns c = let a = c .before .before .before .before .before .before .before .before .before .args in
+    let l = lies (c .before) in
+    rw (known (c .before .before .before .before .before), l .test)
+    (c .cover-from .ensures ∙ rw (l .is-first, l .is-row, l .is-size) (ap acceptedCover (sym (cover-is _ (a .lat)))))
 
 returns-2 : tie.Need-returns-2
-returns-2 c = rw (sym (c .before .before .before .before .b-constant .ensures) ∙ c .before .before .r .given .1) (c .no-cover .ensures)
+returns-2 c = let s = c .before .before .before .before .before .before .before .before .before in
+    rw (
+      known (c .before .before .before .before .before),
+      located-outside (s .args .lat) (s .fits .lat) (c .before .before .before .before .locate .ensures) (c .before .before .enum-told .given .1),
+    )
+    (c .no-cover .ensures ∙ ap refusedCover (c .before .refused .ensures))
+
+returns-3 : tie.Need-returns-3
+returns-3 c = rw (sym (c .before .before .before .before .b-constant .ensures) ∙ c .before .before .r .given .1) (c .no-cover2 .ensures)
 
 pub cover-spec : {M : Type 1} → statement M
 cover-spec =
     tie.close
     (tie.spec
-    b-constant-requires
-    enum-known-b
-    cover-at-requires
-    enum-known-r
-    no-cover-requires
+    (λ c κs. search needs) (λ c. search needs) (λ c κs. search needs) (λ c. search needs)
+    cover-from-requires
+    (λ c. search needs) (λ c κs. search needs) (λ c κs. search needs) (λ c. search needs) (λ c κs. search needs)
     returns
-    returns-2)
+    returns-2
+    returns-3)

@@ -28,18 +28,12 @@ abbrev μ-loop : tie.MeasureT-loop
 add-zones : tie.Need-add-zones Inv-loop μ-loop
 add-zones c = omega (arith, c .pre .zone, c .pre .in-table)
 
-array-write-zones : tie.Need-array-write-zones Inv-loop μ-loop
-array-write-zones c = search needs
-
 loop-holds : tie.Need-loop-holds Inv-loop μ-loop
 unfolding coverFrom
 loop-holds c = (omega arith, omega arith, record { so = (c .args .first + c .args .row) ∷ []; joined = refl; filled = refl; count = refl })
 
 sub-poleward : tie.Need-sub-poleward Inv-loop μ-loop
 sub-poleward c = omega arith
-
-poleward-requires : tie.Need-poleward-requires Inv-loop μ-loop
-poleward-requires c κs = search needs
 
 sub-if1 : tie.Need-sub-if1 Inv-loop μ-loop
 sub-if1 c =
@@ -98,10 +92,10 @@ cover-from-spec =
     Inv-loop
     μ-loop
     add-zones
-    array-write-zones
+    (λ c. search needs)
     loop-holds
     sub-poleward
-    poleward-requires
+    (λ c κs. search needs)
     sub-if1
     mul-if1
     sub-left

@@ -13,17 +13,11 @@ use borrow.Author.Needs.{needs}
 use Rattle.zones.proofs.locate.Statement.{statement}
 use Rattle.zones.proofs.locate.Tie as tie
 
-size-requires : tie.Need-size-requires
-size-requires c κs = search needs
-
 sized : (c : tie.After-size) → c .size .result ≡ natAbs (c .before .args .lat)
 sized c = c .size .ensures ∙ ap natAbs (toZ-ofZ w64 (c .before .args .lat) (c .before .fits .lat))
 
 returns : tie.Need-returns
 returns c = rw (outside-size quarter (c .before .before .args .lat) _ (sized (c .before)) (c .if1 .taken))
-
-row-holding-requires : tie.Need-row-holding-requires
-row-holding-requires c κs = search needs
 
 -- row and size
 placed : (first : ℕ) (c : tie.After-row-holding) → let n = natAbs (c .before .before .before .args .lat) in
@@ -49,4 +43,11 @@ returns-3 c = let s = c .before .before .before .before in
     (placed 1 (c .before))
 
 pub locate-spec : {M : Type 1} → statement M
-locate-spec = tie.close (tie.spec size-requires returns row-holding-requires returns-2 returns-3)
+locate-spec =
+    tie.close
+    (tie.spec
+    (λ c κs. search needs)
+    returns
+    (λ c κs. search needs)
+    returns-2
+    returns-3)

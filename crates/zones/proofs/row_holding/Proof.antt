@@ -16,9 +16,6 @@ abbrev μ-loop : tie.MeasureT-loop
 loop-holds : tie.Need-loop-holds Inv-loop μ-loop
 loop-holds c = omega arith
 
-poleward-requires : tie.Need-poleward-requires Inv-loop μ-loop
-poleward-requires c κs = search needs
-
 add-row : tie.Need-add-row Inv-loop μ-loop
 add-row c = omega arith
 
@@ -48,7 +45,7 @@ row-holding-spec =
     Inv-loop
     μ-loop
     loop-holds
-    poleward-requires
+    (λ c κs. search needs)
     add-row
     loop-less
     loop-again

@@ -3,17 +3,13 @@ use borrow.Author.Needs.{needs}
 use Rattle.arc.proofs.Verdict.refusal.Statement.{statement}
 use Rattle.arc.proofs.Verdict.refusal.Tie as tie
 
-enum-told : tie.Need-enum-told
-enum-told c = search needs
-
-enum-known-self : tie.Need-enum-known-self
-enum-known-self c = search needs
-
 returns : tie.Need-returns
 returns c = rw (c .enum-told .given .1)
 
-returns-2 : tie.Need-returns-2
-returns-2 c = search needs
-
 pub refusal-spec : {M : Type 1} → statement M
-refusal-spec = tie.close (tie.spec enum-told enum-known-self returns returns-2)
+refusal-spec =
+    tie.close
+    (tie.spec
+    (λ c. search needs) (λ c. search needs)
+    returns
+    (λ c. search needs))

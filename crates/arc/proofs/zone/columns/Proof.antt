@@ -36,16 +36,8 @@ pub columns-spec : {M : Type 1} → statement M
 columns-spec =
     tie.close
     (tie.spec
-    (λ c κs. search needs)
-    (λ c κs. search needs)
-    (λ c κs. search needs)
-    (λ c κs. search needs)
-    (λ c κs. search needs)
-    (λ c κs. search needs)
-    (λ c κs. search needs)
-    (λ c κs. search needs)
-    (λ c κs. search needs)
-    (λ c κs. search needs)
+    (λ c κs. search needs) (λ c κs. search needs) (λ c κs. search needs) (λ c κs. search needs) (λ c κs. search needs)
+    (λ c κs. search needs) (λ c κs. search needs) (λ c κs. search needs) (λ c κs. search needs) (λ c κs. search needs)
     (λ c. arm 0 tt _ (c .spacing .ensures) (c .before .match .keys1))
     (λ c. arm 1 tt _ (c .spacing2 .ensures) (c .before .match .keys2))
     (λ c. arm 2 tt _ (c .spacing3 .ensures) (c .before .match .keys3))

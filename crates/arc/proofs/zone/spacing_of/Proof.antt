@@ -1,11 +1,10 @@
 -- The product stays far below 2 ^ 64, and the quotient is the law `divides-less`. Assumes nothing.
-use mathlib.Core.Path.{_≡_, sym, ap, _∙_}
+use mathlib.Core.Path.{sym, ap, _∙_}
 use Prim.Native.Nat.{_-_, _*_}
 use native.Mathlib.Nat.{div-le-self}
 use native.Mathlib.Omega.{arith}
 use Rattle.arc.specs.Spacing.{spacingAt}
 use Rattle.arc.proofs.Spaced.{divides-less, divides-none}
-use borrow.Author.Needs.{needs}
 use Rattle.arc.proofs.zone.spacing_of.Statement.{statement}
 use Rattle.arc.proofs.zone.spacing_of.Tie as tie
 
