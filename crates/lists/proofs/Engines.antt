@@ -1,5 +1,6 @@
 -- An engine's axes give the plain rule's angles and pixels, for every row and column of its card's tiles. Assumes nothing.
 use mathlib.Core.Path.{_≡_, sym, ap, ap₂, _∙_, subst⁻¹}
+use mathlib.Core.Bool.{Bool, true, false}
 use Prim.Native.Nat.{ℕ, _+_, _-_, _*_, _/_, _%_, _≤_, _<_}
 use native.Mathlib.Nat.{mul-le-mul, mul-le-mul-right, lt-of-mul-lt-mul-right, mod-lt, mul-add-div-right, add-mul-div-right, mul-div-mul-left, div-add-mod'}
 use native.Mathlib.Omega.{arith}
@@ -13,7 +14,7 @@ use Rattle.card.proofs.Laid.{Laid, known-laid}
 use Rattle.card.proofs.Axes.{north-high, down-high, east-high, row-fits}
 use Rattle.lists.specs.declared.engine.Axis.{Axis}
 use Rattle.lists.specs.declared.engine.Engine.{Engine}
-use Rattle.lists.specs.Steps.{scaleUp, rowAxis, columnAxis, engineOf, Made}
+use Rattle.lists.specs.Steps.{scaleUp, startOf, rowAxis, columnAxis, engineOf, Made}
 use Rattle.lists.proofs.Fixed.{scale-high, fixed}
 use Rattle.lists.proofs.Units.{angle-unit, pixel-unit, quotient-under, quotient-down}
 
@@ -24,6 +25,11 @@ module _ (x : ℕ) (g : Grid x) where
 
   pub most : 2 * (x / 512) ≤ 312800
   most = omega (arith, g .most, g .whole)
+
+  -- what the rounding starts from is below one part
+  pub start-high : (v : ℕ) (off : Bool) → startOf (v % (2 * (x / 512))) (2 * (x / 512)) off < 2 * (x / 512)
+  start-high v true = omega (arith, some)
+  start-high v false = mod-lt v some
 
   -- the error over a card's pixels stays below one part
   pub close : (i : ℕ) → i < 127872 → (i + 1) * (2 * (x / 512)) ≤ 68719476736

@@ -15,11 +15,13 @@ use mir.Syntax.{w64}
 use mir.Val.{SFits, toZ, ofZ}
 use mir.ValLaws.{toZ-ofZ}
 use Rattle.arc.specs.Refusals.{Report}
+use Rattle.card.specs.declared.Card.{Card}
 use Rattle.card.specs.declared.PositionAnswer.{PositionAnswer}
 use Rattle.card.specs.declared.PixelAnswer.{PixelAnswer}
 use Rattle.whole.specs.Lists.{over, each}
-use Rattle.card.specs.Grid.{positionReport, pixelReport}
-use Rattle.lists.specs.Lists.{reportValues, reportNumbers, pairs, listsFit}
+use Rattle.card.specs.Grid.{positionOf, pixelOf, positionReport, pixelReport}
+use Rattle.lists.specs.declared.Asked.{Asked}
+use Rattle.lists.specs.Lists.{pairs, listsFit, askedReport, reportValues, reportNumbers}
 
 module _ {A : Type 0} where
   pub length-over : (xs out : List A) → length xs ≤ length out → length (over xs out) ≡ length out
@@ -41,7 +43,8 @@ module _ {A : Type 0} where
 -- ---- the lengths fit
 pub lists-fit : (p o n : ℕ) → listsFit p o n ≡ true → (p ≤ o) × (pairs p ≤ n)
 lists-fit p o n e =
-    let t = and-eq-true-iff (eqb (p % 2) 0 && leb p o) (leb (pairs p) n) .0 e in (leb-true p o (and-eq-true-iff (eqb (p % 2) 0) (leb p o) .0 (t .0) .1), leb-true (pairs p) n (t .1))
+    let t = and-eq-true-iff (eqb (p % 2) 0 && leb p o) (leb (pairs p) n) .0 e in
+    (leb-true p o (and-eq-true-iff (eqb (p % 2) 0) (leb p o) .0 (t .0) .1), leb-true (pairs p) n (t .1))
 
 -- after i turns of n
 pub record Filled (f : ℕ → Report) (n : ℕ) (out : List ℤ) (num : List ℕ) (i : ℕ) (now : List ℤ) (nums : List ℕ) : Type 0 where
@@ -105,10 +108,14 @@ module _ (f : ℕ → Report) where
         }
 
 -- ---- two value parts, in a refusal too
-pub position-values : (a : PositionAnswer) → length (positionReport a .values) ≡ 2
+position-values : (a : PositionAnswer) → length (positionReport a .values) ≡ 2
 position-values (PositionAnswer.At lat lon) = refl
 position-values (PositionAnswer.Refused r) = refl
 
-pub pixel-values : (a : PixelAnswer) → length (pixelReport a .values) ≡ 2
+pixel-values : (a : PixelAnswer) → length (pixelReport a .values) ≡ 2
 pixel-values (PixelAnswer.At row column) = refl
 pixel-values (PixelAnswer.Refused r) = refl
+
+pub report-values : (asked : Asked) (k : Card) (u v : ℤ) → length (askedReport asked k u v .values) ≡ 2
+report-values Asked.Positions k u v = position-values (positionOf k u v)
+report-values Asked.Pixels k u v = pixel-values (pixelOf k u v)

@@ -10,9 +10,10 @@ ghost use Prim.Native.Nat.{_+_, _-_, _*_, _%_, _≤_, _<_};
 ghost use lib.IntN.{pos, _-ℤ_};
 ghost use Rattle.whole.specs.Whole.{near};
 ghost use Rattle.arc.specs.Zones.{circle};
+ghost use Rattle.arc.specs.Spacing.{Grid};
 ghost use Rattle.card.specs.Read.{Known};
 ghost use Rattle.card.specs.Grid.{rowOf, columnOf, positionOf, pixelOf};
-ghost use Rattle.lists.specs.Steps.{scaleUp, rowAxis, columnAxis, engineOf, Made};
+ghost use Rattle.lists.specs.Steps.{scaleUp, startOf, axisOf, engineOf, Made};
 
 // 2H / 512.
 const STEP: u64 = 506_250;
@@ -60,32 +61,31 @@ fn reduced(v: u64, a: u64) -> u64
     0
 }
 
-// The axis of the rows, whose hundredths are taken off.
-fn rows_of(k: Card) -> Axis
-    requires { ⌜ Known k ⌝ }
-    ensures { λ r. ⌜ r ≡ rowAxis k ⌝ }
+// What the rounding of an axis starts from: its angles are added, or taken off.
+fn start_of(rest: u64, d: u64, off: bool) -> u64
+    requires { ⌜ rest < d ⌝ }
+    ensures { λ r. ⌜ r ≡ startOf rest d off ⌝ }
 {
-    let unit = k.b / 512;
-    let d = 2 * unit;
-    let top = STEP * k.north + unit;
-    let base = top / d;
-    let rate = scale_up(STEP, d);
-    let start = scale_up(d - 1 - top % d, d);
-    Axis { base, rate, start }
+    if off {
+        return d - 1 - rest;
+    }
+    rest
 }
 
-// The axis of the columns, whose hundredths are added.
-fn columns_of(k: Card) -> Axis
-    requires { ⌜ Known k ⌝ }
-    ensures { λ r. ⌜ r ≡ columnAxis k ⌝ }
+// The axis of x pixels a circle that begins at a pixel.
+fn axis_of(x: u64, pixel: u64, off: bool) -> Axis
+    requires { ⌜ Grid x ⌝ ∗ ⌜ pixel ≤ x ⌝ }
+    ensures { λ r. ⌜ r ≡ axisOf x pixel off ⌝ }
 {
-    let unit = k.a / 512;
+    let unit = x / 512;
     let d = 2 * unit;
-    let left = STEP * k.east + unit;
-    let base = left / d;
-    let rate = scale_up(STEP, d);
-    let start = scale_up(left % d, d);
-    Axis { base, rate, start }
+    let first = STEP * pixel + unit;
+    let start = start_of(first % d, d, off);
+    Axis {
+        base: first / d,
+        rate: scale_up(STEP, d),
+        start: scale_up(start, d),
+    }
 }
 
 // The engine of a card.
@@ -93,8 +93,8 @@ pub fn engine_of(k: Card) -> Engine
     requires { ⌜ Known k ⌝ }
     ensures { λ r. ⌜ r ≡ engineOf k ⌝ }
 {
-    let rows = rows_of(k);
-    let columns = columns_of(k);
+    let rows = axis_of(k.b, k.north, true);
+    let columns = axis_of(k.a, k.east, false);
     Engine {
         card: k,
         rows,

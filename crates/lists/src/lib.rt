@@ -7,10 +7,16 @@ ghost use mathlib.Core.Bool.{true};
 ghost use Prim.Native.Nat.{_+_, _*_, _<_};
 ghost use lib.ListN.{length, set};
 ghost use Rattle.card.specs.Read.{Known};
-ghost use Rattle.lists.specs.Steps.{Made};
-ghost use Rattle.lists.specs.Lists.{listsFit, listsVerdict, pairAt, positionReportAt, pixelReportAt, valuesLeft, numbersLeft};
+ghost use Rattle.lists.specs.Steps.{Made, pairTold};
+ghost use Rattle.lists.specs.Lists.{listsFit, listsVerdict, pairAt, askedReport, reportAt, positionReportAt, pixelReportAt, valuesLeft, numbersLeft};
 
 mod engine;
+
+// What is asked of each pair of a list: the position of a pixel, or the pixel at a position.
+pub enum Asked {
+    Positions,
+    Pixels,
+}
 
 // Whether the lists' lengths are right: pairs handed in, and room for their answers.
 fn lists_fit(handed: usize, fill: usize, numbers: usize) -> bool
@@ -46,72 +52,94 @@ fn put_pair(list: &mut [i64], numbers: &mut [u32], i: usize, first: i64, second:
     numbers[i] = number;
 }
 
-// The position of each pixel.
-fn fill_positions(e: Engine, pixels: &[i64], positions: &mut [i64], numbers: &mut [u32])
-    requires { ⌜ Made e ⌝ ∗ ⌜ listsFit (length (now pixels)) (length (now positions)) (length (now numbers)) ≡ true ⌝ }
-    ensures positions { λ _. ⌜ now (positions .exit)
-        ≡ valuesLeft (positionReportAt (e .card)) (now (pixels .entry)) (now (positions .entry)) (now (numbers .entry)) ⌝ }
-    ensures numbers { λ _. ⌜ now (numbers .exit)
-        ≡ numbersLeft (positionReportAt (e .card)) (now (pixels .entry)) (now (positions .entry)) (now (numbers .entry)) ⌝ }
+// What is told of a pair: number, place, and two values.
+pub struct PairParts {
+    pub number: u32,
+    pub at: u64,
+    pub first: i64,
+    pub second: i64,
+}
+
+// What is told of a pair.
+fn answer_pair(e: Engine, asked: Asked, first: i64, second: i64) -> PairParts
+    requires { ⌜ Made e ⌝ }
+    ensures { λ r. ⌜ pairTold r ≡ askedReport asked (e .card) first second ⌝ }
 {
-    let n = pixels.len() / 2;
+    match asked {
+        Asked::Positions => {
+            let p = e.position(first, second).into_parts();
+            PairParts {
+                number: p.number,
+                at: p.at,
+                first: p.lat,
+                second: p.lon,
+            }
+        }
+        Asked::Pixels => {
+            let p = e.pixel(first, second).into_parts();
+            PairParts {
+                number: p.number,
+                at: p.at,
+                first: p.row,
+                second: p.column,
+            }
+        }
+    }
+}
+
+// What is told of each pair.
+fn fill(e: Engine, asked: Asked, list: &[i64], values: &mut [i64], numbers: &mut [u32])
+    requires { ⌜ Made e ⌝ ∗ ⌜ listsFit (length (now list)) (length (now values)) (length (now numbers)) ≡ true ⌝ }
+    ensures values { λ _. ⌜ now (values .exit) ≡ valuesLeft (reportAt asked (e .card)) (now (list .entry)) (now (values .entry)) (now (numbers .entry)) ⌝ }
+    ensures numbers { λ _. ⌜ now (numbers .exit) ≡ numbersLeft (reportAt asked (e .card)) (now (list .entry)) (now (values .entry)) (now (numbers .entry)) ⌝ }
+{
+    let n = list.len() / 2;
     let mut i = 0;
     while i < n {
-        let x = pair_at(pixels, i);
-        let p = e.position(x.first, x.second).into_parts();
-        put_pair(positions, numbers, i, p.lat, p.lon, p.number);
+        let x = pair_at(list, i);
+        let p = answer_pair(e, asked, x.first, x.second);
+        put_pair(values, numbers, i, p.first, p.second, p.number);
         i += 1;
     }
 }
 
-// The pixel at each position.
-fn fill_pixels(e: Engine, positions: &[i64], pixels: &mut [i64], numbers: &mut [u32])
-    requires { ⌜ Made e ⌝ ∗ ⌜ listsFit (length (now positions)) (length (now pixels)) (length (now numbers)) ≡ true ⌝ }
-    ensures pixels { λ _. ⌜ now (pixels .exit)
-        ≡ valuesLeft (pixelReportAt (e .card)) (now (positions .entry)) (now (pixels .entry)) (now (numbers .entry)) ⌝ }
-    ensures numbers { λ _. ⌜ now (numbers .exit)
-        ≡ numbersLeft (pixelReportAt (e .card)) (now (positions .entry)) (now (pixels .entry)) (now (numbers .entry)) ⌝ }
+// The answers to a list of pairs; a number is 0 where its pair is answered. Refuses 6, and then both lists stay.
+pub fn answer_list(
+    k: Card,
+    asked: Asked,
+    list: &[i64],
+    values: &mut [i64],
+    numbers: &mut [u32],
+) -> Verdict
+    requires { ⌜ Known k ⌝ }
+    ensures answer { λ r. ⌜ r ≡ listsVerdict (length (now (list .entry))) (length (now (values .entry))) (length (now (numbers .entry))) ⌝ }
+    ensures values { λ _. ⌜ now (values .exit) ≡ valuesLeft (reportAt asked k) (now (list .entry)) (now (values .entry)) (now (numbers .entry)) ⌝ }
+    ensures numbers { λ _. ⌜ now (numbers .exit) ≡ numbersLeft (reportAt asked k) (now (list .entry)) (now (values .entry)) (now (numbers .entry)) ⌝ }
 {
-    let n = positions.len() / 2;
-    let mut i = 0;
-    while i < n {
-        let x = pair_at(positions, i);
-        let p = e.pixel(x.first, x.second).into_parts();
-        put_pair(pixels, numbers, i, p.row, p.column, p.number);
-        i += 1;
+    if !lists_fit(list.len(), values.len(), numbers.len()) {
+        return Verdict::Refused(arc::refused(6));
     }
+    fill(engine::engine_of(k), asked, list, values, numbers);
+    Verdict::Accepted
 }
 
 // The positions of a list of pixels, pairs of row and column; a number is 0 where its pixel is answered. Refuses 6, and then both lists stay.
 pub fn positions(k: Card, pixels: &[i64], positions: &mut [i64], numbers: &mut [u32]) -> Verdict
     requires { ⌜ Known k ⌝ }
-    ensures answer { λ r. ⌜ r
-        ≡ listsVerdict (length (now (pixels .entry))) (length (now (positions .entry))) (length (now (numbers .entry))) ⌝ }
+    ensures answer { λ r. ⌜ r ≡ listsVerdict (length (now (pixels .entry))) (length (now (positions .entry))) (length (now (numbers .entry))) ⌝ }
     ensures positions { λ _. ⌜ now (positions .exit)
         ≡ valuesLeft (positionReportAt k) (now (pixels .entry)) (now (positions .entry)) (now (numbers .entry)) ⌝ }
-    ensures numbers { λ _. ⌜ now (numbers .exit)
-        ≡ numbersLeft (positionReportAt k) (now (pixels .entry)) (now (positions .entry)) (now (numbers .entry)) ⌝ }
+    ensures numbers { λ _. ⌜ now (numbers .exit) ≡ numbersLeft (positionReportAt k) (now (pixels .entry)) (now (positions .entry)) (now (numbers .entry)) ⌝ }
 {
-    if !lists_fit(pixels.len(), positions.len(), numbers.len()) {
-        return Verdict::Refused(arc::refused(6));
-    }
-    fill_positions(engine::engine_of(k), pixels, positions, numbers);
-    Verdict::Accepted
+    answer_list(k, Asked::Positions, pixels, positions, numbers)
 }
 
 // The pixels of a list of positions, likewise.
 pub fn pixels(k: Card, positions: &[i64], pixels: &mut [i64], numbers: &mut [u32]) -> Verdict
     requires { ⌜ Known k ⌝ }
-    ensures answer { λ r. ⌜ r
-        ≡ listsVerdict (length (now (positions .entry))) (length (now (pixels .entry))) (length (now (numbers .entry))) ⌝ }
-    ensures pixels { λ _. ⌜ now (pixels .exit)
-        ≡ valuesLeft (pixelReportAt k) (now (positions .entry)) (now (pixels .entry)) (now (numbers .entry)) ⌝ }
-    ensures numbers { λ _. ⌜ now (numbers .exit)
-        ≡ numbersLeft (pixelReportAt k) (now (positions .entry)) (now (pixels .entry)) (now (numbers .entry)) ⌝ }
+    ensures answer { λ r. ⌜ r ≡ listsVerdict (length (now (positions .entry))) (length (now (pixels .entry))) (length (now (numbers .entry))) ⌝ }
+    ensures pixels { λ _. ⌜ now (pixels .exit) ≡ valuesLeft (pixelReportAt k) (now (positions .entry)) (now (pixels .entry)) (now (numbers .entry)) ⌝ }
+    ensures numbers { λ _. ⌜ now (numbers .exit) ≡ numbersLeft (pixelReportAt k) (now (positions .entry)) (now (pixels .entry)) (now (numbers .entry)) ⌝ }
 {
-    if !lists_fit(positions.len(), pixels.len(), numbers.len()) {
-        return Verdict::Refused(arc::refused(6));
-    }
-    fill_pixels(engine::engine_of(k), positions, pixels, numbers);
-    Verdict::Accepted
+    answer_list(k, Asked::Pixels, positions, pixels, numbers)
 }

@@ -2,10 +2,8 @@
 use mathlib.Core.Path.{ap, _∙_}
 use mir.Syntax.{w64}
 use mir.ValLaws.{toZ-ofZ}
-use Rattle.card.specs.declared.Card.{Card}
-use Rattle.tiles.specs.declared.BandsAnswer.{BandsAnswer}
-use Rattle.tiles.specs.LookUp.{bandsReport, bandsOf}
-use Rattle.card.proofs.Questions.{card-known, card-answers, card-refuses}
+use Rattle.tiles.specs.LookUp.{bandsReport}
+use Rattle.card.proofs.Questions.{card-known}
 use borrow.Author.Needs.{needs}
 use Rattle.fordcask.proofs.indexes.fordcask_bands.Statement.{statement}
 use Rattle.fordcask.proofs.indexes.fordcask_bands.Tie as tie
@@ -33,22 +31,12 @@ into-parts-requires-2 c κs = search needs
 returns : tie.Need-returns
 returns c =
     let s = c .before .before .before .before .before .before .before .before .before in
-    c .into-parts .ensures
-    ∙ ap bandsReport
-    (rw (toZ-ofZ w64 (s .args .row) (s .fits .row), toZ-ofZ w64 (s .args .column) (s .fits .column)) at (c .before .bands .ensures)
-    ∙ card-answers (s .args .scale) (s .args .zone) (s .args .card .now) (c .before .before .before .before .before .read-card .ensures)
-    BandsAnswer.Refused
-    (λ (k : Card). bandsOf k (s .args .index .now) (s .args .count) (s .args .store .now) (s .args .row) (s .args .column))
-    (c .before .before .enum-told .given .1))
+    rw (← c .before .before .before .before .before .read-card .ensures, c .before .before .enum-told .given .1)
+    (c .into-parts .ensures
+    ∙ ap bandsReport (rw (toZ-ofZ w64 (s .args .row) (s .fits .row), toZ-ofZ w64 (s .args .column) (s .fits .column)) at (c .before .bands .ensures)))
 
 returns-2 : tie.Need-returns-2
-returns-2 c =
-    let s = c .before .before .before .before .before .before .before .before .before in
-    c .into-parts2 .ensures
-    ∙ ap bandsReport (card-refuses (s .args .scale) (s .args .zone) (s .args .card .now) (c .before .before .before .before .before .read-card .ensures)
-    BandsAnswer.Refused
-    (λ (k : Card). bandsOf k (s .args .index .now) (s .args .count) (s .args .store .now) (s .args .row) (s .args .column))
-    (c .before .before .verdict .given .1))
+returns-2 c = rw (← c .before .before .before .before .before .read-card .ensures, c .before .before .verdict .given .1) (c .into-parts2 .ensures)
 
 pub fordcask-bands-spec : {M : Type 1} → statement M
 fordcask-bands-spec =

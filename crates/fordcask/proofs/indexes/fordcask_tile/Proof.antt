@@ -7,7 +7,7 @@ use Rattle.tiles.specs.declared.NumberAnswer.{NumberAnswer}
 use Rattle.tiles.specs.LookUp.{numberOf}
 use Rattle.tiles.proofs.Pixel.{InStore, number-held, number-plain}
 use Rattle.fordcask.specs.Entry.{tileParts}
-use Rattle.card.proofs.Questions.{card-known, card-answers, card-refuses}
+use Rattle.card.proofs.Questions.{card-known, card-answers}
 use borrow.Author.Needs.{needs}
 use Rattle.fordcask.proofs.indexes.fordcask_tile.Statement.{statement}
 use Rattle.fordcask.proofs.indexes.fordcask_tile.Tie as tie
@@ -78,14 +78,7 @@ returns-2 c =
     c .no-tile .ensures ∙ ap tileParts (sym (c .before .before .e .given .1) ∙ told (c .before .before .before .before))
 
 returns-3 : tie.Need-returns-3
-returns-3 c =
-    let s = c .before .before .before .before .before .before .before .before .before in
-    c .no-tile2 .ensures
-    ∙ ap tileParts
-    (card-refuses (s .args .scale) (s .args .zone) (s .args .card .now) (c .before .before .before .before .before .read-card .ensures)
-    NumberAnswer.Refused
-    (λ (k : Card). numberOf k (s .args .index .now) (s .args .count) (s .args .store .now) (s .args .row) (s .args .column))
-    (c .before .before .verdict .given .1))
+returns-3 c = rw (← c .before .before .before .before .before .read-card .ensures, c .before .before .verdict .given .1) (c .no-tile2 .ensures)
 
 pub fordcask-tile-spec : {M : Type 1} → statement M
 fordcask-tile-spec =

@@ -1,9 +1,7 @@
 -- An accepted card answers, and a refused one gives its refusal. Assumes nothing.
 use mathlib.Core.Path.{ap, _∙_}
-use Rattle.card.specs.declared.Card.{Card}
-use Rattle.tiles.specs.declared.WindowAnswer.{WindowAnswer}
-use Rattle.tiles.specs.Window.{windowReport, windowOf}
-use Rattle.card.proofs.Questions.{card-known, card-answers, card-refuses}
+use Rattle.tiles.specs.Window.{windowReport}
+use Rattle.card.proofs.Questions.{card-known}
 use borrow.Author.Needs.{needs}
 use Rattle.fordcask.proofs.indexes.fordcask_window.Statement.{statement}
 use Rattle.fordcask.proofs.indexes.fordcask_window.Tie as tie
@@ -30,23 +28,11 @@ into-parts-requires-2 c κs = search needs
 
 returns : tie.Need-returns
 returns c =
-    let s = c .before .before .before .before .before .before .before .before in
-    c .into-parts .ensures
-    ∙ ap windowReport
-    (c .before .window .ensures
-    ∙ card-answers (s .args .scale) (s .args .zone) (s .args .card .now) (c .before .before .before .before .before .read-card .ensures)
-    WindowAnswer.Refused
-    (λ (k : Card). windowOf k (s .args .index .now) (s .args .count) (s .args .top) (s .args .left) (s .args .height) (s .args .width))
-    (c .before .before .enum-told .given .1))
+    rw (← c .before .before .before .before .before .read-card .ensures, c .before .before .enum-told .given .1)
+    (c .into-parts .ensures ∙ ap windowReport (c .before .window .ensures))
 
 returns-2 : tie.Need-returns-2
-returns-2 c =
-    let s = c .before .before .before .before .before .before .before .before in
-    c .into-parts2 .ensures
-    ∙ ap windowReport (card-refuses (s .args .scale) (s .args .zone) (s .args .card .now) (c .before .before .before .before .before .read-card .ensures)
-    WindowAnswer.Refused
-    (λ (k : Card). windowOf k (s .args .index .now) (s .args .count) (s .args .top) (s .args .left) (s .args .height) (s .args .width))
-    (c .before .before .verdict .given .1))
+returns-2 c = rw (← c .before .before .before .before .before .read-card .ensures, c .before .before .verdict .given .1) (c .into-parts2 .ensures)
 
 pub fordcask-window-spec : {M : Type 1} → statement M
 fordcask-window-spec =

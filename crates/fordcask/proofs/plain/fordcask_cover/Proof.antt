@@ -1,9 +1,7 @@
 -- The parts of the library's own answer. Assumes nothing.
-use mathlib.Core.Path.{_≡_, ap, _∙_}
-use lib.ListN.{length}
+use mathlib.Core.Path.{ap}
 use mir.Syntax.{w64}
 use mir.ValLaws.{toZ-ofZ}
-use Rattle.arc.specs.declared.Refusal.{Refusal}
 use Rattle.fordcask.specs.Entry.{coverParts}
 use borrow.Author.Needs.{needs}
 use Rattle.fordcask.proofs.plain.fordcask_cover.Statement.{statement}
@@ -18,11 +16,7 @@ refusal-requires c κs = search needs
 returns : tie.Need-returns
 returns c =
     let s = c .before .before .before in
-    let x = c .before .before .cover .result in
-    let told : record { number = c .before .refusal .result .number; at = c .before .refusal .result .at; length = x .length; zones = x .zones }
-    ≡ coverParts x =
-    ap (λ (r : Refusal). record { number = r .number; at = r .at; length = x .length; zones = x .zones }) (c .before .refusal .ensures) in
-    told ∙ ap coverParts (rw (toZ-ofZ w64 (s .args .lat) (s .fits .lat)) at (c .before .before .cover .ensures))
+    rw (c .before .refusal .ensures) (ap coverParts (rw (toZ-ofZ w64 (s .args .lat) (s .fits .lat)) at (c .before .before .cover .ensures)))
 
 pub fordcask-cover-spec : {M : Type 1} → statement M
 fordcask-cover-spec = tie.close (tie.spec cover-requires refusal-requires returns)

@@ -1,9 +1,7 @@
 -- The parts of the library's own answer. Assumes nothing.
-use mathlib.Core.Path.{_≡_, ap, _∙_}
-use lib.ListN.{length}
+use mathlib.Core.Path.{ap}
 use mir.Syntax.{w64}
 use mir.ValLaws.{toZ-ofZ}
-use Rattle.arc.specs.declared.Refusal.{Refusal}
 use Rattle.fordcask.specs.Entry.{rectangleParts}
 use borrow.Author.Needs.{needs}
 use Rattle.fordcask.proofs.plain.fordcask_rectangle.Statement.{statement}
@@ -18,13 +16,7 @@ refusal-requires c κs = search needs
 returns : tie.Need-returns
 returns c =
     let s = c .before .before .before in
-    let x = c .before .before .rectangle .result in
-    let told : record { number = c .before .refusal .result .number; at = c .before .refusal .result .at; length = x .length; zones = x .zones }
-    ≡ rectangleParts x =
-    ap (λ (r : Refusal). record { number = r .number; at = r .at; length = x .length; zones = x .zones }) (c .before .refusal .ensures) in
-    told
-    ∙ ap rectangleParts
-    (rw (toZ-ofZ w64 (s .args .south) (s .fits .south), toZ-ofZ w64 (s .args .north) (s .fits .north)) at (c .before .before .rectangle .ensures))
+    rw (c .before .refusal .ensures) (ap rectangleParts (rw (toZ-ofZ w64 (s .args .south) (s .fits .south), toZ-ofZ w64 (s .args .north) (s .fits .north)) at (c .before .before .rectangle .ensures)))
 
 pub fordcask-rectangle-spec : {M : Type 1} → statement M
 fordcask-rectangle-spec = tie.close (tie.spec rectangle-requires refusal-requires returns)

@@ -1,7 +1,6 @@
 -- The parts of the library's own answer. Assumes nothing.
 use mathlib.Core.Path.{ap, _∙_}
 use Rattle.arc.specs.Spacing.{spacingReport}
-use mathlib.Core.Path.{ap, _∙_}
 use borrow.Author.Needs.{needs}
 use Rattle.fordcask.proofs.plain.fordcask_spacing.Statement.{statement}
 use Rattle.fordcask.proofs.plain.fordcask_spacing.Tie as tie

@@ -1,17 +1,17 @@
 -- Every number fits, and the axes are the definition's. Assumes nothing.
 use native.Mathlib.Omega.{arith}
 use Rattle.card.proofs.Laid.{known-laid}
-use Rattle.card.proofs.Axes.{east-high}
+use Rattle.card.proofs.Axes.{north-high, east-high}
 use Rattle.lists.specs.Steps.{engineOf}
 use borrow.Author.Needs.{needs}
 use Rattle.lists.proofs.engine.engine_of.Statement.{statement}
 use Rattle.lists.proofs.engine.engine_of.Tie as tie
 
-rows-of-requires : tie.Need-rows-of-requires
-rows-of-requires c κs = search needs
+axis-of-requires : tie.Need-axis-of-requires
+axis-of-requires c κs = let l = known-laid _ (c .pre) in (l .rows, omega (arith, north-high _ l))
 
-columns-of-requires : tie.Need-columns-of-requires
-columns-of-requires c κs = search needs
+axis-of-requires-2 : tie.Need-axis-of-requires-2
+axis-of-requires-2 c κs = let l = known-laid _ (c .before .pre) in (l .columns, east-high _ l)
 
 add-t5 : tie.Need-add-t5
 add-t5 c = omega (arith, known-laid _ (c .before .before .before .before .pre))
@@ -45,14 +45,14 @@ mul-t14 c = search needs
 returns : tie.Need-returns
 unfolding engineOf
 returns c =
-    rw (c .before .before .before .before .before .columns-of .ensures, c .before .before .before .before .before .before .rows-of .ensures)
+    rw (c .before .before .before .before .before .axis-of2 .ensures, c .before .before .before .before .before .before .axis-of .ensures)
 
 pub engine-of-spec : {M : Type 1} → statement M
 engine-of-spec =
     tie.close
     (tie.spec
-    rows-of-requires
-    columns-of-requires
+    axis-of-requires
+    axis-of-requires-2
     add-t5
     mul-t6
     add-t7

@@ -109,9 +109,8 @@ returns-2 : tie.Need-returns-2
 unfolding positionOf
 returns-2 c =
     let s = c .before .before .before .before .before in
-    let k = s .args .self .card in
-    judged-refused k (s .args .row) (s .args .column) (s .fits .row) (s .fits .column) (c .before .before .before .judge-pixel .ensures)
-    PositionAnswer.Refused (PositionAnswer.At (latitudeOf k (s .args .row)) (longitudeOf k (s .args .column))) (c .before .r .given .1)
+    judged-refused (s .args .self .card) (s .args .row) (s .args .column) (s .fits .row) (s .fits .column)
+    (c .before .before .before .judge-pixel .ensures) PositionAnswer.Refused _ (c .before .r .given .1)
 
 pub position-spec : {M : Type 1} → statement M
 position-spec =

@@ -4,8 +4,8 @@ use borrow.Author.Tests.{not-true, not-false}
 use Rattle.arc.specs.declared.Verdict.{Verdict}
 use Rattle.lists.proofs.Engines.{engine-card, engine-made}
 use borrow.Author.Needs.{needs}
-use Rattle.lists.proofs.positions.Statement.{statement}
-use Rattle.lists.proofs.positions.Tie as tie
+use Rattle.lists.proofs.answer_list.Statement.{statement}
+use Rattle.lists.proofs.answer_list.Tie as tie
 
 lists-fit-requires : tie.Need-lists-fit-requires
 lists-fit-requires c κs = search needs
@@ -21,8 +21,8 @@ returns c =
 engine-of-requires : tie.Need-engine-of-requires
 engine-of-requires c κs = search needs
 
-fill-positions-requires : tie.Need-fill-positions-requires
-fill-positions-requires c κs = (
+fill-requires : tie.Need-fill-requires
+fill-requires c κs = (
   engine-made (c .before .before .before .before .before .before .pre) (c .before .before .engine-of .ensures),
   sym (c .before .before .before .before .lists-fit .ensures) ∙ not-false _ (c .before .before .before .if1 .left),
 )
@@ -39,17 +39,17 @@ returns-2 c =
     sym (c .before .before .before .before .before .before .before .before .lists-fit .ensures)
     ∙ not-false _ (c .before .before .before .before .before .before .before .if1 .left) in
     let card = engine-card (c .before .before .before .before .before .before .engine-of .ensures) in
-    (rw f refl, (rw card at (c .before .before .before .fill-positions .ensures .0), rw card at (c .before .before .before .fill-positions .ensures .1)))
+    (rw f refl, (rw card at (c .before .before .before .fill .ensures .0), rw card at (c .before .before .before .fill .ensures .1)))
 
-pub positions-spec : {M : Type 1} → statement M
-positions-spec =
+pub answer-list-spec : {M : Type 1} → statement M
+answer-list-spec =
     tie.close
     (tie.spec
     lists-fit-requires
     refused-requires
     returns
     engine-of-requires
-    fill-positions-requires
+    fill-requires
     same-length
     same-length-2
     returns-2)

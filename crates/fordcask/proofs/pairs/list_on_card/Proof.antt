@@ -1,0 +1,55 @@
+-- An accepted card fills the lists, and a refused one leaves them. Assumes nothing.
+use mathlib.Core.Path.{refl, ap, _∙_}
+use Rattle.arc.specs.Refusals.{refusalOf}
+use Rattle.card.proofs.Questions.{card-known}
+use borrow.Author.Needs.{needs}
+use Rattle.fordcask.proofs.pairs.list_on_card.Statement.{statement}
+use Rattle.fordcask.proofs.pairs.list_on_card.Tie as tie
+
+read-card-requires : tie.Need-read-card-requires
+read-card-requires c κs = search needs
+
+enum-told : tie.Need-enum-told
+enum-told c = search needs
+
+answer-list-requires : tie.Need-answer-list-requires
+answer-list-requires c κs =
+    let s = c .before .before .before .before .before .before .before .before in
+    card-known (s .args .scale) (s .args .zone) (s .args .card .now) (c .before .before .before .before .before .read-card .ensures)
+    (c .before .before .enum-told .given .1)
+
+refusal-requires : tie.Need-refusal-requires
+refusal-requires c κs = search needs
+
+enum-known-verdict : tie.Need-enum-known-verdict
+enum-known-verdict c = search needs
+
+same-length : tie.Need-same-length
+same-length c = search needs
+
+same-length-2 : tie.Need-same-length-2
+same-length-2 c = search needs
+
+returns : tie.Need-returns
+returns c =
+    let d = c .before .before .before .before in
+    let x = d .answer-list .ensures in
+    rw (← d .before .before .before .before .before .before .read-card .ensures, d .before .before .before .enum-told .given .1)
+    (c .refusal .ensures ∙ ap refusalOf (x .0), (x .1 .0, x .1 .1))
+
+returns-2 : tie.Need-returns-2
+returns-2 c = rw (← c .before .before .before .before .read-card .ensures, c .before .verdict .given .1) (refl, (refl, refl))
+
+pub list-on-card-spec : {M : Type 1} → statement M
+list-on-card-spec =
+    tie.close
+    (tie.spec
+    read-card-requires
+    enum-told
+    answer-list-requires
+    refusal-requires
+    enum-known-verdict
+    same-length
+    same-length-2
+    returns
+    returns-2)

@@ -1,0 +1,51 @@
+-- Every number fits, and the two quotients are the definition's. Assumes nothing.
+use Prim.Native.Nat.{_+_, _*_, _/_}
+use native.Mathlib.Nat.{mod-lt}
+use native.Mathlib.Omega.{arith}
+use Rattle.lists.proofs.Engines.{some, start-high}
+use borrow.Author.Needs.{needs}
+use Rattle.lists.proofs.engine.axis_of.Statement.{statement}
+use Rattle.lists.proofs.engine.axis_of.Tie as tie
+
+mul-d : tie.Need-mul-d
+mul-d c = search needs
+
+mul-first : tie.Need-mul-first
+mul-first c = search needs
+
+add-first : tie.Need-add-first
+add-first c = search needs
+
+rem-start-of : tie.Need-rem-start-of
+rem-start-of c = search needs
+
+start-of-requires : tie.Need-start-of-requires
+start-of-requires c κs = mod-lt _ (some _ (c .pre .0))
+
+div-t8 : tie.Need-div-t8
+div-t8 c = search needs
+
+scale-up-requires : tie.Need-scale-up-requires
+scale-up-requires c κs = search needs
+
+scale-up-requires-2 : tie.Need-scale-up-requires-2
+scale-up-requires-2 c κs =
+    let s = c .before .before in
+    omega (arith, c .before .start-of .ensures, start-high _ (s .pre .0) (506250 * s .args .pixel + s .args .x / 512) (s .args .off))
+
+returns : tie.Need-returns
+returns c = rw (c .before .scale-up .ensures, c .scale-up2 .ensures, c .before .before .start-of .ensures)
+
+pub axis-of-spec : {M : Type 1} → statement M
+axis-of-spec =
+    tie.close
+    (tie.spec
+    mul-d
+    mul-first
+    add-first
+    rem-start-of
+    start-of-requires
+    div-t8
+    scale-up-requires
+    scale-up-requires-2
+    returns)
