@@ -31,12 +31,12 @@ use Rattle.card.proofs.Regions.{Within, tiles-inside, chart-tiles}
 
 -- ---- columns round the circle, in naturals: v and s columns from 180° west
 
-mod-add : (x y t a : ℕ) → x % a ≡ y % a → (x + t) % a ≡ (y + t) % a
+pub mod-add : (x y t a : ℕ) → x % a ≡ y % a → (x + t) % a ≡ (y + t) % a
 mod-add x y t a e = sym (mod-add-mod x a t) ∙ ap (λ (n : ℕ). (n + t) % a) e ∙ mod-add-mod y a t
 
 module _ (a v s : ℕ) (g : Grid a) (h : s ≤ a) where
   -- column c of a card that starts at s has the place of v exactly when it is v − s, round the circle
-  same-column : (c : ℕ) → c < a → (s + c + a / 2) % a ≡ (v + a / 2) % a → c ≡ (v + (a - s)) % a
+  pub same-column : (c : ℕ) → c < a → (s + c + a / 2) % a ≡ (v + a / 2) % a → c ≡ (v + (a - s)) % a
   same-column c l e =
       sym (mod-eq-of-lt l)
       ∙ sym (add-mul-mod-self-right c 2 a)

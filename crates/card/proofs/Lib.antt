@@ -7,6 +7,9 @@ pub mod Line
 pub mod Axes
 pub mod Regions
 pub mod Chain
+pub mod Places
+pub mod Copies
+pub mod Alike
 pub mod Answers
 pub mod Ranges
 pub mod Doubles

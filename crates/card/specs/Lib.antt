@@ -4,6 +4,8 @@ pub mod Read
 pub mod Write
 pub mod Grid
 pub mod NoDrift
+pub mod Places
+pub mod Copies
 pub mod Ranges
 pub mod Offset
 pub mod RoundTrips

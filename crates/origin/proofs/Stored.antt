@@ -18,14 +18,14 @@ module _ (x : ℕ) (g : Grid x) where
   some = omega (arith, g .some)
 
   -- tiles counted from s × x below zero
-  counted : ℕ → ℤ → ℕ
+  pub counted : ℕ → ℤ → ℕ
   counted s k = over k + s * x - under k
 
-  counted-is : (s : ℕ) (k : ℤ) → under k ≤ s → Is k (counted s k) (s * x)
+  pub counted-is : (s : ℕ) (k : ℤ) → under k ≤ s → Is k (counted s k) (s * x)
   unfolding counted
   counted-is s k h = is-same k (over k) (under k) (over k + s * x - under k) (s * x) (is-parts k) (omega (arith, le-mul-of-pos-right s some))
 
-  axis : (s : ℕ) → Axis x (s * x) (s * tileAngle)
+  pub axis : (s : ℕ) → Axis x (s * x) (s * tileAngle)
   axis s = record { some = some; exact = mul-right-comm s tileAngle x }
 
   near-fixes : (n m : ℕ) → near (n * tileAngle) x ≡ near (m * tileAngle) x → n ≡ m

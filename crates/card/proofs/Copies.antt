@@ -1,0 +1,222 @@
+-- Two pixels of one position are the pixel that one of the cards gives for it, so demand 3's walk has both places the same; and two pixels
+-- of one place are one pixel. A tile is at least 207 hundredths, and a stored angle is within half a hundredth. Assumes nothing.
+use mathlib.Core.Path.{_≡_, refl, sym, ap, ap₂, _∙_, subst⁻¹, subst₂}
+use mathlib.Core.Bool.{true, _&&_}
+use mathlib.Core.List.{List, [], _∷_}
+use mathlib.Core.Logic.{_⊎_, inl, inr}
+use mathlib.Core.Option.{Option, some, none}
+use Prim.Native.Nat.{ℕ, _+_, _-_, _*_, _/_, _≤_, _<_}
+use native.Mathlib.Nat.{add-mul, mul-le-mul-right}
+use native.Mathlib.Omega.{arith}
+use lib.Dec.{eqb}
+use lib.ListN.{length, drop}
+use lib.IntN.{ℤ, natAbs, _-ℤ_}
+use Rattle.whole.specs.Whole.{near}
+use Rattle.whole.proofs.Signed.{under, is-minus, is-size}
+use Rattle.whole.proofs.Near.{near-low, near-high}
+use Rattle.arc.specs.declared.Verdict.{Verdict}
+use Rattle.arc.specs.Refusals.{refusal}
+use Rattle.arc.specs.Spacing.{Grid}
+use Rattle.arc.proofs.Answered.{answered-grids}
+use Rattle.origin.specs.Origin.{storedAngle}
+use Rattle.origin.proofs.Axis.{tileAngle, stored-is}
+use Rattle.origin.proofs.Stored.{counted, counted-is, axis}
+use Rattle.text.specs.Text.{number, angleOf}
+use Rattle.card.specs.declared.Card.{Card}
+use Rattle.card.specs.declared.Subfield.{Subfield}
+use Rattle.card.specs.declared.PlaceAnswer.{PlaceAnswer}
+use Rattle.card.specs.declared.PositionAnswer.{PositionAnswer}
+use Rattle.card.specs.Layout.{STR, ARV, BRV, LSO, PSO, layout, bytesOf, rightKind, rightValue, judge, judgeField, orElse, walk}
+use Rattle.card.specs.Read.{tileStoring, cardOf, refusedCard, withOrigin, withValues, readIn, Accepted}
+use Rattle.card.specs.NoDrift.{HasPlace}
+use Rattle.card.specs.Grid.{placeRow, placeColumn, inTiles, inChart, placeOf, positionOf}
+use Rattle.card.specs.Places.{GivesPixel}
+use Rattle.card.specs.Copies.{Copies, PlaceAlike, BytesAlike, Moved, RoundedAgain}
+use Rattle.card.specs.Copies.{SameIn, others, LSOMoved, PSOMoved, MovedRefused}
+use Rattle.card.proofs.Found.{tile-stores}
+use Rattle.card.proofs.Acceptance.{constantsIn, rowTile, columnTile, ReadTo, read-to}
+use Rattle.card.proofs.Laid.{judged-at, accepted-laid}
+use Rattle.card.proofs.Regions.{chart-tiles}
+use Rattle.card.proofs.Chain.{no-drift}
+use Rattle.card.proofs.Places.{Told, told-by-place}
+
+-- ---- places and positions
+
+module _ (k : Card) (r c : ℤ) where
+  pub placed : inTiles k r c ≡ true → placeOf k r c ≡ PlaceAnswer.At (placeRow k r) (placeColumn k c)
+  unfolding placeOf
+  placed t = rw t
+
+module _ (scale zone : ℕ) (j k : Card) (p : Accepted scale zone j) (q : Accepted scale zone k) (r c : ℤ) (i : inChart j r c ≡ true)
+    (r′ c′ : ℤ) (i′ : inChart k r′ c′ ≡ true) where
+  place-at : placeOf j r c ≡ PlaceAnswer.At (placeRow j r) (placeColumn j c)
+  place-at = placed j r c (chart-tiles j r c (accepted-laid scale zone j p) i)
+
+  tiles′ : inTiles k r′ c′ ≡ true
+  tiles′ = chart-tiles k r′ c′ (accepted-laid scale zone k q) i′
+
+  place-at′ : placeOf k r′ c′ ≡ PlaceAnswer.At (placeRow k r′) (placeColumn k c′)
+  place-at′ = placed k r′ c′ tiles′
+
+  module _ (lat lon : ℤ) (e : positionOf j r c ≡ PositionAnswer.At lat lon) where
+    -- the pixel of k that has the place of j's is the one that k gives
+    one-position : placeOf j r c ≡ placeOf k r′ c′ → positionOf j r c ≡ positionOf k r′ c′
+    one-position f =
+        let g = sym place-at ∙ f ∙ place-at′ in
+        let x : placeRow k r′ ≡ placeRow j r = cc in
+        let y : placeColumn k c′ ≡ placeColumn j c = cc in
+        let at : HasPlace k (placeRow j r) (placeColumn j c) r′ c′ = record { row = x; column = y } in
+        go (told-by-place scale zone j p r c i lat lon e k q) at
+      where
+        go : Told k (placeRow j r) (placeColumn j c) lat lon → HasPlace k (placeRow j r) (placeColumn j c) r′ c′ → positionOf j r c ≡ positionOf k r′ c′
+        go t at = given (t .gives .1 (record { r = r′; c = c′; within = i′; at = at }))
+          where
+            given : GivesPixel k lat lon → positionOf j r c ≡ positionOf k r′ c′
+            given n =
+                let one = t .only (n .r) (n .c) (n .given) .1 r′ c′ tiles′ at in
+                e ∙ sym (ap₂ (positionOf k) (one .0) (one .1) ∙ t .back (n .r) (n .c) (n .given))
+
+    -- k gives one pixel for the position, and it has the places of both
+    one-place : positionOf j r c ≡ positionOf k r′ c′ → placeOf j r c ≡ placeOf k r′ c′
+    one-place f =
+        let t = told-by-place scale zone j p r c i lat lon e k q in
+        let t′ = told-by-place scale zone k q r′ c′ i′ lat lon (sym f ∙ e) k q in
+        let n = t′ .gives .1 (record { r = r′; c = c′; within = i′; at = record { row = refl; column = refl } }) in
+        let at = t .only (n .r) (n .c) (n .given) .0 in
+        let at′ = t′ .only (n .r) (n .c) (n .given) .0 in
+        place-at ∙ ap₂ PlaceAnswer.At (sym (at .row) ∙ at′ .row) (sym (at .column) ∙ at′ .column) ∙ sym place-at′
+
+pub place-alike : PlaceAlike
+place-alike scale zone j k p q r c i r′ c′ i′ =
+    let w = no-drift scale zone j [] (p, tt) r c i in (
+      one-position scale zone j k p q r c i r′ c′ i′ (w .lat) (w .lon) (w .answered),
+      one-place scale zone j k p q r c i r′ c′ i′ (w .lat) (w .lon) (w .answered),
+    )
+
+-- ---- bytes
+
+pub bytes-alike : BytesAlike
+unfolding cardOf
+bytes-alike scale zone s t j k p q (lso, (pso, (nul, (nus, (nll, (nls, (nfl, (nfc, end)))))))) =
+    let x = read-to scale zone s j p in
+    let y = read-to scale zone t k q in
+    let e = x .spacing in
+    let f = y .spacing in
+    let a : x .a ≡ y .a = cc in
+    let b : x .b ≡ y .b = cc in
+    let n : some (x .n) ≡ some (y .n) =
+    sym (x .n-found) ∙ ap₂ (λ (b : ℕ) (u : List ℕ). tileStoring b (b / 512) (angleOf 2 u)) b pso ∙ y .n-found in
+    let m : some (x .m) ≡ some (y .m) =
+    sym (x .m-found) ∙ ap₂ (λ (a : ℕ) (u : List ℕ). tileStoring a (a / 256) (angleOf 3 u)) a lso ∙ y .m-found in
+    subst₂ Copies (x .card) (y .card)
+    (record {
+      same-n = same n;
+      same-m = same m;
+      same-extents = rw (nul, nus, nll, nls, nfl, nfc);
+    })
+  where
+    same : {i j : ℤ} → some i ≡ some j → i ≡ j
+    same e = cc
+
+-- ---- stored angles
+
+module _ (x : ℕ) (g : Grid x) where
+  -- two stored angles of different tiles are more than 200 hundredths apart
+  near-same : (n m : ℕ) → near (n * tileAngle) x ≤ near (m * tileAngle) x + 200 → near (m * tileAngle) x ≤ near (n * tileAngle) x + 200 → n ≡ m
+  near-same n m h l =
+      let some : 0 < x = omega (arith, g .some) in
+      let p : ℕ = near (n * tileAngle) x in
+      let q : ℕ = near (m * tileAngle) x in
+      omega (
+        arith,
+        near-low x some (n * tileAngle),
+        near-high x some (n * tileAngle),
+        near-low x some (m * tileAngle),
+        near-high x some (m * tileAngle),
+        mul-le-mul-right x h,
+        mul-le-mul-right x l,
+        add-mul p 200 x,
+        add-mul q 200 x,
+        g .most,
+      )
+
+  not-stored : (k j : ℤ) → Moved (storedAngle x k) (storedAngle x j) → ⊥
+  not-stored k j h =
+      let s : ℕ = under k + under j in
+      let n : ℕ = counted x g s k in
+      let m : ℕ = counted x g s j in
+      let p : ℕ = near (n * tileAngle) x in
+      let q : ℕ = near (m * tileAngle) x in
+      let size : natAbs (storedAngle x j -ℤ storedAngle x k) ≡ q + s * tileAngle - (s * tileAngle + p) + (s * tileAngle + p - (q + s * tileAngle)) =
+      is-size (storedAngle x j -ℤ storedAngle x k) (q + s * tileAngle) (s * tileAngle + p)
+      (is-minus (storedAngle x j) (storedAngle x k) q (s * tileAngle) p (s * tileAngle)
+      (stored-is (axis x g s) j m (counted-is x g s j (omega arith))) (stored-is (axis x g s) k n (counted-is x g s k (omega arith)))) in
+      let e : n ≡ m = near-same n m (omega (arith, h .little)) (omega (arith, h .little)) in
+      let f : p ≡ q = ap (λ (i : ℕ). near (i * tileAngle) x) e in
+      omega (arith, h .other)
+
+pub rounded-again : RoundedAgain
+rounded-again x g t k z h = go (tileStoring x t z) refl
+  where
+    go : (o : Option ℤ) → tileStoring x t z ≡ o → o ≡ none
+    go none e = refl
+    go (some j) e = absurd (not-stored x g k j (subst⁻¹ (Moved (storedAngle x k)) (tile-stores x t z j e .same) h))
+
+-- ---- a card whose origin is moved
+
+-- what comes after an accepted subfield is accepted too
+after : (v w : Verdict) → orElse v w ≡ Verdict.Accepted → w ≡ Verdict.Accepted
+after Verdict.Accepted w e = e
+after (Verdict.Refused r) w e = let x : _≡_ {A = ℕ} 0 1 = cc in absurd (omega arith)
+
+alone : (v : Verdict) → orElse v Verdict.Accepted ≡ v
+alone Verdict.Accepted = refl
+alone (Verdict.Refused r) = refl
+
+module _ (s t : List ℕ) where
+  judged-same : (f : Subfield) → bytesOf f s ≡ bytesOf f t → judgeField f s ≡ judgeField f t
+  unfolding judgeField
+  judged-same f e = ap (λ (u : List ℕ). judge (rightKind (f .kind) u) (rightValue (f .kind) u) (f .at)) e
+
+  walk-same : (fs : List Subfield) → SameIn fs s t → walk fs s ≡ walk fs t
+  walk-same [] h = refl
+  walk-same (f ∷ fs) h = ap₂ orElse (judged-same f (h .0)) (walk-same fs (h .1))
+
+  -- the other subfields accepted, the two of the origin decide
+  walk-origin : walk layout s ≡ Verdict.Accepted → SameIn others s t → walk layout t ≡ orElse (judgeField LSO t) (judgeField PSO t)
+  unfolding layout
+  walk-origin e (str, (arv, (brv, rest))) =
+      let v = after (judgeField BRV s) _ (after (judgeField ARV s) _ (after (judgeField STR s) _ e)) in
+      let past = sym (walk-same (drop 3 others) rest) ∙ after (judgeField PSO s) _ (after (judgeField LSO s) _ v) in
+      ap₂ orElse (sym (judged-same STR str) ∙ judged-at layout s 0 (omega arith) e)
+      (ap₂ orElse (sym (judged-same ARV arv) ∙ judged-at layout s 1 (omega arith) e)
+      (ap₂ orElse (sym (judged-same BRV brv) ∙ judged-at layout s 2 (omega arith) e)
+      (ap (orElse (judgeField LSO t)) (ap (orElse (judgeField PSO t)) past ∙ alone (judgeField PSO t)))))
+
+no-column : (scale zone a b : ℕ) (t : List ℕ) (n : Option ℤ) → withOrigin scale zone a b t n none ≡ refusedCard (refusal 10)
+no-column scale zone a b t none = refl
+no-column scale zone a b t (some n) = refl
+
+-- the angle that stored a tile, moved, stores none
+moved-none : (x : ℕ) → Grid x → (t : ℕ) (y z k : ℤ) → tileStoring x t y ≡ some k → Moved y z → tileStoring x t z ≡ none
+moved-none x g t y z k e h = rounded-again x g t k z (subst⁻¹ (λ (y : ℤ). Moved y z) (tile-stores x t y k e .same) h)
+
+module _ (scale zone : ℕ) (s t : List ℕ) (k : Card) (x : ReadTo scale zone s k) where
+  no-origin : LSOMoved s t ⊎ PSOMoved s t
+      → withOrigin scale zone (x .a) (x .b) t (rowTile (x .b) t) (columnTile (x .a) t) ≡ refusedCard (refusal 10)
+  no-origin (inl h) =
+      let g = answered-grids scale zone (x .a) (x .b) (x .spacing) in
+      rw (moved-none (x .a) (g .columns) (x .a / 256) _ (angleOf 3 (bytesOf LSO t)) (x .m) (x .m-found) h)
+      (no-column scale zone (x .a) (x .b) t (rowTile (x .b) t))
+  no-origin (inr h) =
+      let g = answered-grids scale zone (x .a) (x .b) (x .spacing) in
+      rw (moved-none (x .b) (g .rows) (x .b / 512) _ (angleOf 2 (bytesOf PSO t)) (x .n) (x .n-found) h)
+
+pub moved-refused : MovedRefused
+unfolding readIn withValues
+moved-refused scale zone s t k p l h m =
+    let x = read-to scale zone s k p in
+    let whole : eqb (length t) 98 ≡ true = ap (λ (n : ℕ). eqb n 98) l ∙ x .whole in
+    let constants : constantsIn (x .a) (x .b) t ≡ true =
+    ap₂ (λ (u v : List ℕ). eqb (number u) (x .a) && eqb (number v) (x .b)) (sym (h .1 .0)) (sym (h .1 .1 .0)) ∙ x .constants in
+    rw (x .spacing, x .not-polar, whole, walk-origin s t (x .judged) h, constants, no-origin scale zone s t k x m)
