@@ -1,14 +1,14 @@
 -- Two pixels of one position are the pixel that one of the cards gives for it, so demand 3's walk has both places the same; and two pixels
 -- of one place are one pixel. A tile is at least 207 hundredths, and a stored angle is within half a hundredth. Assumes nothing.
 use mathlib.Core.Path.{_≡_, refl, sym, ap, ap₂, _∙_, subst⁻¹, subst₂}
-use mathlib.Core.Bool.{true, _&&_}
+use mathlib.Core.Bool.{true}
 use mathlib.Core.List.{List, [], _∷_}
 use mathlib.Core.Logic.{_⊎_, inl, inr}
 use mathlib.Core.Option.{Option, some, none}
 use Prim.Native.Nat.{ℕ, _+_, _-_, _*_, _/_, _≤_, _<_}
 use native.Mathlib.Nat.{add-mul, mul-le-mul-right}
 use native.Mathlib.Omega.{arith}
-use lib.Dec.{eqb}
+use borrow.Author.Tests.{eq-eqb}
 use lib.ListN.{length, drop}
 use lib.IntN.{ℤ, natAbs, _-ℤ_}
 use Rattle.whole.specs.Whole.{near}
@@ -20,22 +20,22 @@ use Rattle.arc.specs.Spacing.{Grid}
 use Rattle.arc.proofs.Answered.{answered-grids}
 use Rattle.origin.specs.Origin.{storedAngle}
 use Rattle.origin.proofs.Axis.{tileAngle, stored-is}
-use Rattle.origin.proofs.Stored.{counted, counted-is, axis}
+use Rattle.origin.proofs.Stored.{counted, counted-is, axis, stored-unique}
 use Rattle.text.specs.Text.{number, angleOf}
 use Rattle.card.specs.declared.Card.{Card}
-use Rattle.card.specs.declared.Subfield.{Subfield}
 use Rattle.card.specs.declared.PlaceAnswer.{PlaceAnswer}
 use Rattle.card.specs.declared.PositionAnswer.{PositionAnswer}
-use Rattle.card.specs.Layout.{STR, ARV, BRV, LSO, PSO, layout, bytesOf, rightKind, rightValue, judge, judgeField, orElse, walk}
-use Rattle.card.specs.Read.{tileStoring, cardOf, refusedCard, withOrigin, withValues, readIn, Accepted}
+use Rattle.card.specs.Layout.{Subfield, STR, ARV, BRV, LSO, PSO, layout, bytesOf, rightKind, rightValue, judge, judgeField, orElse, walk}
+use Rattle.card.specs.Read.{tileStoring, numberIn, cardOf, refusedCard, withOrigin, withValues, readIn, Accepted}
 use Rattle.card.specs.NoDrift.{HasPlace}
 use Rattle.card.specs.Grid.{placeRow, placeColumn, inTiles, inChart, placeOf, positionOf}
 use Rattle.card.specs.Places.{GivesPixel}
 use Rattle.card.specs.Copies.{Copies, PlaceAlike, BytesAlike, Moved, RoundedAgain}
 use Rattle.card.specs.Copies.{SameIn, others, LSOMoved, PSOMoved, MovedRefused}
-use Rattle.card.proofs.Found.{tile-stores}
-use Rattle.card.proofs.Acceptance.{constantsIn, rowTile, columnTile, ReadTo, read-to}
-use Rattle.card.proofs.Laid.{judged-at, accepted-laid}
+use Rattle.card.proofs.Walked.{orElse-both, orElse-accepted}
+use Rattle.card.proofs.Found.{Stores, tile-stores}
+use Rattle.card.proofs.Acceptance.{rowTile, columnTile, ReadTo, read-to}
+use Rattle.card.proofs.Laid.{accepted-laid}
 use Rattle.card.proofs.Regions.{chart-tiles}
 use Rattle.card.proofs.Chain.{no-drift}
 use Rattle.card.proofs.Places.{Told, told-by-place}
@@ -104,19 +104,17 @@ bytes-alike scale zone s t j k p q (lso, (pso, (nul, (nus, (nll, (nls, (nfl, (nf
     let f = y .spacing in
     let a : x .a ≡ y .a = cc in
     let b : x .b ≡ y .b = cc in
-    let n : some (x .n) ≡ some (y .n) =
-    sym (x .n-found) ∙ ap₂ (λ (b : ℕ) (u : List ℕ). tileStoring b (b / 512) (angleOf 2 u)) b pso ∙ y .n-found in
-    let m : some (x .m) ≡ some (y .m) =
-    sym (x .m-found) ∙ ap₂ (λ (a : ℕ) (u : List ℕ). tileStoring a (a / 256) (angleOf 3 u)) a lso ∙ y .m-found in
+    let g = answered-grids scale zone (x .a) (x .b) e in
     subst₂ Copies (x .card) (y .card)
     (record {
-      same-n = same n;
-      same-m = same m;
+      same-n =
+          stored-unique (x .b) (g .rows) (x .n) (y .n)
+          (x .n-stored .same ∙ ap (angleOf 2) pso ∙ sym (y .n-stored .same) ∙ ap (λ (i : ℕ). storedAngle i (y .n)) (sym b));
+      same-m =
+          stored-unique (x .a) (g .columns) (x .m) (y .m)
+          (x .m-stored .same ∙ ap (angleOf 3) lso ∙ sym (y .m-stored .same) ∙ ap (λ (i : ℕ). storedAngle i (y .m)) (sym a));
       same-extents = rw (nul, nus, nll, nls, nfl, nfc);
     })
-  where
-    same : {i j : ℤ} → some i ≡ some j → i ≡ j
-    same e = cc
 
 -- ---- stored angles
 
@@ -164,15 +162,6 @@ rounded-again x g t k z h = go (tileStoring x t z) refl
 
 -- ---- a card whose origin is moved
 
--- what comes after an accepted subfield is accepted too
-after : (v w : Verdict) → orElse v w ≡ Verdict.Accepted → w ≡ Verdict.Accepted
-after Verdict.Accepted w e = e
-after (Verdict.Refused r) w e = let x : _≡_ {A = ℕ} 0 1 = cc in absurd (omega arith)
-
-alone : (v : Verdict) → orElse v Verdict.Accepted ≡ v
-alone Verdict.Accepted = refl
-alone (Verdict.Refused r) = refl
-
 module _ (s t : List ℕ) where
   judged-same : (f : Subfield) → bytesOf f s ≡ bytesOf f t → judgeField f s ≡ judgeField f t
   unfolding judgeField
@@ -186,37 +175,44 @@ module _ (s t : List ℕ) where
   walk-origin : walk layout s ≡ Verdict.Accepted → SameIn others s t → walk layout t ≡ orElse (judgeField LSO t) (judgeField PSO t)
   unfolding layout
   walk-origin e (str, (arv, (brv, rest))) =
-      let v = after (judgeField BRV s) _ (after (judgeField ARV s) _ (after (judgeField STR s) _ e)) in
-      let past = sym (walk-same (drop 3 others) rest) ∙ after (judgeField PSO s) _ (after (judgeField LSO s) _ v) in
-      ap₂ orElse (sym (judged-same STR str) ∙ judged-at layout s 0 (omega arith) e)
-      (ap₂ orElse (sym (judged-same ARV arv) ∙ judged-at layout s 1 (omega arith) e)
-      (ap₂ orElse (sym (judged-same BRV brv) ∙ judged-at layout s 2 (omega arith) e)
-      (ap (orElse (judgeField LSO t)) (ap (orElse (judgeField PSO t)) past ∙ alone (judgeField PSO t)))))
+      let first = orElse-both (judgeField STR s) _ e in
+      let second = orElse-both (judgeField ARV s) _ (first .1) in
+      let third = orElse-both (judgeField BRV s) _ (second .1) in
+      let past = sym (walk-same (drop 3 others) rest) ∙ orElse-both (judgeField PSO s) _ (orElse-both (judgeField LSO s) _ (third .1) .1) .1 in
+      ap₂ orElse (sym (judged-same STR str) ∙ first .0)
+      (ap₂ orElse (sym (judged-same ARV arv) ∙ second .0)
+      (ap₂ orElse (sym (judged-same BRV brv) ∙ third .0)
+      (ap (orElse (judgeField LSO t)) (ap (orElse (judgeField PSO t)) past ∙ orElse-accepted (judgeField PSO t)))))
 
 no-column : (scale zone a b : ℕ) (t : List ℕ) (n : Option ℤ) → withOrigin scale zone a b t n none ≡ refusedCard (refusal 10)
 no-column scale zone a b t none = refl
 no-column scale zone a b t (some n) = refl
 
 -- the angle that stored a tile, moved, stores none
-moved-none : (x : ℕ) → Grid x → (t : ℕ) (y z k : ℤ) → tileStoring x t y ≡ some k → Moved y z → tileStoring x t z ≡ none
-moved-none x g t y z k e h = rounded-again x g t k z (subst⁻¹ (λ (y : ℤ). Moved y z) (tile-stores x t y k e .same) h)
+moved-none : (x : ℕ) → Grid x → (t : ℕ) (y z k : ℤ) → Stores x t y k → Moved y z → tileStoring x t z ≡ none
+moved-none x g t y z k e h = rounded-again x g t k z (subst⁻¹ (λ (y : ℤ). Moved y z) (e .same) h)
 
 module _ (scale zone : ℕ) (s t : List ℕ) (k : Card) (x : ReadTo scale zone s k) where
   no-origin : LSOMoved s t ⊎ PSOMoved s t
       → withOrigin scale zone (x .a) (x .b) t (rowTile (x .b) t) (columnTile (x .a) t) ≡ refusedCard (refusal 10)
   no-origin (inl h) =
       let g = answered-grids scale zone (x .a) (x .b) (x .spacing) in
-      rw (moved-none (x .a) (g .columns) (x .a / 256) _ (angleOf 3 (bytesOf LSO t)) (x .m) (x .m-found) h)
+      rw (moved-none (x .a) (g .columns) (x .a / 256) _ (angleOf 3 (bytesOf LSO t)) (x .m) (x .m-stored) h)
       (no-column scale zone (x .a) (x .b) t (rowTile (x .b) t))
   no-origin (inr h) =
       let g = answered-grids scale zone (x .a) (x .b) (x .spacing) in
-      rw (moved-none (x .b) (g .rows) (x .b / 512) _ (angleOf 2 (bytesOf PSO t)) (x .n) (x .n-found) h)
+      rw (moved-none (x .b) (g .rows) (x .b / 512) _ (angleOf 2 (bytesOf PSO t)) (x .n) (x .n-stored) h)
 
 pub moved-refused : MovedRefused
 unfolding readIn withValues
 moved-refused scale zone s t k p l h m =
     let x = read-to scale zone s k p in
-    let whole : eqb (length t) 98 ≡ true = ap (λ (n : ℕ). eqb n 98) l ∙ x .whole in
-    let constants : constantsIn (x .a) (x .b) t ≡ true =
-    ap₂ (λ (u v : List ℕ). eqb (number u) (x .a) && eqb (number v) (x .b)) (sym (h .1 .0)) (sym (h .1 .1 .0)) ∙ x .constants in
-    rw (x .spacing, x .not-polar, whole, walk-origin s t (x .judged) h, constants, no-origin scale zone s t k x m)
+    rw (
+      x .spacing,
+      x .not-polar,
+      eq-eqb (length t) 98 (l ∙ x .long),
+      walk-origin s t (x .judged) h,
+      eq-eqb (numberIn ARV t) (x .a) (ap number (sym (h .1 .0)) ∙ x .arv),
+      eq-eqb (numberIn BRV t) (x .b) (ap number (sym (h .1 .1 .0)) ∙ x .brv),
+      no-origin scale zone s t k x m,
+    )

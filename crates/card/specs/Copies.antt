@@ -18,15 +18,14 @@ use mathlib.Core.Option.{none}
 use Prim.Native.Nat.{ℕ, _≤_}
 use lib.IntN.{ℤ, pos, natAbs, _-ℤ_}
 use lib.ListN.{length}
-use Rattle.arc.specs.Refusals.{refusal}
+use Rattle.arc.specs.Refusals.{refusal, onVerdict}
 use Rattle.arc.specs.Spacing.{Grid}
 use Rattle.origin.specs.Origin.{storedAngle}
 use Rattle.text.specs.Text.{angleOf}
 use Rattle.card.specs.declared.Card.{Card}
-use Rattle.card.specs.declared.Subfield.{Subfield}
 use Rattle.card.specs.Layout.{STR, ARV, BRV, LSO, PSO, NUL, NUS, NLL, NLS, NFL, NFC, PNC, PNL, COD, ROD, POR, PCB, PVB, BAD, TIF}
-use Rattle.card.specs.Layout.{bytesOf, judgeField, orElse}
-use Rattle.card.specs.Read.{tileStoring, acceptedCard, refusedCard, afterWalk, readOf, Accepted}
+use Rattle.card.specs.Layout.{Subfield, bytesOf, judgeField, orElse}
+use Rattle.card.specs.Read.{tileStoring, acceptedCard, refusedCard, readOf, Accepted}
 use Rattle.card.specs.Grid.{inChart, extentsOf, placeOf, positionOf, pixelOf, verdictOf}
 
 -- ---- copies
@@ -94,4 +93,4 @@ abbrev pub MovedRefused : Type 0
 MovedRefused =
     (scale zone : ℕ) (s t : List ℕ) (k : Card) → readOf scale zone s ≡ acceptedCard k
     → length t ≡ length s → SameIn others s t → LSOMoved s t ⊎ PSOMoved s t
-    → readOf scale zone t ≡ afterWalk (orElse (judgeField LSO t) (judgeField PSO t)) (refusedCard (refusal 10))
+    → readOf scale zone t ≡ onVerdict (orElse (judgeField LSO t) (judgeField PSO t)) refusedCard (refusedCard (refusal 10))
