@@ -30,10 +30,10 @@ use Rattle.card.proofs.Found.{Stores, tile-stores, stores-tile}
 abbrev constantsIn : ℕ → ℕ → List ℕ → Bool
 constantsIn a b s = eqb (numberIn ARV s) a && eqb (numberIn BRV s) b
 
-abbrev rowTile : ℕ → List ℕ → Option ℤ
+abbrev pub rowTile : ℕ → List ℕ → Option ℤ
 rowTile b s = tileStoring b (b / 512) (angleOf 2 (bytesOf PSO s))
 
-abbrev columnTile : ℕ → List ℕ → Option ℤ
+abbrev pub columnTile : ℕ → List ℕ → Option ℤ
 columnTile a s = tileStoring a (a / 256) (angleOf 3 (bytesOf LSO s))
 
 abbrev pub extentsIn : ℕ → ℕ → ℤ → List ℕ → Bool

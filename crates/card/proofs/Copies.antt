@@ -30,10 +30,11 @@ use Rattle.card.specs.Read.{tileStoring, numberIn, cardOf, refusedCard, 
 use Rattle.card.specs.NoDrift.{HasPlace}
 use Rattle.card.specs.Grid.{placeRow, placeColumn, inTiles, inChart, placeOf, positionOf}
 use Rattle.card.specs.Places.{GivesPixel}
-use Rattle.card.specs.Copies.{Copies, PlaceAlike, BytesAlike, Moved, RoundedAgain, SameIn, others, LSOMoved, PSOMoved, MovedRefused}
+use Rattle.card.specs.Copies.{Copies, PlaceAlike, BytesAlike, Moved, RoundedAgain}
+use Rattle.card.specs.Copies.{SameIn, others, LSOMoved, PSOMoved, MovedRefused}
+use Rattle.card.proofs.Walked.{orElse-both, orElse-accepted}
 use Rattle.card.proofs.Found.{Stores, tile-stores}
-use Rattle.card.proofs.Walked.{orElse-both}
-use Rattle.card.proofs.Acceptance.{ReadTo, read-to}
+use Rattle.card.proofs.Acceptance.{rowTile, columnTile, ReadTo, read-to}
 use Rattle.card.proofs.Laid.{accepted-laid}
 use Rattle.card.proofs.Regions.{chart-tiles}
 use Rattle.card.proofs.Chain.{no-drift}
@@ -103,15 +104,15 @@ bytes-alike scale zone s t j k p q (lso, (pso, (nul, (nus, (nll, (nls, (nfl, (nf
     let f = y .spacing in
     let a : x .a ≡ y .a = cc in
     let b : x .b ≡ y .b = cc in
-    let g = answered-grids scale zone (x .a) (x .b) (x .spacing) in
+    let g = answered-grids scale zone (x .a) (x .b) e in
     subst₂ Copies (x .card) (y .card)
     (record {
       same-n =
           stored-unique (x .b) (g .rows) (x .n) (y .n)
-          (x .n-stored .same ∙ ap (angleOf 2) pso ∙ sym (ap (λ (b : ℕ). storedAngle b (y .n)) b ∙ y .n-stored .same));
+          (x .n-stored .same ∙ ap (angleOf 2) pso ∙ sym (y .n-stored .same) ∙ ap (λ (i : ℕ). storedAngle i (y .n)) (sym b));
       same-m =
           stored-unique (x .a) (g .columns) (x .m) (y .m)
-          (x .m-stored .same ∙ ap (angleOf 3) lso ∙ sym (ap (λ (a : ℕ). storedAngle a (y .m)) a ∙ y .m-stored .same));
+          (x .m-stored .same ∙ ap (angleOf 3) lso ∙ sym (y .m-stored .same) ∙ ap (λ (i : ℕ). storedAngle i (y .m)) (sym a));
       same-extents = rw (nul, nus, nll, nls, nfl, nfc);
     })
 
@@ -161,10 +162,6 @@ rounded-again x g t k z h = go (tileStoring x t z) refl
 
 -- ---- a card whose origin is moved
 
-alone : (v : Verdict) → orElse v Verdict.Accepted ≡ v
-alone Verdict.Accepted = refl
-alone (Verdict.Refused r) = refl
-
 module _ (s t : List ℕ) where
   judged-same : (f : Subfield) → bytesOf f s ≡ bytesOf f t → judgeField f s ≡ judgeField f t
   unfolding judgeField
@@ -178,14 +175,14 @@ module _ (s t : List ℕ) where
   walk-origin : walk layout s ≡ Verdict.Accepted → SameIn others s t → walk layout t ≡ orElse (judgeField LSO t) (judgeField PSO t)
   unfolding layout
   walk-origin e (str, (arv, (brv, rest))) =
-      let x = orElse-both (judgeField STR s) _ e in
-      let y = orElse-both (judgeField ARV s) _ (x .1) in
-      let z = orElse-both (judgeField BRV s) _ (y .1) in
-      let past = orElse-both (judgeField PSO s) _ (orElse-both (judgeField LSO s) _ (z .1) .1) .1 in
-      ap₂ orElse (sym (judged-same STR str) ∙ x .0)
-      (ap₂ orElse (sym (judged-same ARV arv) ∙ y .0)
-      (ap₂ orElse (sym (judged-same BRV brv) ∙ z .0)
-      (ap (orElse (judgeField LSO t)) (ap (orElse (judgeField PSO t)) (sym (walk-same (drop 3 others) rest) ∙ past) ∙ alone (judgeField PSO t)))))
+      let first = orElse-both (judgeField STR s) _ e in
+      let second = orElse-both (judgeField ARV s) _ (first .1) in
+      let third = orElse-both (judgeField BRV s) _ (second .1) in
+      let past = sym (walk-same (drop 3 others) rest) ∙ orElse-both (judgeField PSO s) _ (orElse-both (judgeField LSO s) _ (third .1) .1) .1 in
+      ap₂ orElse (sym (judged-same STR str) ∙ first .0)
+      (ap₂ orElse (sym (judged-same ARV arv) ∙ second .0)
+      (ap₂ orElse (sym (judged-same BRV brv) ∙ third .0)
+      (ap (orElse (judgeField LSO t)) (ap (orElse (judgeField PSO t)) past ∙ orElse-accepted (judgeField PSO t)))))
 
 no-column : (scale zone a b : ℕ) (t : List ℕ) (n : Option ℤ) → withOrigin scale zone a b t n none ≡ refusedCard (refusal 10)
 no-column scale zone a b t none = refl
@@ -196,16 +193,12 @@ moved-none : (x : ℕ) → Grid x → (t : ℕ) (y z k : ℤ) → Stores x t y k
 moved-none x g t y z k e h = rounded-again x g t k z (subst⁻¹ (λ (y : ℤ). Moved y z) (e .same) h)
 
 module _ (scale zone : ℕ) (s t : List ℕ) (k : Card) (x : ReadTo scale zone s k) where
-  abbrev n? : Option ℤ
-  n? = tileStoring (x .b) (x .b / 512) (angleOf 2 (bytesOf PSO t))
-
-  abbrev m? : Option ℤ
-  m? = tileStoring (x .a) (x .a / 256) (angleOf 3 (bytesOf LSO t))
-
-  no-origin : LSOMoved s t ⊎ PSOMoved s t → withOrigin scale zone (x .a) (x .b) t n? m? ≡ refusedCard (refusal 10)
+  no-origin : LSOMoved s t ⊎ PSOMoved s t
+      → withOrigin scale zone (x .a) (x .b) t (rowTile (x .b) t) (columnTile (x .a) t) ≡ refusedCard (refusal 10)
   no-origin (inl h) =
       let g = answered-grids scale zone (x .a) (x .b) (x .spacing) in
-      rw (moved-none (x .a) (g .columns) (x .a / 256) _ (angleOf 3 (bytesOf LSO t)) (x .m) (x .m-stored) h) (no-column scale zone (x .a) (x .b) t n?)
+      rw (moved-none (x .a) (g .columns) (x .a / 256) _ (angleOf 3 (bytesOf LSO t)) (x .m) (x .m-stored) h)
+      (no-column scale zone (x .a) (x .b) t (rowTile (x .b) t))
   no-origin (inr h) =
       let g = answered-grids scale zone (x .a) (x .b) (x .spacing) in
       rw (moved-none (x .b) (g .rows) (x .b / 512) _ (angleOf 2 (bytesOf PSO t)) (x .n) (x .n-stored) h)

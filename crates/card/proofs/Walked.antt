@@ -23,6 +23,10 @@ pub orElse-both : (v w : Verdict) → orElse v w ≡ Verdict.Accepted → (v ≡
 orElse-both Verdict.Accepted w e = (refl, e)
 orElse-both (Verdict.Refused r) w e = let x : _≡_ {A = ℕ} 0 1 = cc in absurd (omega arith)
 
+pub orElse-accepted : (v : Verdict) → orElse v Verdict.Accepted ≡ v
+orElse-accepted Verdict.Accepted = refl
+orElse-accepted (Verdict.Refused r) = refl
+
 -- one test of several, and the rest of them
 pub tested : (ok : Bool) (n p : ℕ) (w : Verdict) → orElse (test ok n p) w ≡ Verdict.Accepted → (ok ≡ true) × (w ≡ Verdict.Accepted)
 tested true n p w e = (refl, e)

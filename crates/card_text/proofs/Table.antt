@@ -6,7 +6,7 @@ use Prim.Native.Nat.{ℕ}
 use Rattle.arc.specs.declared.Verdict.{Verdict}
 use Rattle.card.specs.Layout.{Subfield}
 use Rattle.card.specs.Layout.{bytesOf, rightKind, rightValue, judge, judgeField, orElse, walk}
-use Rattle.card.proofs.Walked.{orElse-both, judge-both}
+use Rattle.card.proofs.Walked.{orElse-both, orElse-accepted, judge-both}
 use Rattle.card_text.specs.StepsFields.{valueOf, valueIn, valuesIn, fieldOf, FieldAt}
 use Rattle.card_text.specs.declared.fields.Field.{Field}
 
@@ -15,10 +15,6 @@ use Rattle.card_text.specs.declared.fields.Field.{Field}
 pub orElse-assoc : (a b c : Verdict) → orElse (orElse a b) c ≡ orElse a (orElse b c)
 orElse-assoc Verdict.Accepted b c = refl
 orElse-assoc (Verdict.Refused r) b c = refl
-
-pub orElse-accepted : (a : Verdict) → orElse a Verdict.Accepted ≡ a
-orElse-accepted Verdict.Accepted = refl
-orElse-accepted (Verdict.Refused r) = refl
 
 -- ---- a row as it was read: where its bytes are of the wrong kind, no more is known of it
 module _ (f : Subfield) (s : List ℕ) (before : Verdict) (laid valid : Bool) (v : ℕ) (x : Field)

@@ -43,24 +43,7 @@ pub fn refused_with(r: Refusal) -> Reading
 {
     Reading {
         verdict: Verdict::Refused(r),
-        card: Card {
-            scale: 0,
-            zone: 0,
-            a: 0,
-            b: 0,
-            n: 0,
-            m: 0,
-            nul: 0,
-            nus: 0,
-            nll: 0,
-            nls: 0,
-            nfl: 0,
-            nfc: 0,
-            bad: [0; 12],
-            tif: false,
-            north: 0,
-            east: 0,
-        },
+        card: card::no_card(),
     }
 }
 

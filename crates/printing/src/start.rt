@@ -34,24 +34,7 @@ fn put_refusal(out: &mut [u8], e: Refusal) -> usize
 pub fn stop(length: usize, end: usize) -> OpeningAnswer
     ensures { λ r. ⌜ r ≡ stopped length end ⌝ }
 {
-    let card = Card {
-        scale: 0,
-        zone: 0,
-        a: 0,
-        b: 0,
-        n: 0,
-        m: 0,
-        nul: 0,
-        nus: 0,
-        nll: 0,
-        nls: 0,
-        nfl: 0,
-        nfc: 0,
-        bad: [0; 12],
-        tif: false,
-        north: 0,
-        east: 0,
-    };
+    let card = card::no_card();
     OpeningAnswer {
         length,
         more: false,

@@ -1,6 +1,6 @@
 -- The three tests are those of `countTests`, in its order. Assumes nothing.
 use Rattle.card_text.specs.StepsWrite.{countTests}
-use Rattle.card_text.proofs.Table.{orElse-accepted}
+use Rattle.card.proofs.Walked.{orElse-accepted}
 use borrow.Author.Needs.{needs}
 use Rattle.card_text.proofs.write.judge_counts.Statement.{statement}
 use Rattle.card_text.proofs.write.judge_counts.Tie as tie
