@@ -1,21 +1,20 @@
 // The library for C: numbers and slices in, a block of numbers out (bindings/c/fordcask.h).
 mod cards;
 mod indexes;
-mod pairs;
 mod parts;
 mod plain;
 
+pub use cards::fordcask_pixel;
+pub use cards::fordcask_pixels;
+pub use cards::fordcask_place;
+pub use cards::fordcask_position;
+pub use cards::fordcask_positions;
 pub use cards::fordcask_read_card;
 pub use cards::fordcask_write_card;
 pub use indexes::fordcask_bands;
 pub use indexes::fordcask_index_check;
 pub use indexes::fordcask_tile;
 pub use indexes::fordcask_window;
-pub use pairs::fordcask_pixel;
-pub use pairs::fordcask_pixels;
-pub use pairs::fordcask_place;
-pub use pairs::fordcask_position;
-pub use pairs::fordcask_positions;
 pub use parts::CardParts;
 pub use parts::CoverParts;
 pub use parts::RecordParts;

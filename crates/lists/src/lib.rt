@@ -53,11 +53,11 @@ fn put_pair(list: &mut [i64], numbers: &mut [u32], i: usize, first: i64, second:
 }
 
 // What is told of a pair: number, place, and two values.
-pub struct PairParts {
-    pub number: u32,
-    pub at: u64,
-    pub first: i64,
-    pub second: i64,
+struct PairParts {
+    number: u32,
+    at: u64,
+    first: i64,
+    second: i64,
 }
 
 // What is told of a pair.

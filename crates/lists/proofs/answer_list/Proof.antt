@@ -7,31 +7,16 @@ use borrow.Author.Needs.{needs}
 use Rattle.lists.proofs.answer_list.Statement.{statement}
 use Rattle.lists.proofs.answer_list.Tie as tie
 
-lists-fit-requires : tie.Need-lists-fit-requires
-lists-fit-requires c κs = search needs
-
-refused-requires : tie.Need-refused-requires
-refused-requires c κs = search needs
-
 returns : tie.Need-returns
 returns c =
     let f = sym (c .before .before .lists-fit .ensures) ∙ not-true _ (c .before .if1 .taken) in
     (rw f (ap Verdict.Refused (c .refused .ensures)), (rw f refl, rw f refl))
-
-engine-of-requires : tie.Need-engine-of-requires
-engine-of-requires c κs = search needs
 
 fill-requires : tie.Need-fill-requires
 fill-requires c κs = (
   engine-made (c .before .before .before .before .before .before .pre) (c .before .before .engine-of .ensures),
   sym (c .before .before .before .before .lists-fit .ensures) ∙ not-false _ (c .before .before .before .if1 .left),
 )
-
-same-length : tie.Need-same-length
-same-length c = search needs
-
-same-length-2 : tie.Need-same-length-2
-same-length-2 c = search needs
 
 returns-2 : tie.Need-returns-2
 returns-2 c =
@@ -45,11 +30,11 @@ pub answer-list-spec : {M : Type 1} → statement M
 answer-list-spec =
     tie.close
     (tie.spec
-    lists-fit-requires
-    refused-requires
+    (λ c κs. search needs)
+    (λ c κs. search needs)
     returns
-    engine-of-requires
+    (λ c κs. search needs)
     fill-requires
-    same-length
-    same-length-2
+    (λ c. search needs)
+    (λ c. search needs)
     returns-2)

@@ -1,15 +1,14 @@
 -- After i turns the first i pairs and numbers are the reports of the first i pairs handed in. Assumes nothing.
-use mathlib.Core.Path.{_≡_, refl, sym, ap, ap₂, _∙_}
+use mathlib.Core.Path.{_≡_, refl, sym, ap, _∙_}
 use Prim.Native.Nat.{ℕ, _-_, _/_}
 use native.Mathlib.Omega.{arith}
 use lib.ListN.{length}
-use mir.Syntax.{w64}
-use mir.ValLaws.{toZ-ofZ}
 use Rattle.arc.specs.Refusals.{Report}
 use Rattle.lists.specs.declared.Pair.{Pair}
 use Rattle.lists.specs.Steps.{pairTold}
 use Rattle.lists.specs.Lists.{pairAt, askedReport, reportAt}
 use Rattle.lists.proofs.Filling.{Filled, filled-length, filled-numbers, filled-room, filled-next, report-values}
+use Rattle.lists.proofs.Told.{pair-asked}
 use Rattle.lists.proofs.fill.Statement.{statement}
 use Rattle.lists.proofs.fill.Tie as tie
 
@@ -59,9 +58,8 @@ loop-again c =
     let p = a .answer-pair .result in
     let told : pairTold p ≡ reports s (l .loop .i) =
     a .answer-pair .ensures
-    ∙ ap₂ (askedReport (s .args .asked) (s .args .e .card))
-    (toZ-ofZ w64 (b .pair-at .result .first) (record { sfits = a .before .before .struct-told .given .0 .1 }))
-    (toZ-ofZ w64 (b .pair-at .result .second) (record { sfits = a .before .struct-told2 .given .1 .0 .1 }))
+    ∙ pair-asked (askedReport (s .args .asked) (s .args .e .card)) {u = b .pair-at .result .first} {v = b .pair-at .result .second}
+    (record { sfits = a .before .before .struct-told .given .0 .1 }) (record { sfits = a .before .struct-told2 .given .1 .0 .1 })
     ∙ ap (λ (x : Pair). askedReport (s .args .asked) (s .args .e .card) (x .first) (x .second)) (b .pair-at .ensures) in
     rw (d .put-pair .ensures .0, d .put-pair .ensures .1)
     (filled-next (reports s) (two s) (length (s .args .list .now)) (s .pre .1) (l .loop .inv) (omega (arith, b .before .loop-test .taken))

@@ -13,47 +13,26 @@ use Rattle.position_cases.proofs.all_same.Tie as tie
 fits : (c : tie.After-out2) → c .before .opening .result .length ≤ length (c .before .opening .last .1 .0)
 fits c = omega (arith, opening-fits _ _ (c .before .opening .ensures .0), c .before .opening .kept .1 .0)
 
-slice-aggregate-opening : tie.Need-slice-aggregate-opening
-slice-aggregate-opening c = search needs
-
-opening-requires : tie.Need-opening-requires
-opening-requires c κs = search needs
-
 array-share-prefix-out : tie.Need-array-share-prefix-out
 array-share-prefix-out c = fits c
 
 slice-aggregate-goes-on : tie.Need-slice-aggregate-goes-on
 slice-aggregate-goes-on c = sym (length-take-le _ _ (fits (c .before)))
 
-goes-on-requires : tie.Need-goes-on-requires
-goes-on-requires c κs = search needs
-
 lines-same-requires : tie.Need-lines-same-requires
 lines-same-requires c κs = opening-known _ _ (c .before .before .before .before .opening .ensures .0) (c .if1 .taken)
-
-ends-requires : tie.Need-ends-requires
-ends-requires c κs = search needs
-
-returns : tie.Need-returns
-returns c = search needs
-
-ends-requires-2 : tie.Need-ends-requires-2
-ends-requires-2 c κs = search needs
-
-returns-2 : tie.Need-returns-2
-returns-2 c = search needs
 
 pub all-same-spec : {M : Type 1} → statement M
 all-same-spec =
     tie.close
     (tie.spec
-    slice-aggregate-opening
-    opening-requires
+    (λ c. search needs)
+    (λ c κs. search needs)
     array-share-prefix-out
     slice-aggregate-goes-on
-    goes-on-requires
+    (λ c κs. search needs)
     lines-same-requires
-    ends-requires
-    returns
-    ends-requires-2
-    returns-2)
+    (λ c κs. search needs)
+    (λ c. search needs)
+    (λ c κs. search needs)
+    (λ c. search needs))

@@ -13,15 +13,6 @@ flag : (b : Bool) → boolByte b ≡ cond b 1 0
 flag true = refl
 flag false = refl
 
-read-card-requires : tie.Need-read-card-requires
-read-card-requires c κs = search needs
-
-refusal-requires : tie.Need-refusal-requires
-refusal-requires c κs = search needs
-
-cast-t9 : tie.Need-cast-t9
-cast-t9 c = search needs
-
 returns : tie.Need-returns
 returns c =
     let x = c .before .before .before .before .before .read-card .result in
@@ -31,4 +22,4 @@ returns c =
     (ap cardParts (c .before .before .before .before .before .read-card .ensures))
 
 pub fordcask-read-card-spec : {M : Type 1} → statement M
-fordcask-read-card-spec = tie.close (tie.spec read-card-requires refusal-requires cast-t9 returns)
+fordcask-read-card-spec = tie.close (tie.spec (λ c κs. search needs) (λ c κs. search needs) (λ c. search needs) returns)

@@ -7,15 +7,6 @@ use borrow.Author.Needs.{needs}
 use Rattle.fordcask.proofs.cards.fordcask_write_card.Statement.{statement}
 use Rattle.fordcask.proofs.cards.fordcask_write_card.Tie as tie
 
-write-card-requires : tie.Need-write-card-requires
-write-card-requires c κs = search needs
-
-refusal-requires : tie.Need-refusal-requires
-refusal-requires c κs = search needs
-
-same-length : tie.Need-same-length
-same-length c = search needs
-
 returns : tie.Need-returns
 returns c =
     let r = c .before .before .before .before .before .before .before .before .before .args .r in
@@ -28,4 +19,4 @@ returns c =
 
 pub fordcask-write-card-spec : {M : Type 1} → statement M
 fordcask-write-card-spec =
-    tie.close (tie.spec write-card-requires refusal-requires same-length returns)
+    tie.close (tie.spec (λ c κs. search needs) (λ c κs. search needs) (λ c. search needs) returns)

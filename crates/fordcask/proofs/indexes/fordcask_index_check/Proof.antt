@@ -6,26 +6,11 @@ use borrow.Author.Needs.{needs}
 use Rattle.fordcask.proofs.indexes.fordcask_index_check.Statement.{statement}
 use Rattle.fordcask.proofs.indexes.fordcask_index_check.Tie as tie
 
-read-card-requires : tie.Need-read-card-requires
-read-card-requires c κs = search needs
-
-enum-told : tie.Need-enum-told
-enum-told c = search needs
-
 index-check-requires : tie.Need-index-check-requires
 index-check-requires c κs =
     let s = c .before .before .before .before .before .before .before .before in
     card-known (s .args .scale) (s .args .zone) (s .args .card .now) (c .before .before .before .before .read-card .ensures)
     (c .before .enum-told .given .1)
-
-refusal-requires : tie.Need-refusal-requires
-refusal-requires c κs = search needs
-
-enum-known-verdict : tie.Need-enum-known-verdict
-enum-known-verdict c = search needs
-
-same-length : tie.Need-same-length
-same-length c = search needs
 
 returns : tie.Need-returns
 returns c =
@@ -41,11 +26,11 @@ pub fordcask-index-check-spec : {M : Type 1} → statement M
 fordcask-index-check-spec =
     tie.close
     (tie.spec
-    read-card-requires
-    enum-told
+    (λ c κs. search needs)
+    (λ c. search needs)
     index-check-requires
-    refusal-requires
-    enum-known-verdict
-    same-length
+    (λ c κs. search needs)
+    (λ c. search needs)
+    (λ c. search needs)
     returns
     returns-2)

@@ -35,19 +35,10 @@ held c =
     (s .fits .row) (s .fits .column))
     ∙ c .before .n .given .1)
 
-read-card-requires : tie.Need-read-card-requires
-read-card-requires c κs = search needs
-
-enum-told : tie.Need-enum-told
-enum-told c = search needs
-
 stored-number-requires : tie.Need-stored-number-requires
 stored-number-requires c κs =
     let s = c .before .before .before .before .before .before .before in
     card-known (s .args .scale) (s .args .zone) (s .args .card .now) (c .before .before .before .read-card .ensures) (c .enum-told .given .1)
-
-enum-known-n : tie.Need-enum-known-n
-enum-known-n c = search needs
 
 sub-t18 : tie.Need-sub-t18
 sub-t18 c = omega (arith, held c)
@@ -55,18 +46,6 @@ sub-t18 c = omega (arith, held c)
 mul-t19 : tie.Need-mul-t19
 mul-t19 c =
     let s = c .before .before .before .before .before .before .before .before .before .before .before in omega (arith, held c)
-
-enum-known-e : tie.Need-enum-known-e
-enum-known-e c = search needs
-
-no-tile-requires : tie.Need-no-tile-requires
-no-tile-requires c κs = search needs
-
-enum-known-verdict : tie.Need-enum-known-verdict
-enum-known-verdict c = search needs
-
-no-tile-requires-2 : tie.Need-no-tile-requires-2
-no-tile-requires-2 c κs = search needs
 
 returns : tie.Need-returns
 returns c =
@@ -84,16 +63,16 @@ pub fordcask-tile-spec : {M : Type 1} → statement M
 fordcask-tile-spec =
     tie.close
     (tie.spec
-    read-card-requires
-    enum-told
+    (λ c κs. search needs)
+    (λ c. search needs)
     stored-number-requires
-    enum-known-n
+    (λ c. search needs)
     sub-t18
     mul-t19
-    enum-known-e
-    no-tile-requires
-    enum-known-verdict
-    no-tile-requires-2
+    (λ c. search needs)
+    (λ c κs. search needs)
+    (λ c. search needs)
+    (λ c κs. search needs)
     returns
     returns-2
     returns-3)

@@ -6,25 +6,10 @@ use borrow.Author.Needs.{needs}
 use Rattle.fordcask.proofs.indexes.fordcask_window.Statement.{statement}
 use Rattle.fordcask.proofs.indexes.fordcask_window.Tie as tie
 
-read-card-requires : tie.Need-read-card-requires
-read-card-requires c κs = search needs
-
-enum-told : tie.Need-enum-told
-enum-told c = search needs
-
 window-requires : tie.Need-window-requires
 window-requires c κs =
     let s = c .before .before .before .before .before .before in
     card-known (s .args .scale) (s .args .zone) (s .args .card .now) (c .before .before .before .read-card .ensures) (c .enum-told .given .1)
-
-into-parts-requires : tie.Need-into-parts-requires
-into-parts-requires c κs = search needs
-
-enum-known-verdict : tie.Need-enum-known-verdict
-enum-known-verdict c = search needs
-
-into-parts-requires-2 : tie.Need-into-parts-requires-2
-into-parts-requires-2 c κs = search needs
 
 returns : tie.Need-returns
 returns c =
@@ -37,12 +22,4 @@ returns-2 c = rw (← c .before .before .before .before .before .read-card .ensu
 pub fordcask-window-spec : {M : Type 1} → statement M
 fordcask-window-spec =
     tie.close
-    (tie.spec
-    read-card-requires
-    enum-told
-    window-requires
-    into-parts-requires
-    enum-known-verdict
-    into-parts-requires-2
-    returns
-    returns-2)
+    (tie.spec (λ c κs. search needs) (λ c. search needs) window-requires (λ c κs. search needs) (λ c. search needs) (λ c κs. search needs) returns returns-2)

@@ -7,12 +7,6 @@ use borrow.Author.Needs.{needs}
 use Rattle.fordcask.proofs.plain.fordcask_align.Statement.{statement}
 use Rattle.fordcask.proofs.plain.fordcask_align.Tie as tie
 
-align-requires : tie.Need-align-requires
-align-requires c κs = search needs
-
-into-parts-requires : tie.Need-into-parts-requires
-into-parts-requires c κs = search needs
-
 returns : tie.Need-returns
 returns c =
     let s = c .before .before in
@@ -21,4 +15,4 @@ returns c =
     (rw (toZ-ofZ w64 (s .args .lat) (s .fits .lat), toZ-ofZ w64 (s .args .lon) (s .fits .lon)) at (c .before .align .ensures))
 
 pub fordcask-align-spec : {M : Type 1} → statement M
-fordcask-align-spec = tie.close (tie.spec align-requires into-parts-requires returns)
+fordcask-align-spec = tie.close (tie.spec (λ c κs. search needs) (λ c κs. search needs) returns)

@@ -7,16 +7,10 @@ use borrow.Author.Needs.{needs}
 use Rattle.fordcask.proofs.plain.fordcask_basic_zone.Statement.{statement}
 use Rattle.fordcask.proofs.plain.fordcask_basic_zone.Tie as tie
 
-basic-zone-requires : tie.Need-basic-zone-requires
-basic-zone-requires c κs = search needs
-
-into-parts-requires : tie.Need-into-parts-requires
-into-parts-requires c κs = search needs
-
 returns : tie.Need-returns
 returns c =
     let s = c .before .before in
     c .into-parts .ensures ∙ ap zoneReport (rw (toZ-ofZ w64 (s .args .lat) (s .fits .lat)) at (c .before .basic-zone .ensures))
 
 pub fordcask-basic-zone-spec : {M : Type 1} → statement M
-fordcask-basic-zone-spec = tie.close (tie.spec basic-zone-requires into-parts-requires returns)
+fordcask-basic-zone-spec = tie.close (tie.spec (λ c κs. search needs) (λ c κs. search needs) returns)

@@ -7,12 +7,6 @@ use borrow.Author.Needs.{needs}
 use Rattle.fordcask.proofs.plain.fordcask_offset.Statement.{statement}
 use Rattle.fordcask.proofs.plain.fordcask_offset.Tie as tie
 
-offset-from-requires : tie.Need-offset-from-requires
-offset-from-requires c κs = search needs
-
-into-parts-requires : tie.Need-into-parts-requires
-into-parts-requires c κs = search needs
-
 returns : tie.Need-returns
 returns c =
     let s = c .before .before in
@@ -25,4 +19,4 @@ returns c =
     ) at (c .before .offset-from .ensures))
 
 pub fordcask-offset-spec : {M : Type 1} → statement M
-fordcask-offset-spec = tie.close (tie.spec offset-from-requires into-parts-requires returns)
+fordcask-offset-spec = tie.close (tie.spec (λ c κs. search needs) (λ c κs. search needs) returns)

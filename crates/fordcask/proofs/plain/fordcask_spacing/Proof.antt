@@ -5,14 +5,8 @@ use borrow.Author.Needs.{needs}
 use Rattle.fordcask.proofs.plain.fordcask_spacing.Statement.{statement}
 use Rattle.fordcask.proofs.plain.fordcask_spacing.Tie as tie
 
-spacing-requires : tie.Need-spacing-requires
-spacing-requires c κs = search needs
-
-into-parts-requires : tie.Need-into-parts-requires
-into-parts-requires c κs = search needs
-
 returns : tie.Need-returns
 returns c = c .into-parts .ensures ∙ ap spacingReport (c .before .spacing .ensures)
 
 pub fordcask-spacing-spec : {M : Type 1} → statement M
-fordcask-spacing-spec = tie.close (tie.spec spacing-requires into-parts-requires returns)
+fordcask-spacing-spec = tie.close (tie.spec (λ c κs. search needs) (λ c κs. search needs) returns)

@@ -7,26 +7,8 @@ use borrow.Author.Needs.{needs}
 use Rattle.lists.proofs.engine.axis_of.Statement.{statement}
 use Rattle.lists.proofs.engine.axis_of.Tie as tie
 
-mul-d : tie.Need-mul-d
-mul-d c = search needs
-
-mul-first : tie.Need-mul-first
-mul-first c = search needs
-
-add-first : tie.Need-add-first
-add-first c = search needs
-
-rem-start-of : tie.Need-rem-start-of
-rem-start-of c = search needs
-
 start-of-requires : tie.Need-start-of-requires
 start-of-requires c κs = mod-lt _ (some _ (c .pre .0))
-
-div-t8 : tie.Need-div-t8
-div-t8 c = search needs
-
-scale-up-requires : tie.Need-scale-up-requires
-scale-up-requires c κs = search needs
 
 scale-up-requires-2 : tie.Need-scale-up-requires-2
 scale-up-requires-2 c κs =
@@ -40,12 +22,12 @@ pub axis-of-spec : {M : Type 1} → statement M
 axis-of-spec =
     tie.close
     (tie.spec
-    mul-d
-    mul-first
-    add-first
-    rem-start-of
+    (λ c. search needs)
+    (λ c. search needs)
+    (λ c. search needs)
+    (λ c. search needs)
     start-of-requires
-    div-t8
-    scale-up-requires
+    (λ c. search needs)
+    (λ c κs. search needs)
     scale-up-requires-2
     returns)

@@ -22,9 +22,6 @@ mul-t6 c = omega (arith, known-laid _ (c .before .before .before .before .pre))
 add-t7 : tie.Need-add-t7
 add-t7 c = omega (arith, known-laid _ (c .before .before .before .before .pre))
 
-mul-t9 : tie.Need-mul-t9
-mul-t9 c = search needs
-
 sub-t10 : tie.Need-sub-t10
 sub-t10 c =
     omega (
@@ -38,9 +35,6 @@ mul-t11 c = omega (arith, known-laid _ (c .before .before .before .before .befor
 
 add-t12 : tie.Need-add-t12
 add-t12 c = omega (arith, known-laid _ (c .before .before .before .before .before .before .pre))
-
-mul-t14 : tie.Need-mul-t14
-mul-t14 c = search needs
 
 returns : tie.Need-returns
 unfolding engineOf
@@ -56,9 +50,9 @@ engine-of-spec =
     add-t5
     mul-t6
     add-t7
-    mul-t9
+    (λ c. search needs)
     sub-t10
     mul-t11
     add-t12
-    mul-t14
+    (λ c. search needs)
     returns)

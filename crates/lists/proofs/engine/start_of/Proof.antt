@@ -3,12 +3,6 @@ use borrow.Author.Needs.{needs}
 use Rattle.lists.proofs.engine.start_of.Statement.{statement}
 use Rattle.lists.proofs.engine.start_of.Tie as tie
 
-sub-result : tie.Need-sub-result
-sub-result c = search needs
-
-sub-result-2 : tie.Need-sub-result-2
-sub-result-2 c = search needs
-
 returns : tie.Need-returns
 returns c = rw (c .if1 .taken)
 
@@ -16,4 +10,4 @@ returns-2 : tie.Need-returns-2
 returns-2 c = rw (c .if1 .left)
 
 pub start-of-spec : {M : Type 1} → statement M
-start-of-spec = tie.close (tie.spec sub-result sub-result-2 returns returns-2)
+start-of-spec = tie.close (tie.spec (λ c. search needs) (λ c. search needs) returns returns-2)

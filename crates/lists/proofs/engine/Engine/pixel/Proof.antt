@@ -38,29 +38,11 @@ found c =
       same = ap₂ (pixelAt k) (c .before .row-at .ensures ∙ ap (rowOf k) (i .rows .same)) (c .column-at .ensures ∙ ap (columnOf k) (i .columns .same));
     }
 
-count-position-requires : tie.Need-count-position-requires
-count-position-requires c κs = search needs
-
-enum-known-north : tie.Need-enum-known-north
-enum-known-north c = search needs
-
 row-at-requires : tie.Need-row-at-requires
 row-at-requires c κs = (c .before .before .before .before .pre, counts c .rows .high)
 
 column-at-requires : tie.Need-column-at-requires
 column-at-requires c κs = (c .before .before .before .before .before .pre, counts (c .before) .columns .high)
-
-judge-pixel-requires : tie.Need-judge-pixel-requires
-judge-pixel-requires c κs = search needs
-
-enum-told : tie.Need-enum-told
-enum-told c = search needs
-
-enum-known-r : tie.Need-enum-known-r
-enum-known-r c = search needs
-
-enum-known-r-2 : tie.Need-enum-known-r-2
-enum-known-r-2 c = search needs
 
 returns : tie.Need-returns
 unfolding pixelOf
@@ -102,14 +84,14 @@ pub pixel-spec : {M : Type 1} → statement M
 pixel-spec =
     tie.close
     (tie.spec
-    count-position-requires
-    enum-known-north
+    (λ c κs. search needs)
+    (λ c. search needs)
     row-at-requires
     column-at-requires
-    judge-pixel-requires
-    enum-told
-    enum-known-r
-    enum-known-r-2
+    (λ c κs. search needs)
+    (λ c. search needs)
+    (λ c. search needs)
+    (λ c. search needs)
     returns
     returns-2
     returns-3)

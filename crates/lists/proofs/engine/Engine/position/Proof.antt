@@ -34,12 +34,6 @@ inside : (c : tie.After-enum-told)
     (c .before .before .before .before .args .column)
 inside c = tiles-inside _ _ _ (tests c .0)
 
-judge-pixel-requires : tie.Need-judge-pixel-requires
-judge-pixel-requires c κs = search needs
-
-enum-told : tie.Need-enum-told
-enum-told c = search needs
-
 cast-north-of : tie.Need-cast-north-of
 cast-north-of c =
     let s = c .before .before .before .before in
@@ -61,9 +55,6 @@ cast-difference c =
       c .north-of .ensures,
     )
 
-difference-requires : tie.Need-difference-requires
-difference-requires c κs = search needs
-
 cast-east-of : tie.Need-cast-east-of
 cast-east-of c =
     let s = c .before .before .before .before .before .before in
@@ -72,15 +63,6 @@ cast-east-of c =
 east-of-requires : tie.Need-east-of-requires
 east-of-requires c κs =
     let s = c .before .before .before .before .before .before in (s .pre, cast-below _ (s .args .column) (s .fits .column) (inside (c .before .before) .column))
-
-cast-difference-2 : tie.Need-cast-difference-2
-cast-difference-2 c = search needs
-
-difference-requires-2 : tie.Need-difference-requires-2
-difference-requires-2 c κs = search needs
-
-enum-known-r : tie.Need-enum-known-r
-enum-known-r c = search needs
 
 returns : tie.Need-returns
 unfolding positionOf
@@ -116,16 +98,16 @@ pub position-spec : {M : Type 1} → statement M
 position-spec =
     tie.close
     (tie.spec
-    judge-pixel-requires
-    enum-told
+    (λ c κs. search needs)
+    (λ c. search needs)
     cast-north-of
     north-of-requires
     cast-difference
-    difference-requires
+    (λ c κs. search needs)
     cast-east-of
     east-of-requires
-    cast-difference-2
-    difference-requires-2
-    enum-known-r
+    (λ c. search needs)
+    (λ c κs. search needs)
+    (λ c. search needs)
     returns
     returns-2)

@@ -31,9 +31,6 @@ cast-difference c =
 cast-difference-2 : tie.Need-cast-difference-2
 cast-difference-2 c = omega (arith, laid _ (c .before .before .before .pre .0))
 
-difference-requires : tie.Need-difference-requires
-difference-requires c κs = search needs
-
 returns : tie.Need-returns
 returns c =
     let s = c .before .before .before .before in
@@ -47,4 +44,4 @@ returns c =
 pub row-at-spec : {M : Type 1} → statement M
 row-at-spec =
     tie.close
-    (tie.spec mul-rows sub-rows cast-difference cast-difference-2 difference-requires returns)
+    (tie.spec mul-rows sub-rows cast-difference cast-difference-2 (λ c κs. search needs) returns)

@@ -3,32 +3,14 @@ use mathlib.Core.Path.{refl, ap, _∙_}
 use Rattle.arc.specs.Refusals.{refusalOf}
 use Rattle.card.proofs.Questions.{card-known}
 use borrow.Author.Needs.{needs}
-use Rattle.fordcask.proofs.pairs.list_on_card.Statement.{statement}
-use Rattle.fordcask.proofs.pairs.list_on_card.Tie as tie
-
-read-card-requires : tie.Need-read-card-requires
-read-card-requires c κs = search needs
-
-enum-told : tie.Need-enum-told
-enum-told c = search needs
+use Rattle.fordcask.proofs.cards.list_on_card.Statement.{statement}
+use Rattle.fordcask.proofs.cards.list_on_card.Tie as tie
 
 answer-list-requires : tie.Need-answer-list-requires
 answer-list-requires c κs =
     let s = c .before .before .before .before .before .before .before .before in
     card-known (s .args .scale) (s .args .zone) (s .args .card .now) (c .before .before .before .before .before .read-card .ensures)
     (c .before .before .enum-told .given .1)
-
-refusal-requires : tie.Need-refusal-requires
-refusal-requires c κs = search needs
-
-enum-known-verdict : tie.Need-enum-known-verdict
-enum-known-verdict c = search needs
-
-same-length : tie.Need-same-length
-same-length c = search needs
-
-same-length-2 : tie.Need-same-length-2
-same-length-2 c = search needs
 
 returns : tie.Need-returns
 returns c =
@@ -44,12 +26,12 @@ pub list-on-card-spec : {M : Type 1} → statement M
 list-on-card-spec =
     tie.close
     (tie.spec
-    read-card-requires
-    enum-told
+    (λ c κs. search needs)
+    (λ c. search needs)
     answer-list-requires
-    refusal-requires
-    enum-known-verdict
-    same-length
-    same-length-2
+    (λ c κs. search needs)
+    (λ c. search needs)
+    (λ c. search needs)
+    (λ c. search needs)
     returns
     returns-2)
