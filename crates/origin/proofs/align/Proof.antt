@@ -14,20 +14,11 @@ spaced : (c : tie.After-known-told)
     ≡ SpacingAnswer.Constants (c .before .a .given .0 .0) (c .before .a .given .0 .1 .0)
 spaced c = sym (c .before .before .before .spacing .ensures) ∙ c .before .a .given .1
 
-spacing-requires : tie.Need-spacing-requires
-spacing-requires c κs = search needs
-
-enum-known-a : tie.Need-enum-known-a
-enum-known-a c = search needs
-
 align-in-requires : tie.Need-align-in-requires
 align-in-requires c κs =
     let s = c .before .before .before .before in
     let g = answered-grids (s .args .scale) (s .args .zone) _ _ (spaced c) in
     (g .columns, g .rows)
-
-enum-known-r : tie.Need-enum-known-r
-enum-known-r c = search needs
 
 returns : tie.Need-returns
 returns c =
@@ -41,4 +32,4 @@ returns-2 c = rw (sym (c .before .before .before .spacing .ensures) ∙ c .befor
 pub align-spec : {M : Type 1} → statement M
 align-spec =
     tie.close
-    (tie.spec spacing-requires enum-known-a align-in-requires enum-known-r returns returns-2)
+    (tie.spec (λ c κs. search needs) (λ c. search needs) align-in-requires (λ c. search needs) returns returns-2)

@@ -21,47 +21,17 @@ lon-inside c =
     let s = c .before .before .before .before .before .before .before .before .before .before in
     counted-from half (s .args .lon) (s .fits .lon) (c .before .before .before .count-from2 .ensures) (c .before .east .given .1)
 
-is-polar-requires : tie.Need-is-polar-requires
-is-polar-requires c κs = search needs
-
 not-polar : (c : tie.Else1) → isPolar (c .before .before .args .zone) ≡ false
 not-polar c = sym (c .before .is-polar .ensures) ∙ c .if1 .left
 
-refused-requires : tie.Need-refused-requires
-refused-requires c κs = search needs
-
 returns : tie.Need-returns
 returns c = rw (sym (c .before .before .is-polar .ensures) ∙ c .before .if1 .taken) (ap OriginAnswer.Refused (c .refused .ensures))
-
-count-from-requires : tie.Need-count-from-requires
-count-from-requires c κs = search needs
-
-enum-known-north : tie.Need-enum-known-north
-enum-known-north c = search needs
-
-enum-told : tie.Need-enum-told
-enum-told c = search needs
-
-refused-requires-2 : tie.Need-refused-requires-2
-refused-requires-2 c κs = search needs
 
 returns-2 : tie.Need-returns-2
 returns-2 c =
     let s = c .before .before .before .before .before .before in
     let out = counted-outside quarter (s .args .lat) (s .fits .lat) (c .before .before .before .count-from .ensures) (c .before .enum-told .given .1) in
     rw (not-polar (c .before .before .before .before), out) (ap OriginAnswer.Refused (c .refused2 .ensures))
-
-count-from-requires-2 : tie.Need-count-from-requires-2
-count-from-requires-2 c κs = search needs
-
-enum-known-east : tie.Need-enum-known-east
-enum-known-east c = search needs
-
-enum-told-2 : tie.Need-enum-told-2
-enum-told-2 c = search needs
-
-refused-requires-3 : tie.Need-refused-requires-3
-refused-requires-3 c κs = search needs
 
 returns-3 : tie.Need-returns-3
 returns-3 c =
@@ -91,18 +61,18 @@ pub align-in-spec : {M : Type 1} → statement M
 align-in-spec =
     tie.close
     (tie.spec
-    is-polar-requires
-    refused-requires
+    (λ c κs. search needs)
+    (λ c κs. search needs)
     returns
-    count-from-requires
-    enum-known-north
-    enum-told
-    refused-requires-2
+    (λ c κs. search needs)
+    (λ c. search needs)
+    (λ c. search needs)
+    (λ c κs. search needs)
     returns-2
-    count-from-requires-2
-    enum-known-east
-    enum-told-2
-    refused-requires-3
+    (λ c κs. search needs)
+    (λ c. search needs)
+    (λ c. search needs)
+    (λ c κs. search needs)
     returns-3
     origin-at-requires
     returns-4)

@@ -47,38 +47,17 @@ same e f g h = cc
 mul-rows : tie.Need-mul-rows
 mul-rows c = fits-mul 64800000 80076800 tt (c .pre .1 .1 .0) (c .pre .1 .0 .most)
 
-sub-rows : tie.Need-sub-rows
-sub-rows c = search needs
-
 add-rows : tie.Need-add-rows
 add-rows c = omega (arith, mul-le-mul (c .pre .1 .1 .0) (c .pre .1 .0 .most))
 
 mul-columns : tie.Need-mul-columns
 mul-columns c = fits-mul 129600000 80076800 tt (c .pre .1 .1 .1) (c .pre .0 .most)
 
-stored-at-requires : tie.Need-stored-at-requires
-stored-at-requires c κs = search needs
-
-stored-at-requires-2 : tie.Need-stored-at-requires-2
-stored-at-requires-2 c κs = search needs
-
 cast-difference : tie.Need-cast-difference
 cast-difference c = omega (arith, rows-high (c .before .before))
 
-cast-difference-2 : tie.Need-cast-difference-2
-cast-difference-2 c = search needs
-
-difference-requires : tie.Need-difference-requires
-difference-requires c κs = search needs
-
 cast-difference-3 : tie.Need-cast-difference-3
 cast-difference-3 c = omega (arith, columns-high (c .before .before .before))
-
-cast-difference-4 : tie.Need-cast-difference-4
-cast-difference-4 c = search needs
-
-difference-requires-2 : tie.Need-difference-requires-2
-difference-requires-2 c κs = search needs
 
 cast-difference-5 : tie.Need-cast-difference-5
 cast-difference-5 c =
@@ -86,17 +65,11 @@ cast-difference-5 c =
     let e = from-near _ _ (c .before .before .before .stored-at .ensures) (few (s .pre .1 .0) (omega (arith, rows-high s))) in
     omega (arith, stored-high (rows s) _ (rows-high s))
 
-difference-requires-3 : tie.Need-difference-requires-3
-difference-requires-3 c κs = search needs
-
 cast-difference-6 : tie.Need-cast-difference-6
 cast-difference-6 c =
     let s = c .before .before .before .before .before in
     let e = from-near _ _ (c .before .before .before .stored-at2 .ensures) (few (s .pre .0) (columns-high s)) in
     omega (arith, stored-high (columns s) _ (columns-high s))
-
-difference-requires-4 : tie.Need-difference-requires-4
-difference-requires-4 c κs = search needs
 
 returns : tie.Need-returns
 unfolding originOf
@@ -117,19 +90,19 @@ origin-at-spec =
     tie.close
     (tie.spec
     mul-rows
-    sub-rows
+    (λ c. search needs)
     add-rows
     mul-columns
-    stored-at-requires
-    stored-at-requires-2
+    (λ c κs. search needs)
+    (λ c κs. search needs)
     cast-difference
-    cast-difference-2
-    difference-requires
+    (λ c. search needs)
+    (λ c κs. search needs)
     cast-difference-3
-    cast-difference-4
-    difference-requires-2
+    (λ c. search needs)
+    (λ c κs. search needs)
     cast-difference-5
-    difference-requires-3
+    (λ c κs. search needs)
     cast-difference-6
-    difference-requires-4
+    (λ c κs. search needs)
     returns)

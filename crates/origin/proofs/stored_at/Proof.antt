@@ -12,14 +12,8 @@ returns : tie.Need-returns
 unfolding storedFrom
 returns c = rw (lt-ltb circle (c .before .args .tiles) (c .if1 .taken))
 
-mul-nearest : tie.Need-mul-nearest
-mul-nearest c = search needs
-
-nearest-requires : tie.Need-nearest-requires
-nearest-requires c κs = search needs
-
 returns-2 : tie.Need-returns-2
 returns-2 c = c .nearest .ensures ∙ sym (from-near _ _ refl (c .before .if1 .left))
 
 pub stored-at-spec : {M : Type 1} → statement M
-stored-at-spec = tie.close (tie.spec returns mul-nearest nearest-requires returns-2)
+stored-at-spec = tie.close (tie.spec returns (λ c. search needs) (λ c κs. search needs) returns-2)

@@ -6,12 +6,6 @@ use borrow.Author.Needs.{needs}
 use Rattle.tiles.proofs.entry_says.Statement.{statement}
 use Rattle.tiles.proofs.entry_says.Tie as tie
 
-mul-e : tie.Need-mul-e
-mul-e c = search needs
-
-shared-slice-read-e : tie.Need-shared-slice-read-e
-shared-slice-read-e c = search needs
-
 cast-e : tie.Need-cast-e
 cast-e c = omega (arith, c .shared-slice-known .given (c .before .args .tile))
 
@@ -25,4 +19,4 @@ returns-3 : tie.Need-returns-3
 returns-3 c = sym (said-stored _ _ (c .before .if1 .left) (c .if2 .left))
 
 pub entry-says-spec : {M : Type 1} → statement M
-entry-says-spec = tie.close (tie.spec mul-e shared-slice-read-e cast-e returns returns-2 returns-3)
+entry-says-spec = tie.close (tie.spec (λ c. search needs) (λ c. search needs) cast-e returns returns-2 returns-3)

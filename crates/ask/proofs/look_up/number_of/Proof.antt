@@ -4,31 +4,16 @@ use Rattle.card.proofs.Questions.{card-known}
 use Rattle.ask.proofs.look_up.number_of.Statement.{statement}
 use Rattle.ask.proofs.look_up.number_of.Tie as tie
 
-read-card-requires : tie.Need-read-card-requires
-read-card-requires c κs = search needs
-
-enum-told : tie.Need-enum-told
-enum-told c = search needs
-
 stored-number-requires : tie.Need-stored-number-requires
 stored-number-requires c κs = card-known _ _ _ (c .before .before .before .read-card .ensures) (c .enum-told .given .1)
-
-enum-known-verdict : tie.Need-enum-known-verdict
-enum-known-verdict c = search needs
-
-returns : tie.Need-returns
-returns c = search needs
-
-returns-2 : tie.Need-returns-2
-returns-2 c = search needs
 
 pub number-of-spec : {M : Type 1} → statement M
 number-of-spec =
     tie.close
     (tie.spec
-    read-card-requires
-    enum-told
+    (λ c κs. search needs)
+    (λ c. search needs)
     stored-number-requires
-    enum-known-verdict
-    returns
-    returns-2)
+    (λ c. search needs)
+    (λ c. search needs)
+    (λ c. search needs))

@@ -13,31 +13,16 @@ not-nan nan y e = absurd (subst T (sym e) tt)
 not-nan (inf s) y e = tt
 not-nan (fin s m k) y e = tt
 
-slice-aggregate-text : tie.Need-slice-aggregate-text
-slice-aggregate-text c = search needs
-
-text-requires : tie.Need-text-requires
-text-requires c κs = search needs
-
 float-to-bits-print-hex : tie.Need-float-to-bits-print-hex
 float-to-bits-print-hex c = not-nan _ _ (c .before .before .if1 .taken)
-
-print-hex-requires : tie.Need-print-hex-requires
-print-hex-requires c κs = search needs
-
-returns : tie.Need-returns
-returns c = search needs
-
-returns-2 : tie.Need-returns-2
-returns-2 c = search needs
 
 pub bits-spec : {M : Type 1} → statement M
 bits-spec =
     tie.close
     (tie.spec
-    slice-aggregate-text
-    text-requires
+    (λ c. search needs)
+    (λ c κs. search needs)
     float-to-bits-print-hex
-    print-hex-requires
-    returns
-    returns-2)
+    (λ c κs. search needs)
+    (λ c. search needs)
+    (λ c. search needs))

@@ -10,18 +10,6 @@ truncating-f64-to-i64-requires : tie.Need-truncating-f64-to-i64-requires
 unfolding ofBits neg
 truncating-f64-to-i64-requires c κs = (subst T (sym (c .before .if1 .taken)) tt, subst T (sym (c .if2 .taken)) tt)
 
-signed-requires : tie.Need-signed-requires
-signed-requires c κs = search needs
-
-returns : tie.Need-returns
-returns c = search needs
-
-returns-2 : tie.Need-returns-2
-returns-2 c = search needs
-
-returns-3 : tie.Need-returns-3
-returns-3 c = search needs
-
 pub double-spec : {M : Type 1} → statement M
 double-spec =
-    tie.close (tie.spec truncating-f64-to-i64-requires signed-requires returns returns-2 returns-3)
+    tie.close (tie.spec truncating-f64-to-i64-requires (λ c κs. search needs) (λ c. search needs) (λ c. search needs) (λ c. search needs))

@@ -9,25 +9,10 @@ use borrow.Author.Needs.{needs}
 use Rattle.ask.proofs.word.with_sign.Statement.{statement}
 use Rattle.ask.proofs.word.with_sign.Tie as tie
 
-returns : tie.Need-returns
-returns c = search needs
-
-returns-2 : tie.Need-returns-2
-returns-2 c = search needs
-
-cast-size : tie.Need-cast-size
-cast-size c = search needs
-
 sub-result : tie.Need-sub-result
 sub-result c =
     let n = c .before .before .before .before .args .x .size in
     rw (toZ-pos w64 n (omega arith)) (is-fits (pos 0 -ℤ pos n) 0 n (is-difference 0 n) (omega arith) (omega arith))
 
-returns-3 : tie.Need-returns-3
-returns-3 c = search needs
-
-returns-4 : tie.Need-returns-4
-returns-4 c = search needs
-
 pub with-sign-spec : {M : Type 1} → statement M
-with-sign-spec = tie.close (tie.spec returns returns-2 cast-size sub-result returns-3 returns-4)
+with-sign-spec = tie.close (tie.spec (λ c. search needs) (λ c. search needs) (λ c. search needs) sub-result (λ c. search needs) (λ c. search needs))

@@ -29,9 +29,6 @@ below c =
 mul-nearest : tie.Need-mul-nearest
 mul-nearest c = let s = c .before in fits-mul 129600000 80076800 tt (s .pre .1) (known-laid _ (s .pre .0) .columns .most)
 
-nearest-requires : tie.Need-nearest-requires
-nearest-requires c κs = search needs
-
 turned-requires : tie.Need-turned-requires
 turned-requires c κs =
     let s = c .before .before in
@@ -51,4 +48,4 @@ returns c =
 pub column-at-spec : {M : Type 1} → statement M
 column-at-spec =
     tie.close
-    (tie.spec mul-nearest nearest-requires turned-requires cast-result returns)
+    (tie.spec mul-nearest (λ c κs. search needs) turned-requires cast-result returns)

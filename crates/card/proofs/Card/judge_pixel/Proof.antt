@@ -17,21 +17,12 @@ asked : (s : tie.Start) (P : ℤ → ℤ → Bool) {x t : Bool} → x ≡ P (toZ
     → P (s .args .row) (s .args .column) ≡ t
 asked s P = tested P (s .args .row) (s .args .column) (s .fits .row) (s .fits .column)
 
-in-chart-requires : tie.Need-in-chart-requires
-in-chart-requires c κs = search needs
-
 returns : tie.Need-returns
 returns c =
     let s = c .before .before in
     let k = s .args .self in
     let chart = asked s (inChart k) (c .before .in-chart .ensures) (c .if1 .taken) in
     rw (chart-tiles k (s .args .row) (s .args .column) (known-laid k (s .pre)) chart, chart)
-
-in-tiles-requires : tie.Need-in-tiles-requires
-in-tiles-requires c κs = search needs
-
-refused-requires : tie.Need-refused-requires
-refused-requires c κs = search needs
 
 returns-2 : tie.Need-returns-2
 returns-2 c =
@@ -43,9 +34,6 @@ returns-2 c =
     )
     (ap Verdict.Refused (c .refused .ensures))
 
-refused-requires-2 : tie.Need-refused-requires-2
-refused-requires-2 c κs = search needs
-
 returns-3 : tie.Need-returns-3
 returns-3 c =
     let s = c .before .before .before .before .before in
@@ -56,10 +44,10 @@ pub judge-pixel-spec : {M : Type 1} → statement M
 judge-pixel-spec =
     tie.close
     (tie.spec
-    in-chart-requires
+    (λ c κs. search needs)
     returns
-    in-tiles-requires
-    refused-requires
+    (λ c κs. search needs)
+    (λ c κs. search needs)
     returns-2
-    refused-requires-2
+    (λ c κs. search needs)
     returns-3)

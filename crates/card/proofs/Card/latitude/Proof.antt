@@ -18,17 +18,11 @@ sub-nearest c = omega (arith, known-laid _ (c .before .pre .0))
 mul-nearest : tie.Need-mul-nearest
 mul-nearest c = omega (arith, known-laid _ (c .before .pre .0))
 
-nearest-requires : tie.Need-nearest-requires
-nearest-requires c κs = search needs
-
 cast-difference : tie.Need-cast-difference
 cast-difference c =
     let s = c .before .before in
     let k = s .args .self in
     omega (arith, latitude-high k (known-laid k (s .pre .0)) (k .north - s .args .row) (omega (arith, known-laid k (s .pre .0))), c .nearest .ensures)
-
-difference-requires : tie.Need-difference-requires
-difference-requires c κs = search needs
 
 returns : tie.Need-returns
 returns c =
@@ -41,4 +35,4 @@ returns c =
 pub latitude-spec : {M : Type 1} → statement M
 latitude-spec =
     tie.close
-    (tie.spec sub-nearest mul-nearest nearest-requires cast-difference difference-requires returns)
+    (tie.spec sub-nearest mul-nearest (λ c κs. search needs) cast-difference (λ c κs. search needs) returns)

@@ -18,15 +18,6 @@ add-nearest c = omega (arith, known-laid _ (c .before .pre .0))
 mul-nearest : tie.Need-mul-nearest
 mul-nearest c = omega (arith, known-laid _ (c .before .pre .0))
 
-nearest-requires : tie.Need-nearest-requires
-nearest-requires c κs = search needs
-
-cast-difference : tie.Need-cast-difference
-cast-difference c = search needs
-
-difference-requires : tie.Need-difference-requires
-difference-requires c κs = search needs
-
 returns : tie.Need-returns
 returns c =
     let s = c .before .before .before in
@@ -38,4 +29,4 @@ returns c =
 pub longitude-spec : {M : Type 1} → statement M
 longitude-spec =
     tie.close
-    (tie.spec add-nearest mul-nearest nearest-requires cast-difference difference-requires returns)
+    (tie.spec add-nearest mul-nearest (λ c κs. search needs) (λ c. search needs) (λ c κs. search needs) returns)

@@ -13,23 +13,11 @@ counts : (c : tie.After-known-told)
 counts c =
     let s = c .before .before .before in ranged-at _ _ (s .before .fits .lat) (s .before .fits .lon) (s .count-position .ensures) (c .before .north .given .1)
 
-count-position-requires : tie.Need-count-position-requires
-count-position-requires c κs = search needs
-
-enum-known-north : tie.Need-enum-known-north
-enum-known-north c = search needs
-
 row-at-requires : tie.Need-row-at-requires
 row-at-requires c κs = (c .before .before .before .before .pre, counts c .rows .high)
 
 column-at-requires : tie.Need-column-at-requires
 column-at-requires c κs = (c .before .before .before .before .before .pre, counts (c .before) .columns .high)
-
-pixel-at-requires : tie.Need-pixel-at-requires
-pixel-at-requires c κs = search needs
-
-enum-known-r : tie.Need-enum-known-r
-enum-known-r c = search needs
 
 returns : tie.Need-returns
 unfolding pixelOf
@@ -52,4 +40,4 @@ returns-2 c =
 pub pixel-spec : {M : Type 1} → statement M
 pixel-spec =
     tie.close
-    (tie.spec count-position-requires enum-known-north row-at-requires column-at-requires pixel-at-requires enum-known-r returns returns-2)
+    (tie.spec (λ c κs. search needs) (λ c. search needs) row-at-requires column-at-requires (λ c κs. search needs) (λ c. search needs) returns returns-2)

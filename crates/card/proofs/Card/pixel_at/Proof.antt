@@ -8,15 +8,6 @@ use borrow.Author.Needs.{needs}
 use Rattle.card.proofs.Card.pixel_at.Statement.{statement}
 use Rattle.card.proofs.Card.pixel_at.Tie as tie
 
-judge-pixel-requires : tie.Need-judge-pixel-requires
-judge-pixel-requires c κs = search needs
-
-enum-told : tie.Need-enum-told
-enum-told c = search needs
-
-enum-known-r : tie.Need-enum-known-r
-enum-known-r c = search needs
-
 returns : tie.Need-returns
 returns c =
     let s = c .before .before .before in
@@ -31,4 +22,4 @@ returns-2 c =
     PixelAnswer.Refused _ (c .before .r .given .1)
 
 pub pixel-at-spec : {M : Type 1} → statement M
-pixel-at-spec = tie.close (tie.spec judge-pixel-requires enum-told enum-known-r returns returns-2)
+pixel-at-spec = tie.close (tie.spec (λ c κs. search needs) (λ c. search needs) (λ c. search needs) returns returns-2)

@@ -21,12 +21,6 @@ tiles c =
 inside : (c : tie.Else1) → Inside (c .before .before .args .self) (c .before .before .args .row) (c .before .before .args .column)
 inside c = tiles-inside _ _ _ (tiles c)
 
-in-tiles-requires : tie.Need-in-tiles-requires
-in-tiles-requires c κs = search needs
-
-refused-requires : tie.Need-refused-requires
-refused-requires c κs = search needs
-
 returns : tie.Need-returns
 unfolding placeOf
 returns c =
@@ -66,8 +60,8 @@ pub place-spec : {M : Type 1} → statement M
 place-spec =
     tie.close
     (tie.spec
-    in-tiles-requires
-    refused-requires
+    (λ c κs. search needs)
+    (λ c κs. search needs)
     returns
     cast-place-row
     place-row-requires

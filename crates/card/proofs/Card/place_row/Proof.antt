@@ -20,9 +20,6 @@ cast-difference c = omega (arith, known-laid _ (c .before .pre .0))
 cast-difference-2 : tie.Need-cast-difference-2
 cast-difference-2 c = omega (arith, known-laid _ (c .before .before .pre .0))
 
-difference-requires : tie.Need-difference-requires
-difference-requires c κs = search needs
-
 returns : tie.Need-returns
 returns c =
     let s = c .before .before .before in
@@ -36,4 +33,4 @@ returns c =
 pub place-row-spec : {M : Type 1} → statement M
 place-row-spec =
     tie.close
-    (tie.spec sub-difference cast-difference cast-difference-2 difference-requires returns)
+    (tie.spec sub-difference cast-difference cast-difference-2 (λ c κs. search needs) returns)

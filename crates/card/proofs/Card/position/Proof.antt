@@ -17,12 +17,6 @@ inside c =
     let s = c .before .before .before in
     judged-inside (s .args .self) _ _ (s .fits .row) (s .fits .column) (c .before .before .judge-pixel .ensures) (c .enum-told .given .1)
 
-judge-pixel-requires : tie.Need-judge-pixel-requires
-judge-pixel-requires c κs = search needs
-
-enum-told : tie.Need-enum-told
-enum-told c = search needs
-
 cast-latitude : tie.Need-cast-latitude
 cast-latitude c =
     let s = c .before .before .before in
@@ -39,9 +33,6 @@ cast-longitude c =
 longitude-requires : tie.Need-longitude-requires
 longitude-requires c κs =
     let s = c .before .before .before .before in (s .pre, cast-below _ (s .args .column) (s .fits .column) (inside (c .before) .column))
-
-enum-known-r : tie.Need-enum-known-r
-enum-known-r c = search needs
 
 returns : tie.Need-returns
 unfolding positionOf
@@ -66,12 +57,12 @@ pub position-spec : {M : Type 1} → statement M
 position-spec =
     tie.close
     (tie.spec
-    judge-pixel-requires
-    enum-told
+    (λ c κs. search needs)
+    (λ c. search needs)
     cast-latitude
     latitude-requires
     cast-longitude
     longitude-requires
-    enum-known-r
+    (λ c. search needs)
     returns
     returns-2)

@@ -26,9 +26,6 @@ mul-nearest-2 c = let s = c .before .before .before in fits-mul 64800000 8007680
 sub-nearest : tie.Need-sub-nearest
 sub-nearest c = let s = c .before .before .before in row-fits _ (known-laid _ (s .pre .0)) _ (s .pre .1)
 
-nearest-requires : tie.Need-nearest-requires
-nearest-requires c κs = search needs
-
 cast-difference : tie.Need-cast-difference
 cast-difference c =
     let s = c .before .before .before .before in
@@ -36,9 +33,6 @@ cast-difference c =
 
 cast-difference-2 : tie.Need-cast-difference-2
 cast-difference-2 c = omega (arith, known-laid _ (c .before .before .before .before .pre .0))
-
-difference-requires : tie.Need-difference-requires
-difference-requires c κs = search needs
 
 returns : tie.Need-returns
 returns c =
@@ -57,8 +51,8 @@ row-at-spec =
     mul-nearest
     mul-nearest-2
     sub-nearest
-    nearest-requires
+    (λ c κs. search needs)
     cast-difference
     cast-difference-2
-    difference-requires
+    (λ c κs. search needs)
     returns)

@@ -25,18 +25,6 @@ columns c = result-is (c .short-way .ok) (c .short-way .ensures)
 same : {x x′ y y′ : Float} → x ≡ x′ → y ≡ y′ → _≡_ {A = Offset} (record { lat = x; lon = y }) (record { lat = x′; lon = y′ })
 same e f = cc
 
-cast-difference : tie.Need-cast-difference
-cast-difference c = search needs
-
-cast-difference-2 : tie.Need-cast-difference-2
-cast-difference-2 c = search needs
-
-difference-requires : tie.Need-difference-requires
-difference-requires c κs = search needs
-
-short-way-requires : tie.Need-short-way-requires
-short-way-requires c κs = search needs
-
 int-to-float-t9 : tie.Need-int-to-float-t9
 int-to-float-t9 c =
     let a = c .before .before .before .args in
@@ -58,10 +46,10 @@ pub offset-at-spec : {M : Type 1} → statement M
 offset-at-spec =
     tie.close
     (tie.spec
-    cast-difference
-    cast-difference-2
-    difference-requires
-    short-way-requires
+    (λ c. search needs)
+    (λ c. search needs)
+    (λ c κs. search needs)
+    (λ c κs. search needs)
     int-to-float-t9
     int-to-float-t10
     returns)

@@ -22,28 +22,10 @@ centre c =
     let s = c .before .before .before .before .before .before .before .before in
     ranged-at _ _ (s .fits .clat) (s .fits .clon) (c .before .before .before .count-position2 .ensures) (c .before .cnorth .given .1)
 
-count-position-requires : tie.Need-count-position-requires
-count-position-requires c κs = search needs
-
-enum-known-north : tie.Need-enum-known-north
-enum-known-north c = search needs
-
-count-position-requires-2 : tie.Need-count-position-requires-2
-count-position-requires-2 c κs = search needs
-
-enum-known-cnorth : tie.Need-enum-known-cnorth
-enum-known-cnorth c = search needs
-
 offset-at-requires : tie.Need-offset-at-requires
 offset-at-requires c κs =
     let p = counts (c .before .before .before .before) in
     (p .rows .high, (p .columns .high, (centre c .rows .high, centre c .columns .high)))
-
-enum-known-r : tie.Need-enum-known-r
-enum-known-r c = search needs
-
-enum-known-r-2 : tie.Need-enum-known-r-2
-enum-known-r-2 c = search needs
 
 returns : tie.Need-returns
 unfolding offsetOf
@@ -74,13 +56,13 @@ pub offset-from-spec : {M : Type 1} → statement M
 offset-from-spec =
     tie.close
     (tie.spec
-    count-position-requires
-    enum-known-north
-    count-position-requires-2
-    enum-known-cnorth
+    (λ c κs. search needs)
+    (λ c. search needs)
+    (λ c κs. search needs)
+    (λ c. search needs)
     offset-at-requires
-    enum-known-r
-    enum-known-r-2
+    (λ c. search needs)
+    (λ c. search needs)
     returns
     returns-2
     returns-3)

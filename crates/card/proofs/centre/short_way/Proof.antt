@@ -9,18 +9,6 @@ use borrow.Author.Needs.{needs}
 use Rattle.card.proofs.centre.short_way.Statement.{statement}
 use Rattle.card.proofs.centre.short_way.Tie as tie
 
-add-difference : tie.Need-add-difference
-add-difference c = search needs
-
-sub-difference : tie.Need-sub-difference
-sub-difference c = search needs
-
-cast-difference : tie.Need-cast-difference
-cast-difference c = search needs
-
-difference-requires : tie.Need-difference-requires
-difference-requires c κs = search needs
-
 returns : tie.Need-returns
 returns c =
     let s = c .before in
@@ -31,4 +19,4 @@ returns c =
 
 pub short-way-spec : {M : Type 1} → statement M
 short-way-spec =
-    tie.close (tie.spec add-difference sub-difference cast-difference difference-requires returns)
+    tie.close (tie.spec (λ c. search needs) (λ c. search needs) (λ c. search needs) (λ c κs. search needs) returns)

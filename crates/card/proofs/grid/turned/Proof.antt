@@ -11,12 +11,6 @@ use Rattle.card.proofs.grid.turned.Tie as tie
 round : (x y k a : ℕ) → x < a → y ≡ x + k * a → x ≡ y % a
 round x y k a h e = sym (mod-eq-of-lt h) ∙ sym (add-mul-mod-self-right x k a) ∙ ap (λ (n : ℕ). n % a) (sym e)
 
-sub-result : tie.Need-sub-result
-sub-result c = search needs
-
-add-result : tie.Need-add-result
-add-result c = search needs
-
 returns : tie.Need-returns
 returns c = let s = c .before .args in round (s .v + (s .a - s .s)) _ 0 (s .a) (omega arith) (omega arith)
 
@@ -27,4 +21,4 @@ returns-3 : tie.Need-returns-3
 returns-3 c = let s = c .before .before .args in round (s .v - s .s) (s .v + (s .a - s .s)) 1 (s .a) (omega arith) (omega arith)
 
 pub turned-spec : {M : Type 1} → statement M
-turned-spec = tie.close (tie.spec sub-result add-result returns returns-2 returns-3)
+turned-spec = tie.close (tie.spec (λ c. search needs) (λ c. search needs) returns returns-2 returns-3)

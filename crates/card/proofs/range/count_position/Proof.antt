@@ -13,35 +13,11 @@ lat-inside c =
     let s = c .before .before .before .before in
     counted-from quarter (s .args .lat) (s .fits .lat) (c .before .before .before .count-from .ensures) (c .before .north .given .1)
 
-count-from-requires : tie.Need-count-from-requires
-count-from-requires c κs = search needs
-
-enum-known-north : tie.Need-enum-known-north
-enum-known-north c = search needs
-
-enum-told : tie.Need-enum-told
-enum-told c = search needs
-
-refused-requires : tie.Need-refused-requires
-refused-requires c κs = search needs
-
 returns : tie.Need-returns
 returns c =
     let s = c .before .before .before .before in
     rw (counted-outside quarter (s .args .lat) (s .fits .lat) (c .before .before .before .count-from .ensures) (c .before .enum-told .given .1))
     (ap Ranged.Refused (c .refused .ensures))
-
-count-from-requires-2 : tie.Need-count-from-requires-2
-count-from-requires-2 c κs = search needs
-
-enum-known-east : tie.Need-enum-known-east
-enum-known-east c = search needs
-
-enum-told-2 : tie.Need-enum-told-2
-enum-told-2 c = search needs
-
-refused-requires-2 : tie.Need-refused-requires-2
-refused-requires-2 c κs = search needs
 
 returns-2 : tie.Need-returns-2
 returns-2 c =
@@ -63,14 +39,14 @@ pub count-position-spec : {M : Type 1} → statement M
 count-position-spec =
     tie.close
     (tie.spec
-    count-from-requires
-    enum-known-north
-    enum-told
-    refused-requires
+    (λ c κs. search needs)
+    (λ c. search needs)
+    (λ c. search needs)
+    (λ c κs. search needs)
     returns
-    count-from-requires-2
-    enum-known-east
-    enum-told-2
-    refused-requires-2
+    (λ c κs. search needs)
+    (λ c. search needs)
+    (λ c. search needs)
+    (λ c κs. search needs)
     returns-2
     returns-3)

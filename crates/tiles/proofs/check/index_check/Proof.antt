@@ -18,30 +18,15 @@ right : (c : tie.Else1) → let a = c .before .before .before .before .args in
     indexWrong (a .k) (a .index .now) (a .count) ≡ false
 right c = sym (c .before .index-wrong .ensures) ∙ c .if1 .left
 
-index-wrong-requires : tie.Need-index-wrong-requires
-index-wrong-requires c κs = search needs
-
-refused-requires : tie.Need-refused-requires
-refused-requires c κs = search needs
-
 returns : tie.Need-returns
 unfolding checkOf marksOf
 returns c = rw (sym (c .before .before .index-wrong .ensures) ∙ c .before .if1 .taken)
     (ap Verdict.Refused (c .refused .ensures), refl)
 
-refused-requires-2 : tie.Need-refused-requires-2
-refused-requires-2 c κs = search needs
-
 returns-2 : tie.Need-returns-2
 unfolding checkOf marksOf
 returns-2 c = rw (right (c .before .before), lt-ltb _ _ (c .before .if2 .taken))
     (ap Verdict.Refused (c .refused2 .ensures), refl)
-
-fill-requires : tie.Need-fill-requires
-fill-requires c κs = search needs
-
-same-length : tie.Need-same-length
-same-length c = search needs
 
 returns-3 : tie.Need-returns-3
 unfolding checkOf marksOf
@@ -53,9 +38,6 @@ returns-3 c =
       not-true (a .k .tif) (c .before .before .before .before .if3 .taken),
     ) (refl, c .before .before .fill .ensures)
 
-fill-requires-2 : tie.Need-fill-requires-2
-fill-requires-2 c κs = search needs
-
 mark-entries-requires : tie.Need-mark-entries-requires
 mark-entries-requires c κs =
     let a = c .before .before .before .before .before .before .before .before .before .before .before .before .args in
@@ -63,9 +45,6 @@ mark-entries-requires c κs =
     let h = c .before .before .before .before .before .before .before .if2 .left in
     let e = c .before .before .before .fill2 .ensures in
     (omega (arith, filled-length 0 (a .count) (a .marks .now) l h e), filled-listed 0 (a .count) (a .marks .now) l h e)
-
-same-length-2 : tie.Need-same-length-2
-same-length-2 c = search needs
 
 returns-4 : tie.Need-returns-4
 unfolding checkOf marksOf
@@ -85,15 +64,15 @@ pub index-check-spec : {M : Type 1} → statement M
 index-check-spec =
     tie.close
     (tie.spec
-    index-wrong-requires
-    refused-requires
+    (λ c κs. search needs)
+    (λ c κs. search needs)
     returns
-    refused-requires-2
+    (λ c κs. search needs)
     returns-2
-    fill-requires
-    same-length
+    (λ c κs. search needs)
+    (λ c. search needs)
     returns-3
-    fill-requires-2
+    (λ c κs. search needs)
     mark-entries-requires
-    same-length-2
+    (λ c. search needs)
     returns-4)

@@ -22,47 +22,17 @@ lies c = let s = c .before .before .before .before .before .before in
 long : (c : tie.After-part) → length (c .part .result .now) ≡ 49152
 long c = ap length (c .part .ensures) ∙ part-length _ _ _ (lies (c .before))
 
-stored-number-requires : tie.Need-stored-number-requires
-stored-number-requires c κs = search needs
-
-enum-known-n : tie.Need-enum-known-n
-enum-known-n c = search needs
-
 part-requires : tie.Need-part-requires
 part-requires c κs = let h = lies c in (h .some, part-ends _ _ _ h)
-
-size-requires : tie.Need-size-requires
-size-requires c κs = search needs
-
-mul-i : tie.Need-mul-i
-mul-i c = search needs
-
-size-requires-2 : tie.Need-size-requires-2
-size-requires-2 c κs = search needs
-
-add-i : tie.Need-add-i
-add-i c = search needs
 
 shared-slice-read-t20 : tie.Need-shared-slice-read-t20
 shared-slice-read-t20 c = omega (arith, long (c .before .before .before))
 
-add-t21 : tie.Need-add-t21
-add-t21 c = search needs
-
 shared-slice-read-t23 : tie.Need-shared-slice-read-t23
 shared-slice-read-t23 c = omega (arith, long (c .before .before .before .before))
 
-mul-t24 : tie.Need-mul-t24
-mul-t24 c = search needs
-
-add-t25 : tie.Need-add-t25
-add-t25 c = search needs
-
 shared-slice-read-t27 : tie.Need-shared-slice-read-t27
 shared-slice-read-t27 c = omega (arith, long (c .before .before .before .before .before))
-
-enum-known-e : tie.Need-enum-known-e
-enum-known-e c = search needs
 
 returns : tie.Need-returns
 returns c =
@@ -84,19 +54,19 @@ pub bands-spec : {M : Type 1} → statement M
 bands-spec =
     tie.close
     (tie.spec
-    stored-number-requires
-    enum-known-n
+    (λ c κs. search needs)
+    (λ c. search needs)
     part-requires
-    size-requires
-    mul-i
-    size-requires-2
-    add-i
+    (λ c κs. search needs)
+    (λ c. search needs)
+    (λ c κs. search needs)
+    (λ c. search needs)
     shared-slice-read-t20
-    add-t21
+    (λ c. search needs)
     shared-slice-read-t23
-    mul-t24
-    add-t25
+    (λ c. search needs)
+    (λ c. search needs)
     shared-slice-read-t27
-    enum-known-e
+    (λ c. search needs)
     returns
     returns-2)

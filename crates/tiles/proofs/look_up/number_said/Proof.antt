@@ -5,21 +5,6 @@ use Rattle.tiles.specs.declared.NumberAnswer.{NumberAnswer}
 use Rattle.tiles.proofs.look_up.number_said.Statement.{statement}
 use Rattle.tiles.proofs.look_up.number_said.Tie as tie
 
-enum-known-said : tie.Need-enum-known-said
-enum-known-said c = search needs
-
-enum-told : tie.Need-enum-told
-enum-told c = search needs
-
-refused-requires : tie.Need-refused-requires
-refused-requires c κs = search needs
-
-enum-told-2 : tie.Need-enum-told-2
-enum-told-2 c = search needs
-
-bad-entry-requires : tie.Need-bad-entry-requires
-bad-entry-requires c κs = search needs
-
 returns : tie.Need-returns
 returns c = rw (c .before .said .given .1)
 
@@ -33,11 +18,11 @@ pub number-said-spec : {M : Type 1} → statement M
 number-said-spec =
     tie.close
     (tie.spec
-    enum-known-said
-    enum-told
-    refused-requires
-    enum-told-2
-    bad-entry-requires
+    (λ c. search needs)
+    (λ c. search needs)
+    (λ c κs. search needs)
+    (λ c. search needs)
+    (λ c κs. search needs)
     returns
     returns-2
     returns-3)

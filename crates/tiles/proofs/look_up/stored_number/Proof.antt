@@ -73,12 +73,6 @@ here c =
     ap₂ (λ (x y : ℕ). x / 128 * s .args .k .nfc + y / 128) (rows (c .before .before))
     (c .size2 .ensures ∙ ap natAbs (toZ-ofZ w64 (s .args .column) (s .fits .column)))
 
-index-wrong-requires : tie.Need-index-wrong-requires
-index-wrong-requires c κs = search needs
-
-refused-requires : tie.Need-refused-requires
-refused-requires c κs = search needs
-
 returns : tie.Need-returns
 unfolding numberOf
 returns c = rw (sym (c .before .before .index-wrong .ensures) ∙ c .before .if1 .taken)
@@ -88,29 +82,14 @@ mul-if2 : tie.Need-mul-if2
 mul-if2 c = let s = c .before .before .before .before in
     omega (arith, tiles-small _ (s .pre), count-most _ _ _ (right c))
 
-refused-requires-2 : tie.Need-refused-requires-2
-refused-requires-2 c κs = search needs
-
 returns-2 : tie.Need-returns-2
 unfolding numberOf
 returns-2 c = rw (right (c .before .before), ne-eqb _ _ (c .before .if2 .taken))
     (ap NumberAnswer.Refused (c .refused2 .ensures))
 
-judge-pixel-requires : tie.Need-judge-pixel-requires
-judge-pixel-requires c κs = search needs
-
-enum-told : tie.Need-enum-told
-enum-told c = search needs
-
-size-requires : tie.Need-size-requires
-size-requires c κs = search needs
-
 mul-tile : tie.Need-mul-tile
 mul-tile c = let a = c .before .before .before .before .before .before .before .before .before .before .args in
     omega (arith, small (c .before .before), ap (λ (x : ℕ). x / 128 * a .k .nfc) (rows (c .before)))
-
-size-requires-2 : tie.Need-size-requires-2
-size-requires-2 c κs = search needs
 
 add-tile : tie.Need-add-tile
 add-tile c = omega (arith, small (c .before .before .before), here c)
@@ -123,12 +102,6 @@ index-says-requires c κs = (
     rw (here c) (inside (c .before .before .before)),
   ),
 )
-
-number-said-requires : tie.Need-number-said-requires
-number-said-requires c κs = search needs
-
-enum-known-e : tie.Need-enum-known-e
-enum-known-e c = search needs
 
 returns-3 : tie.Need-returns-3
 returns-3 c =
@@ -146,20 +119,20 @@ pub stored-number-spec : {M : Type 1} → statement M
 stored-number-spec =
     tie.close
     (tie.spec
-    index-wrong-requires
-    refused-requires
+    (λ c κs. search needs)
+    (λ c κs. search needs)
     returns
     mul-if2
-    refused-requires-2
+    (λ c κs. search needs)
     returns-2
-    judge-pixel-requires
-    enum-told
-    size-requires
+    (λ c κs. search needs)
+    (λ c. search needs)
+    (λ c κs. search needs)
     mul-tile
-    size-requires-2
+    (λ c κs. search needs)
     add-tile
     index-says-requires
-    number-said-requires
-    enum-known-e
+    (λ c κs. search needs)
+    (λ c. search needs)
     returns-3
     returns-4)

@@ -13,29 +13,11 @@ part-is : (c : tie.After-stored-number) {x : NumberAnswer} → c .stored-number 
 part-is c o = let s = c .before .before .before in
     part-told _ _ _ _ _ _ (s .fits .row) (s .fits .column) (c .stored-number .ensures) o
 
-stored-number-requires : tie.Need-stored-number-requires
-stored-number-requires c κs = search needs
-
-enum-known-n : tie.Need-enum-known-n
-enum-known-n c = search needs
-
 part-requires : tie.Need-part-requires
 part-requires c κs =
     let s = c .before .before .before .before .before .before in
     let h = held _ _ _ _ _ _ (s .fits .row) (s .fits .column) (c .before .before .before .stored-number .ensures) (c .before .n .given .1) _ refl in
     (h .some, part-ends _ _ _ h)
-
-enum-told : tie.Need-enum-told
-enum-told c = search needs
-
-sub-result : tie.Need-sub-result
-sub-result c = search needs
-
-part-result-start : tie.Need-part-result-start
-part-result-start c = search needs
-
-part-result-end : tie.Need-part-result-end
-part-result-end c = search needs
 
 returns : tie.Need-returns
 returns c = c .part .ensures ∙ sym (part-is (c .before .before .before .before) (c .before .before .n .given .1))
@@ -47,12 +29,12 @@ pub tile-spec : {M : Type 1} → statement M
 tile-spec =
     tie.close
     (tie.spec
-    stored-number-requires
-    enum-known-n
+    (λ c κs. search needs)
+    (λ c. search needs)
     part-requires
-    enum-told
-    sub-result
-    part-result-start
-    part-result-end
+    (λ c. search needs)
+    (λ c. search needs)
+    (λ c. search needs)
+    (λ c. search needs)
     returns
     returns-2)

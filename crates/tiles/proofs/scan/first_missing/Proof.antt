@@ -112,15 +112,6 @@ add-tile c = omega (arith, inside c)
 entry-says-requires : tie.Need-entry-says-requires Inv-loop μ-loop Inv-rows μ-rows
 entry-says-requires c κs = inside c
 
-enum-told : tie.Need-enum-told Inv-loop μ-loop Inv-rows μ-rows
-enum-told c = search needs
-
-enum-told-2 : tie.Need-enum-told-2 Inv-loop μ-loop Inv-rows μ-rows
-enum-told-2 c = search needs
-
-enum-told-3 : tie.Need-enum-told-3 Inv-loop μ-loop Inv-rows μ-rows
-enum-told-3 c = search needs
-
 bad-entry-requires : tie.Need-bad-entry-requires Inv-loop μ-loop Inv-rows μ-rows
 bad-entry-requires c κs = tt
 
@@ -177,9 +168,9 @@ first-missing-spec =
     loop-holds
     add-tile
     entry-says-requires
-    enum-told
-    enum-told-2
-    enum-told-3
+    (λ c. search needs)
+    (λ c. search needs)
+    (λ c. search needs)
     bad-entry-requires
     add-c
     loop-less

@@ -24,25 +24,10 @@ past : (c : tie.After-reaches-past2) → let a = c .before .before .before .befo
     ≡ c .before .reaches-past .result || c .reaches-past2 .result
 past c = ap₂ (λ (x y : Bool). x || y) (sym (c .before .reaches-past .ensures)) (sym (c .reaches-past2 .ensures))
 
-index-wrong-requires : tie.Need-index-wrong-requires
-index-wrong-requires c κs = search needs
-
-refused-requires : tie.Need-refused-requires
-refused-requires c κs = search needs
-
 returns : tie.Need-returns
 unfolding windowOf
 returns c = rw (sym (c .before .before .index-wrong .ensures) ∙ c .before .if1 .taken)
     (ap WindowAnswer.Refused (c .refused .ensures))
-
-reaches-past-requires : tie.Need-reaches-past-requires
-reaches-past-requires c κs = search needs
-
-reaches-past-requires-2 : tie.Need-reaches-past-requires-2
-reaches-past-requires-2 c κs = search needs
-
-refused-requires-2 : tie.Need-refused-requires-2
-refused-requires-2 c κs = search needs
 
 returns-2 : tie.Need-returns-2
 unfolding windowOf viewOf
@@ -83,12 +68,12 @@ pub window-spec : {M : Type 1} → statement M
 window-spec =
     tie.close
     (tie.spec
-    index-wrong-requires
-    refused-requires
+    (λ c κs. search needs)
+    (λ c κs. search needs)
     returns
-    reaches-past-requires
-    reaches-past-requires-2
-    refused-requires-2
+    (λ c κs. search needs)
+    (λ c κs. search needs)
+    (λ c κs. search needs)
     returns-2
     returns-3
     first-missing-requires
