@@ -88,21 +88,6 @@ returns c =
 pub origin-at-spec : {M : Type 1} → statement M
 origin-at-spec =
     tie.close
-    (tie.spec
-    mul-rows
-    (λ c. search needs)
-    add-rows
-    mul-columns
-    (λ c κs. search needs)
-    (λ c κs. search needs)
-    cast-difference
-    (λ c. search needs)
-    (λ c κs. search needs)
-    cast-difference-3
-    (λ c. search needs)
-    (λ c κs. search needs)
-    cast-difference-5
-    (λ c κs. search needs)
-    cast-difference-6
-    (λ c κs. search needs)
-    returns)
+    (tie.spec mul-rows (λ c. search needs) add-rows mul-columns (λ c κs. search needs) (λ c κs. search needs) cast-difference (λ c. search needs)
+    (λ c κs. search needs) cast-difference-3 (λ c. search needs) (λ c κs. search needs) cast-difference-5 (λ c κs. search needs) cast-difference-6
+    (λ c κs. search needs) returns)

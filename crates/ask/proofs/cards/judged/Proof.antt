@@ -10,11 +10,5 @@ judge-pixel-requires c κs = card-known _ _ _ (c .before .before .before .read-c
 pub judged-spec : {M : Type 1} → statement M
 judged-spec =
     tie.close
-    (tie.spec
-    (λ c κs. search needs)
-    (λ c. search needs)
-    judge-pixel-requires
-    (λ c κs. search needs)
-    (λ c. search needs)
-    (λ c. search needs)
+    (tie.spec (λ c κs. search needs) (λ c. search needs) judge-pixel-requires (λ c κs. search needs) (λ c. search needs) (λ c. search needs)
     (λ c. search needs))

@@ -12,13 +12,5 @@ slice-aggregate-checked c = sym (length-take-le _ _ (omega arith))
 pub index-check-spec : {M : Type 1} → statement M
 index-check-spec =
     tie.close
-    (tie.spec
-    (λ c κs. search needs)
-    (λ c κs. search needs)
-    (λ c. search needs)
-    (λ c. search needs)
-    (λ c κs. search needs)
-    (λ c. search needs)
-    slice-aggregate-checked
-    (λ c κs. search needs)
-    (λ c. search needs))
+    (tie.spec (λ c κs. search needs) (λ c κs. search needs) (λ c. search needs) (λ c. search needs) (λ c κs. search needs) (λ c. search needs)
+    slice-aggregate-checked (λ c κs. search needs) (λ c. search needs))

@@ -10,10 +10,4 @@ stored-number-requires c κs = card-known _ _ _ (c .before .before .before .read
 pub number-of-spec : {M : Type 1} → statement M
 number-of-spec =
     tie.close
-    (tie.spec
-    (λ c κs. search needs)
-    (λ c. search needs)
-    stored-number-requires
-    (λ c. search needs)
-    (λ c. search needs)
-    (λ c. search needs))
+    (tie.spec (λ c κs. search needs) (λ c. search needs) stored-number-requires (λ c. search needs) (λ c. search needs) (λ c. search needs))

@@ -10,11 +10,5 @@ tile-requires c κs = card-known _ _ _ (c .before .before .before .read-card .en
 pub part-spec : {M : Type 1} → statement M
 part-spec =
     tie.close
-    (tie.spec
-    (λ c κs. search needs)
-    (λ c. search needs)
-    tile-requires
-    (λ c. search needs)
-    (λ c. search needs)
-    (λ c. search needs)
+    (tie.spec (λ c κs. search needs) (λ c. search needs) tile-requires (λ c. search needs) (λ c. search needs) (λ c. search needs)
     (λ c. search needs))

@@ -19,10 +19,4 @@ float-to-bits-print-hex c = not-nan _ _ (c .before .before .if1 .taken)
 pub bits-spec : {M : Type 1} → statement M
 bits-spec =
     tie.close
-    (tie.spec
-    (λ c. search needs)
-    (λ c κs. search needs)
-    float-to-bits-print-hex
-    (λ c κs. search needs)
-    (λ c. search needs)
-    (λ c. search needs))
+    (tie.spec (λ c. search needs) (λ c κs. search needs) float-to-bits-print-hex (λ c κs. search needs) (λ c. search needs) (λ c. search needs))

@@ -59,12 +59,5 @@ returns-2 c =
 pub place-spec : {M : Type 1} → statement M
 place-spec =
     tie.close
-    (tie.spec
-    (λ c κs. search needs)
-    (λ c κs. search needs)
-    returns
-    cast-place-row
-    place-row-requires
-    cast-place-column
-    place-column-requires
+    (tie.spec (λ c κs. search needs) (λ c κs. search needs) returns cast-place-row place-row-requires cast-place-column place-column-requires
     returns-2)

@@ -56,13 +56,5 @@ returns-2 c =
 pub position-spec : {M : Type 1} → statement M
 position-spec =
     tie.close
-    (tie.spec
-    (λ c κs. search needs)
-    (λ c. search needs)
-    cast-latitude
-    latitude-requires
-    cast-longitude
-    longitude-requires
-    (λ c. search needs)
-    returns
-    returns-2)
+    (tie.spec (λ c κs. search needs) (λ c. search needs) cast-latitude latitude-requires cast-longitude longitude-requires (λ c. search needs)
+    returns returns-2)

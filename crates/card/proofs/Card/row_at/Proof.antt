@@ -46,13 +46,5 @@ returns c =
 pub row-at-spec : {M : Type 1} → statement M
 row-at-spec =
     tie.close
-    (tie.spec
-    add-nearest
-    mul-nearest
-    mul-nearest-2
-    sub-nearest
-    (λ c κs. search needs)
-    cast-difference
-    cast-difference-2
-    (λ c κs. search needs)
+    (tie.spec add-nearest mul-nearest mul-nearest-2 sub-nearest (λ c κs. search needs) cast-difference cast-difference-2 (λ c κs. search needs)
     returns)

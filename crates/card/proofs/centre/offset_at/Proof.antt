@@ -45,11 +45,4 @@ returns c = same (ap (ofInt binary64) (rows (c .before .before .before))) (ap (o
 pub offset-at-spec : {M : Type 1} → statement M
 offset-at-spec =
     tie.close
-    (tie.spec
-    (λ c. search needs)
-    (λ c. search needs)
-    (λ c κs. search needs)
-    (λ c κs. search needs)
-    int-to-float-t9
-    int-to-float-t10
-    returns)
+    (tie.spec (λ c. search needs) (λ c. search needs) (λ c κs. search needs) (λ c κs. search needs) int-to-float-t9 int-to-float-t10 returns)

@@ -55,14 +55,5 @@ returns-3 c =
 pub offset-from-spec : {M : Type 1} → statement M
 offset-from-spec =
     tie.close
-    (tie.spec
-    (λ c κs. search needs)
-    (λ c. search needs)
-    (λ c κs. search needs)
-    (λ c. search needs)
-    offset-at-requires
-    (λ c. search needs)
-    (λ c. search needs)
-    returns
-    returns-2
-    returns-3)
+    (tie.spec (λ c κs. search needs) (λ c. search needs) (λ c κs. search needs) (λ c. search needs) offset-at-requires (λ c. search needs)
+    (λ c. search needs) returns returns-2 returns-3)

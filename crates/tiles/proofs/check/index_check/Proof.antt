@@ -63,16 +63,5 @@ returns-4 c =
 pub index-check-spec : {M : Type 1} → statement M
 index-check-spec =
     tie.close
-    (tie.spec
-    (λ c κs. search needs)
-    (λ c κs. search needs)
-    returns
-    (λ c κs. search needs)
-    returns-2
-    (λ c κs. search needs)
-    (λ c. search needs)
-    returns-3
-    (λ c κs. search needs)
-    mark-entries-requires
-    (λ c. search needs)
-    returns-4)
+    (tie.spec (λ c κs. search needs) (λ c κs. search needs) returns (λ c κs. search needs) returns-2 (λ c κs. search needs) (λ c. search needs)
+    returns-3 (λ c κs. search needs) mark-entries-requires (λ c. search needs) returns-4)

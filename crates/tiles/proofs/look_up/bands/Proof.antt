@@ -53,20 +53,6 @@ returns-2 c =
 pub bands-spec : {M : Type 1} → statement M
 bands-spec =
     tie.close
-    (tie.spec
-    (λ c κs. search needs)
-    (λ c. search needs)
-    part-requires
-    (λ c κs. search needs)
-    (λ c. search needs)
-    (λ c κs. search needs)
-    (λ c. search needs)
-    shared-slice-read-t20
-    (λ c. search needs)
-    shared-slice-read-t23
-    (λ c. search needs)
-    (λ c. search needs)
-    shared-slice-read-t27
-    (λ c. search needs)
-    returns
-    returns-2)
+    (tie.spec (λ c κs. search needs) (λ c. search needs) part-requires (λ c κs. search needs) (λ c. search needs) (λ c κs. search needs)
+    (λ c. search needs) shared-slice-read-t20 (λ c. search needs) shared-slice-read-t23 (λ c. search needs) (λ c. search needs)
+    shared-slice-read-t27 (λ c. search needs) returns returns-2)

@@ -17,12 +17,4 @@ returns-3 c = rw (c .before .enum-told2 .given .1) (ap NumberAnswer.Refused (c .
 pub number-said-spec : {M : Type 1} → statement M
 number-said-spec =
     tie.close
-    (tie.spec
-    (λ c. search needs)
-    (λ c. search needs)
-    (λ c κs. search needs)
-    (λ c. search needs)
-    (λ c κs. search needs)
-    returns
-    returns-2
-    returns-3)
+    (tie.spec (λ c. search needs) (λ c. search needs) (λ c κs. search needs) (λ c. search needs) (λ c κs. search needs) returns returns-2 returns-3)

@@ -118,21 +118,6 @@ returns-4 c = sym (number-is (c .before .before .before) (Verdict.Refused (c .be
 pub stored-number-spec : {M : Type 1} → statement M
 stored-number-spec =
     tie.close
-    (tie.spec
-    (λ c κs. search needs)
-    (λ c κs. search needs)
-    returns
-    mul-if2
-    (λ c κs. search needs)
-    returns-2
-    (λ c κs. search needs)
-    (λ c. search needs)
-    (λ c κs. search needs)
-    mul-tile
-    (λ c κs. search needs)
-    add-tile
-    index-says-requires
-    (λ c κs. search needs)
-    (λ c. search needs)
-    returns-3
-    returns-4)
+    (tie.spec (λ c κs. search needs) (λ c κs. search needs) returns mul-if2 (λ c κs. search needs) returns-2 (λ c κs. search needs)
+    (λ c. search needs) (λ c κs. search needs) mul-tile (λ c κs. search needs) add-tile index-says-requires (λ c κs. search needs)
+    (λ c. search needs) returns-3 returns-4)

@@ -28,13 +28,5 @@ returns-2 c = sym (part-is (c .before .before .before) (c .before .enum-told .gi
 pub tile-spec : {M : Type 1} → statement M
 tile-spec =
     tie.close
-    (tie.spec
-    (λ c κs. search needs)
-    (λ c. search needs)
-    part-requires
-    (λ c. search needs)
-    (λ c. search needs)
-    (λ c. search needs)
-    (λ c. search needs)
-    returns
-    returns-2)
+    (tie.spec (λ c κs. search needs) (λ c. search needs) part-requires (λ c. search needs) (λ c. search needs) (λ c. search needs)
+    (λ c. search needs) returns returns-2)

@@ -156,28 +156,5 @@ returns-3 c = ap WindowAnswer.Refused (c .bad-entry .ensures)
 pub first-missing-spec : {M : Type 1} → statement M
 first-missing-spec =
     tie.close
-    (tie.spec
-    Inv-loop
-    μ-loop
-    Inv-rows
-    μ-rows
-    rows-holds
-    add-start
-    mul-start
-    add-start-2
-    loop-holds
-    add-tile
-    entry-says-requires
-    (λ c. search needs)
-    (λ c. search needs)
-    (λ c. search needs)
-    bad-entry-requires
-    add-c
-    loop-less
-    loop-again
-    add-r
-    rows-less
-    rows-again
-    returns
-    returns-2
-    returns-3)
+    (tie.spec Inv-loop μ-loop Inv-rows μ-rows rows-holds add-start mul-start add-start-2 loop-holds add-tile entry-says-requires (λ c. search needs)
+    (λ c. search needs) (λ c. search needs) bad-entry-requires add-c loop-less loop-again add-r rows-less rows-again returns returns-2 returns-3)
