@@ -24,12 +24,4 @@ returns-2 c = rw (← c .before .before .before .before .before .read-card .ensu
 pub fordcask-bands-spec : {M : Type 1} → statement M
 fordcask-bands-spec =
     tie.close
-    (tie.spec
-    (λ c κs. search needs)
-    (λ c. search needs)
-    bands-requires
-    (λ c κs. search needs)
-    (λ c. search needs)
-    (λ c κs. search needs)
-    returns
-    returns-2)
+    (tie.spec (λ c κs. search needs) (λ c. search needs) bands-requires (λ c κs. search needs) (λ c. search needs) (λ c κs. search needs) returns returns-2)

@@ -25,12 +25,4 @@ returns-2 c = rw (← c .before .before .before .before .read-card .ensures, c .
 pub fordcask-index-check-spec : {M : Type 1} → statement M
 fordcask-index-check-spec =
     tie.close
-    (tie.spec
-    (λ c κs. search needs)
-    (λ c. search needs)
-    index-check-requires
-    (λ c κs. search needs)
-    (λ c. search needs)
-    (λ c. search needs)
-    returns
-    returns-2)
+    (tie.spec (λ c κs. search needs) (λ c. search needs) index-check-requires (λ c κs. search needs) (λ c. search needs) (λ c. search needs) returns returns-2)
