@@ -1,12 +1,9 @@
 -- The tests of a record to be written, in their order: the counts and the name first, then the origin, then the extents.
 -- Assumes nothing.
 use mathlib.Core.Path.{_≡_, refl, sym, ap, _∙_, subst}
-use mathlib.Core.Bool.{Bool, true, false, cond, _&&_, and-eq-true-iff}
+use mathlib.Core.Bool.{Bool, true, false, cond}
 use mathlib.Core.List.{List, [], _∷_, _++_}
-use Prim.Native.Nat.{ℕ, _*_, _/_, _≤_, _<_}
-use native.Mathlib.Omega.{arith}
-use borrow.Author.Tests.{leb-true, ltb-true}
-use lib.Dec.{leb, ltb}
+use Prim.Native.Nat.{ℕ, _/_}
 use lib.IntN.{ℤ}
 use Rattle.whole.specs.Whole.{outside}
 use Rattle.whole.proofs.Signed.{Is, is-difference}
@@ -15,43 +12,13 @@ use Rattle.arc.specs.declared.Refusal.{Refusal}
 use Rattle.arc.specs.declared.Verdict.{Verdict}
 use Rattle.arc.specs.Refusals.{refusal}
 use Rattle.card.specs.declared.Record.{Record}
-use Rattle.text.specs.Text.{nameLaid}
 use Rattle.card.specs.Layout.{orElse}
 use Rattle.card.specs.Extents.{onGrid, extentsHold}
 use Rattle.card.specs.Write.{test, first, recordTests}
 use Rattle.card_text.specs.StepsRead.{extentsAt}
-use Rattle.card_text.specs.StepsWrite.{Narrow, countTests}
-use Rattle.card_text.proofs.Table.{orElse-assoc, orElse-both}
+use Rattle.card_text.specs.StepsWrite.{countTests}
+use Rattle.card_text.proofs.Table.{orElse-assoc}
 use Rattle.card_text.proofs.Tiled.{extents-at}
-
-test-true : (ok : Bool) (number place : ℕ) → test ok number place ≡ Verdict.Accepted → ok ≡ true
-test-true true number place e = refl
-test-true false number place e = let z : _≡_ {A = ℕ} 0 1 = cc in absurd (omega arith)
-
--- the counts and the extents bound every number of the record
-pub narrow : (r : Record) (a north : ℕ) → first (countTests r) ≡ Verdict.Accepted
-    → extentsAt a north (r .nul) (r .nus) (r .nll) (r .nls) (r .nfl) (r .nfc) ≡ true → Narrow r
-unfolding countTests extentsAt
-narrow r a north p e =
-    let down = leb 1 (r .nfl) && leb (r .nfl) 999 in
-    let across = leb 1 (r .nfc) && leb (r .nfc) 999 in
-    let name = test (nameLaid (r .bad)) 7 85 in
-    let q = orElse-both (test down 8 62) (orElse (test across 8 65) (orElse name Verdict.Accepted)) p in
-    let u = orElse-both (test across 8 65) (orElse name Verdict.Accepted) (q .1) in
-    let fl : r .nfl ≤ 999 = leb-true _ _ (and-eq-true-iff (leb 1 (r .nfl)) (leb (r .nfl) 999) .0 (test-true down 8 62 (q .0)) .1) in
-    let fc : r .nfc ≤ 999 = leb-true _ _ (and-eq-true-iff (leb 1 (r .nfc)) (leb (r .nfc) 999) .0 (test-true across 8 65 (u .0)) .1) in
-    let tiles = leb (r .nfc) (a / 128) && leb (r .nfl) north in
-    let in-rows = leb (r .nul) (r .nll) && ltb (r .nll) (128 * r .nfl) in
-    let in-columns = leb (r .nls) (r .nus) && ltb (r .nus) (128 * r .nfc) in
-    let ec = and-eq-true-iff (tiles && in-rows) in-columns .0 e in
-    let er = and-eq-true-iff tiles in-rows .0 (ec .0) in
-    let rows = and-eq-true-iff (leb (r .nul) (r .nll)) (ltb (r .nll) (128 * r .nfl)) .0 (er .1) in
-    let columns = and-eq-true-iff (leb (r .nls) (r .nus)) (ltb (r .nus) (128 * r .nfc)) .0 (ec .1) in
-    let top : r .nul ≤ r .nll = leb-true _ _ (rows .0) in
-    let bottom : r .nll < 128 * r .nfl = ltb-true _ _ (rows .1) in
-    let left : r .nls ≤ r .nus = leb-true _ _ (columns .0) in
-    let right : r .nus < 128 * r .nfc = ltb-true _ _ (columns .1) in
-    record { top = omega arith; right = omega arith; bottom = omega arith; left = omega arith; down = omega arith; across = omega arith }
 
 -- z is n − k
 pub inside-is : (k : ℕ) (z : ℤ) (n : ℕ) → Inside k z n → Is z n k

@@ -18,7 +18,7 @@ use Rattle.card.specs.Layout.{STR, bytesOf, rightKind, rightValue, judge, judge
 use Rattle.card.specs.Write.{Value, counted, angle, named, flagged, textOf, written}
 use Rattle.text.proofs.Bytes.{part-at, cut}
 use Rattle.round_trip.proofs.Bytes.{and-l, and-r}
-use Rattle.text.proofs.Digits.{length-digits, all-digits, number-digits}
+use Rattle.text.proofs.Numbers.{length-digits, all-digits, number-digits}
 use Rattle.text.proofs.Angles.{length-angle, text-laid, text-valid}
 
 -- ---- a value that its subfield can hold
