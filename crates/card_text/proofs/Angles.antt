@@ -10,12 +10,12 @@ use lib.IntN.{pos, negℤ}
 use Rattle.arc.specs.declared.Verdict.{Verdict}
 use Rattle.whole.proofs.Signed.{Is, is-same, is-nat, is-neg}
 use Rattle.text.specs.Text.{part, isDigit, isSign, minus, angleLaid, degrees, minutes, seconds, hundredths, angleSize, angleOf, angleValid}
+use Rattle.text.specs.declared.Digits.{Digits}
 use Rattle.text.proofs.Bytes.{all-groups}
 use Rattle.text.proofs.Runs.{laid-tests}
 use Rattle.text.proofs.Angles.{valid-tests}
 use Rattle.card.specs.Layout.{LSO, PSO, layout, bytesOf, walk}
 use Rattle.card_text.specs.StepsFields.{DigitsOf, shifted, valueIn}
-use Rattle.card_text.specs.declared.digits.Digits.{Digits}
 use Rattle.card.proofs.Walked.{right-in}
 
 -- ---- an angle of d degree digits

@@ -1,14 +1,12 @@
 -- The tests of a record to be written, in their order: the counts and the name first, then the origin, then the extents.
 -- Assumes nothing.
 use mathlib.Core.Path.{_≡_, refl, sym, ap, _∙_, subst}
-use mathlib.Core.Bool.{Bool, true, false, cond, _&&_}
+use mathlib.Core.Bool.{Bool, true, false, cond}
 use mathlib.Core.List.{List, [], _∷_, _++_}
 use Prim.Native.Nat.{ℕ, _/_}
-use native.Mathlib.Omega.{arith}
-use lib.Dec.{leb}
-use lib.IntN.{ℤ, pos}
+use lib.IntN.{ℤ}
 use Rattle.whole.specs.Whole.{outside}
-use Rattle.whole.proofs.Signed.{Is, is-nat, is-difference}
+use Rattle.whole.proofs.Signed.{Is, is-difference}
 use Rattle.whole.proofs.Counts.{Inside}
 use Rattle.arc.specs.declared.Refusal.{Refusal}
 use Rattle.arc.specs.declared.Verdict.{Verdict}
@@ -18,25 +16,10 @@ use Rattle.card.specs.Layout.{orElse}
 use Rattle.origin.specs.Origin.{onGrid}
 use Rattle.card.specs.Extents.{extentsHold}
 use Rattle.card.specs.Write.{test, first, recordTests}
-use Rattle.card.proofs.Walked.{tested, between}
-use Rattle.card.proofs.Spans.{extends}
 use Rattle.card_text.specs.StepsRead.{extentsAt}
-use Rattle.card_text.specs.StepsWrite.{Narrow, countTests}
+use Rattle.card_text.specs.StepsWrite.{countTests}
 use Rattle.card_text.proofs.Table.{orElse-assoc}
 use Rattle.card_text.proofs.Tiled.{extents-at}
-
--- the counts and the extents bound every number of the record
-pub narrow : (r : Record) (a north : ℕ) → first (countTests r) ≡ Verdict.Accepted
-    → extentsAt a north (r .nul) (r .nus) (r .nll) (r .nls) (r .nfl) (r .nfc) ≡ true → Narrow r
-unfolding countTests
-narrow r a north p e =
-    let t = tested (leb 1 (r .nfl) && leb (r .nfl) 999) 8 62 _ p in
-    let u = tested (leb 1 (r .nfc) && leb (r .nfc) 999) 8 65 _ (t .1) in
-    let fl = between 1 (r .nfl) 999 (t .0) in
-    let fc = between 1 (r .nfc) 999 (u .0) in
-    let x = extends a 0 (pos north) (r .nul) (r .nus) (r .nll) (r .nls) (r .nfl) (r .nfc)
-    (extents-at a 0 (pos north) north (r .nul) (r .nus) (r .nll) (r .nls) (r .nfl) (r .nfc) (is-nat north) ∙ e) in
-    record { top = omega arith; right = omega arith; bottom = omega arith; left = omega arith; down = omega arith; across = omega arith }
 
 -- z is n − k
 pub inside-is : (k : ℕ) (z : ℤ) (n : ℕ) → Inside k z n → Is z n k

@@ -1,39 +1,18 @@
--- The bytes of the subfields, one after the other: the offset of a row is the length of what is written before it, and a
--- record's values stand for it. Assumes nothing.
-use mathlib.Core.Path.{_≡_, sym, ap, _∙_}
-use mathlib.Core.List.{List, [], _∷_, _++_}
+-- The bytes of the subfields, one after the other: the offset of a row is the length of what is written before it. Assumes nothing.
+use mathlib.Core.Path.{_≡_, refl, sym, ap, _∙_}
+use mathlib.Core.List.{List, [], _∷_}
 use mathlib.Core.Bool.{Bool, true, _&&_, and-eq-true-iff}
-use Prim.Native.Nat.{ℕ, _+_, _*_, _-_, _/_, _≤_}
-use native.Mathlib.Nat.{zero-add, add-zero}
+use Prim.Native.Nat.{ℕ, _+_, _-_, _≤_}
 use native.Mathlib.Omega.{arith}
 use borrow.Author.Tests.{leb-true, eqb-true}
-use lib.Dec.{leb, ltb, eqb}
+use lib.Dec.{leb, eqb}
 use lib.ListN.{length}
-use lib.IntN.{pos, natAbs, _-ℤ_}
-use lib.Signed.{ltZ}
-use Rattle.whole.specs.Whole.{near}
-use Rattle.whole.proofs.Signed.{Is, is-nat, is-difference, is-unique, is-ltZ, is-size}
-use Rattle.arc.specs.Spacing.{Grid}
-use Rattle.origin.specs.Origin.{storedAngle}
-use Rattle.origin.proofs.Axis.{latitudes, longitudes, stored-is}
-use Rattle.card.specs.declared.Record.{Record}
 use Rattle.card.specs.Layout.{Subfield}
-use Rattle.card.specs.Layout.{layout}
-use Rattle.card.specs.Write.{Value, counted, angle, named, flagged, textOf, written, valuesOf, cardText}
-use Rattle.text.specs.Steps.{splice}
-use Rattle.text.proofs.Digits.{length-digits}
+use Rattle.card.specs.Write.{Value, counted, angle, named, flagged, textOf, written}
+use Rattle.text.specs.Buffer.{splice, putAt}
+use Rattle.text.proofs.Numbers.{length-digits}
 use Rattle.text.proofs.Angles.{length-angle}
-use Rattle.text.proofs.Splices.{splice-nil, length-splice, run-next}
-use Rattle.card_text.specs.StepsRead.{tileAngle}
-use Rattle.card_text.specs.StepsWrite.{FieldsPut, end, _▸_, heldBy}
-
--- ---- an angle counted from its limit
-
-pub size-is : (x limit : ℕ) → natAbs (pos x -ℤ pos limit) ≡ x - limit + (limit - x)
-size-is x limit = is-size (pos x -ℤ pos limit) x limit (is-difference x limit)
-
-pub sign-is : (x limit : ℕ) → ltZ (pos x -ℤ pos limit) (pos 0) ≡ ltb x limit
-sign-is x limit = is-ltZ (pos x -ℤ pos limit) (pos 0) x limit 0 0 (is-difference x limit) (is-nat 0) ∙ rw (add-zero x, zero-add limit)
+use Rattle.text.proofs.Splices.{splice-nil, splice-splice, length-splice, length-put, put-fits}
 
 -- ---- lengths
 
@@ -56,11 +35,17 @@ length-text w (angle d z) e = length-angle d z ∙ eqb-true (d + 8) w e
 length-text w (named s) e = eqb-true (length s) w e
 length-text w (flagged t) e = eqb-true 1 w e
 
--- ---- subfields put one after the other
+-- ---- subfields put one after the other, each at its offset
 
-pub put-append : {fs gs : List Subfield} {vs ws : List Value} {s t u : List ℕ} → FieldsPut fs vs s t → FieldsPut gs ws t u → FieldsPut (fs ++ gs) (vs ++ ws) s u
-put-append end q = q
-put-append (e ▸ p) q = e ▸ put-append p q
+infixr 5 _▸_
+pub data FieldsPut : List Subfield → List Value → List ℕ → List ℕ → Type 0 where
+  end : {s : List ℕ} → FieldsPut [] [] s s
+  _▸_ : {f : Subfield} {fs : List Subfield} {v : Value} {vs : List Value} {s t u : List ℕ}
+      → t ≡ putAt (textOf (f .width) v) (f .at) s → FieldsPut fs vs t u → FieldsPut (f ∷ fs) (v ∷ vs) s u
+
+pub fields-length : {fs : List Subfield} {vs : List Value} {s u : List ℕ} → FieldsPut fs vs s u → length u ≡ length s
+fields-length end = refl
+fields-length (_▸_ {f} {fs} {v} {vs} {s} e p) = fields-length p ∙ ap length e ∙ length-put (textOf (f .width) v) (f .at) s
 
 pub put-all : {fs : List Subfield} {vs : List Value} {s u : List ℕ} → FieldsPut fs vs s u → (o : ℕ) → contiguous o fs vs ≡ true → 98 ≤ length s
     → u ≡ splice o (written fs vs) s
@@ -73,21 +58,7 @@ put-all (_▸_ {f} {fs} {v} {vs} {s} {t} {u} e p) o c h =
     let at = eqb-true (f .at) o (here .0) in
     let most = leb-true (o + f .width) 98 (here .1) in
     let wide = length-text (f .width) v (then .0) in
-    let first : t ≡ splice o x s = rw at at e in
+    let first : t ≡ splice o x s = (rw at at e) ∙ put-fits x o s (omega arith) in
     let long : length t ≡ length s = ap length first ∙ length-splice o x s (omega arith) in
-    run-next o (o + f .width) x (written fs vs) s t u first (omega arith) (omega arith)
-    (put-all p (o + f .width) (then .1) (omega arith))
-
--- ---- the record's values
-
-pub held-are : (a b north east : ℕ) (r : Record) → Grid a → Grid b → Is (r .n) north (b / 512) → Is (r .m) east (a / 256)
-    → written layout (heldBy a b north east r) ≡ cardText a b r
-unfolding heldBy valuesOf cardText
-held-are a b north east r ga gb en em =
-    let x : ℕ = near (east * tileAngle) a in
-    let y : ℕ = near (north * tileAngle) b in
-    let ex : pos x -ℤ pos 64800000 ≡ storedAngle a (r .m) =
-    is-unique (pos x -ℤ pos 64800000) (storedAngle a (r .m)) x 64800000 (is-difference x 64800000) (stored-is (longitudes a ga) (r .m) east em) in
-    let ey : pos y -ℤ pos 32400000 ≡ storedAngle b (r .n) =
-    is-unique (pos y -ℤ pos 32400000) (storedAngle b (r .n)) y 32400000 (is-difference y 32400000) (stored-is (latitudes b gb) (r .n) north en) in
-    rw (ex, ey)
+    let ends : o + f .width ≡ o + length x = omega arith in
+    put-all p (o + f .width) (then .1) (omega arith) ∙ rw (first, ends) (splice-splice o x (written fs vs) s (omega arith))

@@ -1,30 +1,10 @@
 // Bytes, runs of digits and runs of letters (01, "The image card, 98 bytes").
+use text::Digits;
 ghost use mathlib.Core.Path.{_≡_};
-ghost use mathlib.Core.Bool.{true};
-ghost use Prim.Native.Nat.{_+_, _-_, _≤_, _<_};
+ghost use Prim.Native.Nat.{_+_, _≤_};
 ghost use lib.ListN.{length};
-ghost use Rattle.text.specs.Text.{part, isDigit, isNameByte, all, nameLaid};
+ghost use Rattle.text.specs.Text.{part, isNameByte, all, nameLaid};
 ghost use Rattle.card_text.specs.StepsFields.{DigitsOf};
-
-// A run of digits: whether each byte is a digit, and then its number.
-pub struct Digits {
-    pub value: u64,
-    pub ok: bool,
-}
-
-// b − 48, of a digit.
-fn digit(b: u8) -> u64
-    ensures { λ r. ⌜ (isDigit b ≡ true → r ≡ b - 48) × (r < 256) ⌝ }
-{
-    std::num::wrapping_sub_u8(b, 48) as u64
-}
-
-// 0 to 9.
-fn is_digit(b: u8) -> bool
-    ensures { λ r. ⌜ r ≡ isDigit b ⌝ }
-{
-    (48 <= b) & (b <= 57)
-}
 
 // A capital letter or a digit.
 fn is_name_byte(b: u8) -> bool
@@ -41,29 +21,12 @@ pub fn bytes_at<'a>(s: &'a [u8], o: usize, w: usize) -> &'a [u8]
     &s[o..o + w]
 }
 
-// A run of digits, read once.
-pub fn digits_of(s: &[u8]) -> Digits
-    requires { ⌜ length (now s) ≤ 8 ⌝ }
-    ensures { λ r. ⌜ DigitsOf (now (s .entry)) r ⌝ }
-{
-    let mut value: u64 = 0;
-    let mut ok = true;
-    let mut i = 0;
-    while i < s.len() {
-        let b = s[i];
-        value = value * 10 + digit(b);
-        ok = ok & is_digit(b);
-        i += 1;
-    }
-    Digits { value, ok }
-}
-
 // The run of w digits from offset o.
 pub fn digits_at(s: &[u8], o: usize, w: usize) -> Digits
     requires { ⌜ o + w ≤ length (now s) ⌝ ∗ ⌜ w ≤ 8 ⌝ }
     ensures { λ r. ⌜ DigitsOf (part o w (now (s .entry))) r ⌝ }
 {
-    digits_of(bytes_at(s, o, w))
+    text::digits_of(bytes_at(s, o, w))
 }
 
 // Whether each byte is a capital letter or a digit.

@@ -2,6 +2,7 @@
 use crate::digits;
 use arc::Refusal;
 use arc::Verdict;
+use text::Digits;
 ghost use mathlib.Core.Path.{_≡_};
 ghost use Prim.Native.Nat.{_+_, _<_, _≤_};
 ghost use lib.ListN.{length};
@@ -89,7 +90,7 @@ fn number_at(s: &[u8], o: usize, w: usize, low: u64, high: u64, before: Field) -
 }
 
 // ±DDDMMSS.SS or ±DDMMSS.SS, its degrees being read: 43 is +, 45 is −, 46 is the dot.
-fn angle_at(s: &[u8], o: usize, w: usize, d: digits::Digits, limit: u64, before: Field) -> Field
+fn angle_at(s: &[u8], o: usize, w: usize, d: Digits, limit: u64, before: Field) -> Field
     requires { ⌜ o + (w + 8) ≤ length (now s) ⌝ ∗ ⌜ w ≤ 3 ⌝ ∗ ⌜ limit ≤ 64800000 ⌝ ∗ ⌜ DigitsOf (part (o + 1) w (now s)) d ⌝ }
     ensures { λ r. ⌜ FieldAt (sub o (w + 8) (Kind.Angle w limit)) (now (s .entry)) (before .verdict) r ⌝ }
 {

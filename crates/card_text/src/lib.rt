@@ -11,7 +11,6 @@ ghost use Rattle.card.specs.Write.{writeOf, outOf};
 
 mod digits;
 mod fields;
-mod put;
 mod read;
 mod stored;
 mod write;

@@ -4,6 +4,7 @@ use arc::Tile;
 use whole::Counted;
 ghost use mathlib.Core.Path.{_≡_};
 ghost use Prim.Native.Nat.{_*_, _<_, _≤_};
+ghost use lib.IntN.{pos, _-ℤ_};
 ghost use Rattle.whole.specs.Whole.{near};
 ghost use Rattle.arc.specs.Spacing.{Grid};
 ghost use Rattle.card_text.specs.StepsRead.{foundAt};
@@ -20,11 +21,19 @@ fn nearest(n: u64, d: u64) -> u64
 }
 
 // The angle stored for a count of tiles.
-pub fn stored_at(tiles: u64, spacing: u64) -> u64
+fn stored_at(tiles: u64, spacing: u64) -> u64
     requires { ⌜ Grid spacing ⌝ ∗ ⌜ 128 * tiles ≤ spacing ⌝ }
     ensures { λ r. ⌜ r ≡ near (tiles * 16588800000) spacing ⌝ ∗ ⌜ r ≤ 129600000 ⌝ }
 {
     nearest(tiles * TILE_ANGLE, spacing)
+}
+
+// The same as an angle, the axis' low end being at −limit.
+pub fn angle_at(tiles: u64, spacing: u64, limit: u32) -> i64
+    requires { ⌜ Grid spacing ⌝ ∗ ⌜ 128 * tiles ≤ spacing ⌝ }
+    ensures { λ r. ⌜ r ≡ pos (near (tiles * 16588800000) spacing) -ℤ pos limit ⌝ }
+{
+    whole::difference(stored_at(tiles, spacing) as u32, limit)
 }
 
 // The tiles whose stored angle this is.

@@ -1,7 +1,6 @@
 // From a record to the bytes of a card (01, "The image card, 98 bytes", "Numbers given in refusal").
 use crate::digits;
 use crate::fields;
-use crate::put;
 use crate::read;
 use crate::stored;
 use arc::Refusal;
@@ -9,15 +8,17 @@ use arc::Verdict;
 use card::Record;
 use whole::Counted;
 ghost use mathlib.Core.Path.{_≡_};
-ghost use Prim.Native.Nat.{_*_, _≤_};
-ghost use lib.ListN.{length, take, drop};
+ghost use mathlib.Core.Bool.{cond};
+ghost use Prim.Native.Nat.{_≤_};
+ghost use lib.ListN.{length};
 ghost use Rattle.arc.specs.declared.SpacingAnswer.{SpacingAnswer};
 ghost use Rattle.arc.specs.Spacing.{Grid};
 ghost use Rattle.text.specs.Text.{nameLaid};
-ghost use Rattle.card.specs.Layout.{layout};
-ghost use Rattle.card.specs.Write.{written, test, first, writeIn};
-ghost use Rattle.text.specs.Steps.{splice};
-ghost use Rattle.card_text.specs.StepsWrite.{FieldsPut, leadOf, extentValues, fixed, heldBy, Narrow, countTests, outIn};
+ghost use Rattle.text.specs.Buffer.{putAt};
+ghost use Rattle.whole.specs.Lists.{over};
+ghost use Rattle.origin.specs.Origin.{storedAngle};
+ghost use Rattle.card.specs.Write.{cardText, test, first, writeIn};
+ghost use Rattle.card_text.specs.StepsWrite.{countTests, outIn};
 
 // A refusal where the test fails (01, "Numbers given in refusal").
 fn tested(ok: bool, number: u32, at: u64) -> Verdict
@@ -47,63 +48,46 @@ fn judge_counts(r: Record) -> Verdict
     fields::or_else(down, fields::or_else(across, name))
 }
 
-// STR ARV BRV LSO PSO.
-fn put_lead(out: &mut [u8], a: u64, b: u64, lon: u64, lat: u64)
-    requires { ⌜ 98 ≤ length (now out) ⌝ ∗ ⌜ Grid a ⌝ ∗ ⌜ Grid b ⌝ ∗ ⌜ lon ≤ 129600000 ⌝ ∗ ⌜ lat ≤ 129600000 ⌝ }
-    ensures { λ _. ⌜ FieldsPut (take 5 layout) (leadOf a b lon lat) (now (out .entry)) (now (out .exit)) ⌝ }
+// 89 is Y, 78 is N.
+fn flag(tif: bool) -> u8
+    ensures { λ r. ⌜ r ≡ cond tif 89 78 ⌝ }
 {
-    put::put_number(out, 0, 1, 3);
-    put::put_number(out, 1, 8, a);
-    put::put_number(out, 9, 8, b);
-    put::put_angle(out, 17, 3, 64_800_000, lon);
-    put::put_angle(out, 28, 2, 32_400_000, lat);
+    if tif { 89 } else { 78 }
 }
 
-// NUL NUS NLL NLS NFL NFC.
-fn put_extents(out: &mut [u8], r: Record)
-    requires { ⌜ 98 ≤ length (now out) ⌝ ∗ ⌜ Narrow r ⌝ }
-    ensures { λ _. ⌜ FieldsPut (take 6 (drop 5 layout)) (extentValues r) (now (out .entry)) (now (out .exit)) ⌝ }
+// BAD's twelve bytes.
+fn put_name(out: &mut [u8], bad: [u8; 12])
+    ensures { λ _. ⌜ now (out .exit) ≡ putAt bad 85 (now (out .entry)) ⌝ ∗ ⌜ length bad ≡ 12 ⌝ }
 {
-    put::put_number(out, 38, 6, r.nul);
-    put::put_number(out, 44, 6, r.nus);
-    put::put_number(out, 50, 6, r.nll);
-    put::put_number(out, 56, 6, r.nls);
-    put::put_number(out, 62, 3, r.nfl);
-    put::put_number(out, 65, 3, r.nfc);
+    text::put_bytes(out, 85, &bad);
 }
 
-// PNC PNL COD ROD POR PCB PVB, the same on every card.
-fn put_fixed(out: &mut [u8])
-    requires { ⌜ 98 ≤ length (now out) ⌝ }
-    ensures { λ _. ⌜ FieldsPut (take 7 (drop 11 layout)) fixed (now (out .entry)) (now (out .exit)) ⌝ }
-{
-    put::put_number(out, 68, 6, 128);
-    put::put_number(out, 74, 6, 128);
-    put::put_number(out, 80, 1, 0);
-    put::put_number(out, 81, 1, 1);
-    put::put_number(out, 82, 1, 0);
-    put::put_number(out, 83, 1, 0);
-    put::put_number(out, 84, 1, 8);
-}
-
-// The bytes of a record whose origin is counted from the South Pole and from 180° west.
-fn put_card(out: &mut [u8], a: u64, b: u64, north: u64, east: u64, r: Record)
-    requires { ⌜ 98 ≤ length (now out) ⌝ ∗ ⌜ Grid a ⌝ ∗ ⌜ Grid b ⌝
-        ∗ ⌜ (128 * north ≤ b) × (128 * east ≤ a) ⌝ ∗ ⌜ Narrow r ⌝ }
-    ensures { λ _. ⌜ now (out .exit) ≡ splice 0 (written layout (heldBy a b north east r)) (now (out .entry)) ⌝ }
+// STR ARV BRV LSO PSO NUL NUS NLL NLS NFL NFC PNC PNL COD ROD POR PCB PVB BAD TIF of a record, its stored origin being known.
+fn put_card(out: &mut [u8], a: u64, b: u64, lat: i64, lon: i64, r: Record)
+    requires { ⌜ 98 ≤ length (now out) ⌝ ∗ ⌜ (lat ≡ storedAngle b (r .n)) × (lon ≡ storedAngle a (r .m)) ⌝ }
+    ensures { λ _. ⌜ now (out .exit) ≡ over (cardText a b r) (now (out .entry)) ⌝ }
 {
     let bad = r.bad;
-    put_lead(
-        out,
-        a,
-        b,
-        stored::stored_at(east, a),
-        stored::stored_at(north, b),
-    );
-    put_extents(out, r);
-    put_fixed(out);
-    put::put_name(out, 85, bad);
-    put::put_flag(out, 97, r.tif);
+    text::put_number(out, 0, 1, 3);
+    text::put_number(out, 1, 8, a);
+    text::put_number(out, 9, 8, b);
+    text::put_angle(out, 17, 3, lon);
+    text::put_angle(out, 28, 2, lat);
+    text::put_number(out, 38, 6, r.nul);
+    text::put_number(out, 44, 6, r.nus);
+    text::put_number(out, 50, 6, r.nll);
+    text::put_number(out, 56, 6, r.nls);
+    text::put_number(out, 62, 3, r.nfl);
+    text::put_number(out, 65, 3, r.nfc);
+    text::put_number(out, 68, 6, 128);
+    text::put_number(out, 74, 6, 128);
+    text::put_number(out, 80, 1, 0);
+    text::put_number(out, 81, 1, 1);
+    text::put_number(out, 82, 1, 0);
+    text::put_number(out, 83, 1, 0);
+    text::put_number(out, 84, 1, 8);
+    put_name(out, bad);
+    text::put_byte(out, 97, flag(r.tif));
 }
 
 // Writing, the spacing being known. Refuses 3, 6, then NFL, NFC (8), BAD (7), then 10, 11; on a refusal the output stays.
@@ -131,6 +115,8 @@ pub fn write_spaced(zone: u64, a: u64, b: u64, r: Record, out: &mut [u8]) -> Ver
     if !read::extents_hold(a, north, r) {
         return Verdict::Refused(arc::refused(11));
     }
-    put_card(out, a, b, north, east, r);
+    let lat = stored::angle_at(north, b, 32_400_000);
+    let lon = stored::angle_at(east, a, 64_800_000);
+    put_card(out, a, b, lat, lon, r);
     Verdict::Accepted
 }

@@ -3,15 +3,19 @@ use mathlib.Core.Path.{_≡_, refl, sym, _∙_}
 use Prim.Native.Nat.{ℕ, _+_, _-_, _≤_, _<_}
 use native.Mathlib.Nat.{zero-add}
 use native.Mathlib.Omega.{arith}
+use lib.Dec.{leb}
+use borrow.Author.Tests.{leb-true}
 use mathlib.Core.Bool.{Bool, true, false, cond, _&&_, and-false, and-eq-true-iff}
 use mathlib.Core.List.{List, []}
 use mathlib.Core.Option.{Option, some, none}
 use lib.ListN.{length, take, drop, drop-of-length-le, length-drop}
 use lib.Seq.{take-all}
-use Rattle.text.specs.Text.{number}
-use Rattle.text.proofs.Digits.{number-below}
+use Rattle.text.specs.Text.{all, isDigit, number}
+use Rattle.text.specs.Buffer.{digitsIn}
+use Rattle.text.specs.declared.Digits.{Digits}
+use Rattle.text.proofs.Numbers.{number-below, digits-read}
 use Rattle.printing.specs.Lines.{upTo, beforeSpace, afterSpace, isNumber, Pair, numbersOf}
-use Rattle.printing.specs.Steps.{numbersAnswer}
+use Rattle.printing.specs.Steps.{NumberOf, numbersAnswer}
 use Rattle.printing.specs.declared.parse.Numbers.{Numbers}
 use Rattle.printing.proofs.Scan.{upTo-take, space-drop, is-number}
 
@@ -40,10 +44,24 @@ module _ (s : List ℕ) (k : ℕ) (e : k ≡ 0 + length (upTo 32 s)) where
     unfolding numbersOf
     bad-parts t = rw (← left-part, ← right-part, ← p, ← q, t)
 
-    pub good-parts : x && y ≡ true → {v w : ℕ} → v ≡ number (take k s) → w ≡ number (rest s k)
-        → Numbers.Pair v w ≡ numbersAnswer (numbersOf s)
+    pub good-parts : x && y ≡ true → {v w : ℕ} → (isNumber (take k s) ≡ true → v ≡ number (take k s))
+        → (isNumber (rest s k) ≡ true → w ≡ number (rest s k)) → Numbers.Pair v w ≡ numbersAnswer (numbersOf s)
     unfolding numbersOf
-    good-parts t f g = rw (← left-part, ← right-part, ← p, ← q, t, f, g)
+    good-parts t f g =
+        let b = and-eq-true-iff x y .0 t in rw (← left-part, ← right-part, ← p, ← q, t, f (sym p ∙ b .0), g (sym q ∙ b .1))
+
+-- a part as it was read
+pub number-of : (s : List ℕ) {d : Digits} → d ≡ digitsIn s
+    → NumberOf s (record { value = d .value; ok = leb 1 (length s) && leb (length s) 9 && d .ok })
+number-of s {d} e =
+    record {
+      tested = go (leb (length s) 9) refl;
+      read = λ t. let n = is-number s t in digits-read 9 s (n .nine-digits) (omega arith) e .read (n .of-digits);
+    }
+  where
+    go : (t : Bool) → leb (length s) 9 ≡ t → (leb 1 (length s) && t && d .ok) ≡ (leb 1 (length s) && t && all isDigit s)
+    go true t = rw (digits-read 9 s (leb-true (length s) 9 t) (omega arith) e .tested)
+    go false t = rw (and-false (leb 1 (length s)))
 
 -- ---- the numbers are below 10 ^ 9
 

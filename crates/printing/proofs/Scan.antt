@@ -1,7 +1,7 @@
 -- A scan takes one byte a turn off what is left, and what is left with what was found is the whole. Assumes nothing.
 use mathlib.Core.Path.{_≡_, refl, ap}
-use Prim.Native.Nat.{ℕ, suc, _+_, _*_, _-_, _^_, _≤_, _<_}
-use native.Mathlib.Nat.{pow-succ', add-zero, pow-le-pow-right}
+use Prim.Native.Nat.{ℕ, suc, _+_, _-_, _≤_, _<_}
+use native.Mathlib.Nat.{add-zero}
 use native.Mathlib.Numerals.{add-one}
 use native.Mathlib.Omega.{arith}
 use mathlib.Core.Bool.{Bool, true, false, cond, _&&_, and-eq-true-iff}
@@ -12,7 +12,6 @@ use lib.Seq.{drop-nil}
 use borrow.Author.Tests.{eq-eqb, ne-eqb, leb-true}
 use Rattle.text.specs.Text.{all, isDigit}
 use Rattle.text.proofs.Bytes.{drop-next}
-use Rattle.text.proofs.Digits.{digit-in}
 use Rattle.printing.specs.Lines.{upTo, beforeSpace, afterSpace, isNumber}
 
 -- ---- the first e
@@ -55,30 +54,7 @@ space-drop (b ∷ bs) = rw add-one (split (eqb b 32) (rw add-one at (space-drop 
     split true m = refl
     split false m = m
 
--- ---- digits
-
-pub digits-next : (ok : Bool) (s : List ℕ) (i : ℕ) → i < length s
-    → (ok && leb 48 (getD s i 0) && leb (getD s i 0) 57 && all isDigit (drop (i + 1) s)) ≡ (ok && all isDigit (drop i s))
-digits-next ok s i h = rw (drop-next s i h) (split ok (leb 48 (getD s i 0)) (leb (getD s i 0) 57))
-  where
-    split : (a b c : Bool) → (a && b && c && all isDigit (drop (i + 1) s)) ≡ (a && (b && c && all isDigit (drop (i + 1) s)))
-    split true b c = refl
-    split false b c = refl
-
--- a byte more is a digit, and so are those after it
-pub digit-known : (s : List ℕ) (i : ℕ) → i < length s → all isDigit (drop i s) ≡ true
-    → (48 ≤ getD s i 0) × (getD s i 0 ≤ 57) × (all isDigit (drop (i + 1) s) ≡ true)
-digit-known s i h t =
-    let b = and-eq-true-iff (isDigit (getD s i 0)) (all isDigit (drop (i + 1) s)) .0 (rw (drop-next s i h) at t) in
-    let d = digit-in (getD s i 0) (b .0) in
-    (d .0, d .1, b .1)
-
--- i digits make a number below 10 ^ i, i being at most 9
-pub below-next : (v d i : ℕ) → v < 10 ^ i → d ≤ 9 → i ≤ 9 → (v < 1000000000) × (v * 10 + d < 10 ^ (i + 1))
-below-next v d i h l n =
-    let p : 10 ^ i ≤ 1000000000 = pow-le-pow-right (omega arith) n in
-    let e : 10 ^ (i + 1) ≡ 10 * 10 ^ i = rw add-one (pow-succ' 10 i) in
-    (omega arith, omega arith)
+-- ---- a number of 1 to 9 digits
 
 pub record IsNumber (s : List ℕ) : Type 0 where
   pub some-digit : 1 ≤ length s

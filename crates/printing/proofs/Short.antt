@@ -1,15 +1,17 @@
 -- Every text that is printed at once fits 64 bytes, and lines follow only an accepted card. Assumes nothing.
 use mathlib.Core.Path.{_≡_, refl}
-use Prim.Native.Nat.{ℕ, _≤_}
+use Prim.Native.Nat.{ℕ, _≤_, _<_}
 use native.Mathlib.Omega.{arith}
 use mathlib.Core.Bool.{Bool, true, false, cond, false≢true}
-use mathlib.Core.List.{List, []}
+use mathlib.Core.List.{List, [], _++_}
 use mathlib.Core.Option.{Option, some, none}
 use lib.Dec.{leb, ltb}
 use lib.IntN.{pos}
 use lib.ListN.{length, length-append}
 use borrow.Author.Tests.{ltb-false}
+use Rattle.arc.specs.declared.Refusal.{Refusal}
 use Rattle.arc.specs.declared.Verdict.{Verdict}
+use Rattle.text.specs.Text.{bytes, decimal}
 use Rattle.card.specs.declared.Card.{Card}
 use Rattle.card.specs.declared.PositionAnswer.{PositionAnswer}
 use Rattle.card.specs.Grid.{positionOf}
@@ -20,13 +22,23 @@ use Rattle.printing.specs.Run.{lineAt, nextAt, Opened, closed, openedWit
 use Rattle.printing.specs.Steps.{openingFor, openingAnswer, served, textAt, lineAnswer}
 use Rattle.printing.specs.declared.OpeningAnswer.{OpeningAnswer}
 use Rattle.printing.specs.declared.LineAnswer.{LineAnswer}
-use Rattle.text.proofs.Digits.{decimal-short, decimal-most}
+use Rattle.text.proofs.Numbers.{decimal-short, decimal-most}
 use Rattle.text.proofs.Angles.{length-angle}
 use Rattle.printing.proofs.Pairs.{pair-below}
 
-answer-short : (a : PositionAnswer) → length (answerText a) ≤ 29
+pub answer-short : (a : PositionAnswer) → length (answerText a) ≤ 29
 answer-short (PositionAnswer.At lat lon) = simp (length-append, length-angle) (omega arith)
 answer-short (PositionAnswer.Refused e) = simp length-append (omega (arith, decimal-most (e .number)))
+
+-- row and column
+pub lead-short : (row column : ℕ) → row < 1000000000 → column < 1000000000 → length (decimal row ++ bytes " " ++ decimal column ++ bytes " ") ≤ 20
+lead-short row column h l =
+    let x = decimal-short row 9 (omega arith) (omega arith) h in
+    let y = decimal-short column 9 (omega arith) (omega arith) l in
+    simp length-append (omega arith)
+
+pub refusal-short : (e : Refusal) (k : Card) → length (cardOut (Verdict.Refused e) k []) ≤ 64
+refusal-short e k = simp length-append (omega (arith, decimal-most (e .number), decimal-most (e .at)))
 
 pub line-short : (k : Card) (l : List ℕ) → length (lineFor k l) ≤ 64
 unfolding lineFor
@@ -35,10 +47,9 @@ line-short k l = split (numbersOf l) refl
     split : (o : Option Pair) → numbersOf l ≡ o → length (lineOut k o) ≤ 64
     split (some p) e =
         let b = pair-below l p e in
-        let x = decimal-short (p .left) 9 (omega arith) (b .0) in
-        let y = decimal-short (p .right) 9 (omega arith) (b .1) in
-        let z = answer-short (positionOf k (pos (p .left)) (pos (p .right))) in
-        simp length-append (omega arith)
+        let a = positionOf k (pos (p .left)) (pos (p .right)) in
+        let lead = decimal (p .left) ++ bytes " " ++ decimal (p .right) ++ bytes " " in
+        omega (arith, length-append lead (answerText a), lead-short (p .left) (p .right) (b .0) (b .1), answer-short a)
     split none e = omega arith
 
 -- what `pixel_line` puts
@@ -72,7 +83,7 @@ with-card s h (some p) card next = verdict (readOf (p .left) (p .right) card .ve
           small = λ m. h;
         }
     verdict (Verdict.Refused n) k e =
-        shut s (cardOut (Verdict.Refused n) k []) (simp length-append (omega (arith, decimal-most (n .number), decimal-most (n .at))))
+        shut s (cardOut (Verdict.Refused n) k []) (refusal-short n k)
 
 pub openings : (s out : List ℕ) → Opening s (openingFor s out)
 unfolding openingFor openingOf
@@ -81,7 +92,8 @@ openings s out = split (leb 64 (length out)) (ltb 65536 (length s)) (leb (length
     rest : Opened
     rest = openedCard (numbersOf (lineAt s 0)) (lineAt s (nextAt s 0)) (nextAt s (nextAt s 0)) (length s)
 
-    split : (t u v : Bool) → ltb 65536 (length s) ≡ u → Opening s (cond t (cond u (closed tooLong (length s)) (cond v (closed badLine (length s)) rest)) (closed [] (length s)))
+    split : (t u v : Bool) → ltb 65536 (length s) ≡ u
+        → Opening s (cond t (cond u (closed tooLong (length s)) (cond v (closed badLine (length s)) rest)) (closed [] (length s)))
     split true true v e = shut s tooLong (omega arith)
     split true false true e = shut s badLine (omega arith)
     split true false false e = with-card s (ltb-false 65536 (length s) e) (numbersOf (lineAt s 0)) (lineAt s (nextAt s 0)) (nextAt s (nextAt s 0))

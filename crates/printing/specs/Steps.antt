@@ -1,4 +1,5 @@
 -- What only the code needs: what its functions answer, as its declared types have it (01, "The printing program"). Definitions only.
+--     NumberOf s r           a part of a line as it was read: whether it is a number, and which
 --     numbersAnswer o        the two numbers of a line
 --     openingFor s out       what is printed first, into a buffer of 64 bytes or more; else nothing
 --     openingAnswer o        the same as `opening` answers it
@@ -10,7 +11,7 @@
 --     lineLeft k s at out    what the buffer then holds
 use mathlib.Core.Path.{_≡_}
 use Prim.Native.Nat.{ℕ}
-use mathlib.Core.Bool.{Bool, false, cond, _&&_}
+use mathlib.Core.Bool.{Bool, true, false, cond, _&&_}
 use mathlib.Core.List.{List, []}
 use mathlib.Core.Option.{Option, some, none}
 use lib.Dec.{leb, ltb}
@@ -18,12 +19,18 @@ use lib.ListN.{length}
 use Rattle.card.specs.declared.Card.{Card}
 use Rattle.card.specs.Read.{noCard}
 use Rattle.whole.specs.Lists.{over}
-use Rattle.printing.specs.Lines.{Pair}
+use Rattle.text.specs.Text.{number}
+use Rattle.text.specs.declared.Digits.{Digits}
+use Rattle.printing.specs.Lines.{isNumber, Pair}
 use Rattle.printing.specs.Printed.{lineFor}
 use Rattle.printing.specs.Run.{lineAt, Opened, closed, openingOf, goesOn}
 use Rattle.printing.specs.declared.parse.Numbers.{Numbers}
 use Rattle.printing.specs.declared.OpeningAnswer.{OpeningAnswer}
 use Rattle.printing.specs.declared.LineAnswer.{LineAnswer}
+
+pub record NumberOf (s : List ℕ) (r : Digits) : Type 0 where
+  pub tested : r .ok ≡ isNumber s
+  pub read : isNumber s ≡ true → r .value ≡ number s
 
 abbrev pub numbersAnswer : Option Pair → Numbers
 numbersAnswer (some p) = Numbers.Pair (p .left) (p .right)

@@ -7,7 +7,6 @@ ghost use Rattle.printing.specs.Steps.{openingFor, openingAnswer, openin
 mod line;
 mod parse;
 mod start;
-mod write;
 
 // What is printed first: its length; then whether lines follow, of which card, and from where; the end of the input, where none do.
 pub struct OpeningAnswer {

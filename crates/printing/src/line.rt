@@ -1,7 +1,6 @@
 // What is printed for a line of row and column (01, "The printing program").
 use crate::parse::Numbers;
 use crate::parse::{self};
-use crate::write;
 use card::Card;
 use card::PositionAnswer;
 ghost use mathlib.Core.Path.{_≡_};
@@ -20,15 +19,15 @@ fn put_answer(out: &mut [u8], o: usize, a: PositionAnswer) -> usize
 {
     match a {
         PositionAnswer::At { lat, lon } => {
-            let o1 = write::angle(out, o, 2, lat);
-            let o2 = write::byte(out, o1, 32);
-            let o3 = write::angle(out, o2, 3, lon);
-            write::byte(out, o3, 10)
+            let o1 = text::put_angle(out, o, 2, lat);
+            let o2 = text::put_byte(out, o1, 32);
+            let o3 = text::put_angle(out, o2, 3, lon);
+            text::put_byte(out, o3, 10)
         }
         PositionAnswer::Refused(e) => {
-            let o1 = write::text(out, o, b"refused ");
-            let o2 = write::decimal(out, o1, e.number as u64);
-            write::byte(out, o2, 10)
+            let o1 = text::put_bytes(out, o, b"refused ");
+            let o2 = text::put_decimal(out, o1, e.number as u64);
+            text::put_byte(out, o2, 10)
         }
     }
 }
@@ -38,10 +37,10 @@ fn put_line(out: &mut [u8], row: u64, column: u64, a: PositionAnswer) -> usize
     requires { ⌜ (64 ≤ length (now out)) × (row < 1000000000) × (column < 1000000000) ⌝ }
     ensures { λ r. ⌜ Put (pixelText row column a) 0 (now (out .entry)) (now (out .exit)) r ⌝ }
 {
-    let o1 = write::decimal(out, 0, row);
-    let o2 = write::byte(out, o1, 32);
-    let o3 = write::decimal(out, o2, column);
-    let o4 = write::byte(out, o3, 32);
+    let o1 = text::put_decimal(out, 0, row);
+    let o2 = text::put_byte(out, o1, 32);
+    let o3 = text::put_decimal(out, o2, column);
+    let o4 = text::put_byte(out, o3, 32);
     put_answer(out, o4, a)
 }
 
@@ -63,6 +62,6 @@ pub fn put_pixel(out: &mut [u8], k: Card, line: &[u8]) -> usize
             let a = position_at(k, left, right);
             put_line(out, left, right, a)
         }
-        Numbers::Bad => write::text(out, 0, b"bad line\n"),
+        Numbers::Bad => text::put_bytes(out, 0, b"bad line\n"),
     }
 }

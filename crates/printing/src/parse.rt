@@ -1,11 +1,10 @@
 // A line of the input and its two numbers (01, "The printing program").
+use text::Digits;
 ghost use mathlib.Core.Path.{_≡_};
-ghost use mathlib.Core.Bool.{true};
-ghost use Prim.Native.Nat.{_+_, _<_, _≤_};
+ghost use Prim.Native.Nat.{_+_, _≤_};
 ghost use lib.ListN.{length, drop};
-ghost use Rattle.text.specs.Text.{all, isDigit, number};
-ghost use Rattle.printing.specs.Lines.{upTo, isNumber, numbersOf};
-ghost use Rattle.printing.specs.Steps.{numbersAnswer};
+ghost use Rattle.printing.specs.Lines.{upTo, numbersOf};
+ghost use Rattle.printing.specs.Steps.{NumberOf, numbersAnswer};
 
 // What a line holds.
 pub enum Numbers {
@@ -28,38 +27,15 @@ pub fn until(s: &[u8], at: usize, e: u8) -> usize
     i
 }
 
-// Whether each byte is a digit.
-fn all_digits(s: &[u8]) -> bool
-    ensures { λ r. ⌜ r ≡ all isDigit (now (s .entry)) ⌝ }
+// A number of 1 to 9 digits.
+fn number_of(s: &[u8]) -> Digits
+    ensures { λ r. ⌜ NumberOf (now (s .entry)) r ⌝ }
 {
-    let mut ok = true;
-    let mut i = 0;
-    while i < s.len() {
-        ok = ok & (48 <= s[i]) & (s[i] <= 57);
-        i += 1;
+    let d = text::digits_of(s);
+    Digits {
+        value: d.value,
+        ok: (1 <= s.len()) & (s.len() <= 9) & d.ok,
     }
-    ok
-}
-
-// 1 to 9 digits.
-fn is_number(s: &[u8]) -> bool
-    ensures { λ r. ⌜ r ≡ isNumber (now (s .entry)) ⌝ }
-{
-    (1 <= s.len()) & (s.len() <= 9) & all_digits(s)
-}
-
-// The number that up to 9 digits stand for.
-fn number(s: &[u8]) -> u64
-    requires { ⌜ isNumber (now s) ≡ true ⌝ }
-    ensures { λ r. ⌜ r ≡ number (now (s .entry)) ⌝ }
-{
-    let mut v: u64 = 0;
-    let mut i = 0;
-    while i < s.len() {
-        v = v * 10 + (s[i] - 48) as u64;
-        i += 1;
-    }
-    v
 }
 
 // The two numbers of a line.
@@ -70,12 +46,12 @@ pub fn numbers_in(s: &[u8]) -> Numbers
     if s.len() <= k {
         return Numbers::Bad;
     }
-    let left = &s[..k];
-    let right = &s[k + 1..];
-    if is_number(left) & is_number(right) {
+    let left = number_of(&s[..k]);
+    let right = number_of(&s[k + 1..]);
+    if left.ok & right.ok {
         Numbers::Pair {
-            left: number(left),
-            right: number(right),
+            left: left.value,
+            right: right.value,
         }
     } else {
         Numbers::Bad

@@ -2,7 +2,6 @@
 use crate::OpeningAnswer;
 use crate::parse::Numbers;
 use crate::parse::{self};
-use crate::write;
 use arc::Refusal;
 use arc::Verdict;
 use card::Card;
@@ -23,11 +22,11 @@ fn put_refusal(out: &mut [u8], e: Refusal) -> usize
     requires { ⌜ 64 ≤ length (now out) ⌝ }
     ensures { λ r. ⌜ Put (cardOut (Verdict.Refused e) noCard []) 0 (now (out .entry)) (now (out .exit)) r ⌝ }
 {
-    let o1 = write::text(out, 0, b"card refused ");
-    let o2 = write::decimal(out, o1, e.number as u64);
-    let o3 = write::byte(out, o2, 32);
-    let o4 = write::decimal(out, o3, e.at);
-    write::byte(out, o4, 10)
+    let o1 = text::put_bytes(out, 0, b"card refused ");
+    let o2 = text::put_decimal(out, o1, e.number as u64);
+    let o3 = text::put_byte(out, o2, 32);
+    let o4 = text::put_decimal(out, o3, e.at);
+    text::put_byte(out, o4, 10)
 }
 
 // Nothing follows.
@@ -50,7 +49,7 @@ fn opened(out: &mut [u8], verdict: Verdict, card: Card, next: usize, end: usize)
 {
     match verdict {
         Verdict::Accepted => {
-            let length = write::text(out, 0, b"row column latitude longitude\n");
+            let length = text::put_bytes(out, 0, b"row column latitude longitude\n");
             OpeningAnswer {
                 length,
                 more: true,
@@ -66,11 +65,11 @@ fn opened(out: &mut [u8], verdict: Verdict, card: Card, next: usize, end: usize)
 }
 
 // A text after which nothing follows.
-fn stop_with(out: &mut [u8], text: &[u8], end: usize) -> OpeningAnswer
-    requires { ⌜ length (now text) ≤ length (now out) ⌝ }
-    ensures { λ r. ⌜ Opens (closed (now (text .entry)) end) (now (out .entry)) (now (out .exit)) r ⌝ }
+fn stop_with(out: &mut [u8], line: &[u8], end: usize) -> OpeningAnswer
+    requires { ⌜ length (now line) ≤ length (now out) ⌝ }
+    ensures { λ r. ⌜ Opens (closed (now (line .entry)) end) (now (out .entry)) (now (out .exit)) r ⌝ }
 {
-    let length = write::text(out, 0, text);
+    let length = text::put_bytes(out, 0, line);
     stop(length, end)
 }
 

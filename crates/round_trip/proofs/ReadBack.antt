@@ -25,7 +25,7 @@ use Rattle.card.specs.Extents.{extentsHold}
 use Rattle.card.specs.Read.{numberIn, cardOf}
 use Rattle.card.specs.Write.{counted, valuesOf, cardText}
 use Rattle.card.specs.RoundTrips.{recordOf, ReadBack, ReadsBack}
-use Rattle.text.proofs.Digits.{number-digits}
+use Rattle.text.proofs.Numbers.{number-digits}
 use Rattle.text.proofs.Angles.{angle-of-text}
 use Rattle.round_trip.proofs.Table.{count-held, angle-held, a-name, a-flag, Along, done, _then_, along-at, Held, Text, length-written, texts, walks}
 use Rattle.card.proofs.Found.{Stores}

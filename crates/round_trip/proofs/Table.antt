@@ -15,7 +15,7 @@ use Rattle.text.specs.Text.{isFlag, nameLaid, part}
 use Rattle.card.specs.Layout.{Kind, Subfield, STR, bytesOf, rightKind, rightValue, judgeField, walk}
 use Rattle.card.specs.Write.{Value, counted, angle, named, flagged, textOf, written}
 use Rattle.text.proofs.Bytes.{part-at, cut}
-use Rattle.text.proofs.Digits.{length-digits, all-digits, number-digits}
+use Rattle.text.proofs.Numbers.{length-digits, all-digits, number-digits}
 use Rattle.text.proofs.Angles.{length-angle, text-laid, text-valid}
 
 -- ---- a value that its subfield can hold

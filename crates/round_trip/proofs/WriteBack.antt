@@ -16,7 +16,7 @@ use Rattle.card.specs.Read.{numberIn, cardOf}
 use Rattle.card.specs.Write.{valuesOf, cardText}
 use Rattle.card.specs.RoundTrips.{recordOf, WrittenBack, WritesBack}
 use Rattle.text.proofs.Bytes.{length-part, drop-next}
-use Rattle.text.proofs.Digits.{digits-number}
+use Rattle.text.proofs.Numbers.{digits-number}
 use Rattle.text.proofs.Angles.{text-of-angle}
 use Rattle.round_trip.proofs.Table.{Along, done, _then_, Text, written-back}
 use Rattle.round_trip.proofs.Records.{Good, Writes, is-written, text-out}

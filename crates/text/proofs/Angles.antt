@@ -11,7 +11,7 @@ use lib.Signed.{ltZ}
 use lib.ListN.{length, getD, length-append}
 use borrow.Author.Tests.{leb-true, ltb-true, eqb-true, le-leb, lt-ltb, le-ltb, ne-eqb}
 use Rattle.text.specs.Text.{isSign, minus, number, angleLaid, minutes, seconds, angleSize, angleOf, angleValid, digits, angleText}
-use Rattle.text.proofs.Digits.{length-digits, number-digits, digits-number, number-below}
+use Rattle.text.proofs.Numbers.{length-digits, number-digits, digits-number, number-below}
 use Rattle.text.proofs.Runs.{Run, Runs, joined, digits-run, laid, sign-at, minutes-is, seconds-is, size-is, runs}
 
 abbrev signByte : ℤ → ℕ

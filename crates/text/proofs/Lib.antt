@@ -1,5 +1,5 @@
 pub mod Bytes
-pub mod Digits
+pub mod Numbers
 pub mod Splices
 pub mod Runs
 pub mod Angles

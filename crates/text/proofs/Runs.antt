@@ -10,7 +10,7 @@ use lib.Seq.{getD-at}
 use borrow.Author.Tests.{eqb-true, eq-eqb}
 use Rattle.text.specs.Text.{all, part, isDigit, isSign, number, angleLaid, degrees, minutes, seconds, hundredths, angleSize, digits}
 use Rattle.text.proofs.Bytes.{part-at, length-part, cut, drop-next, all-append, all-groups}
-use Rattle.text.proofs.Digits.{length-digits, all-digits}
+use Rattle.text.proofs.Numbers.{length-digits, all-digits}
 
 -- w digits
 pub record Run (w : ℕ) (x : List ℕ) : Type 0 where

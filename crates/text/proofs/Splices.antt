@@ -1,23 +1,23 @@
--- A piece put into a list at an offset: pieces put one after the other are one piece, and a loop that stores a piece byte by
--- byte has put it. Assumes nothing.
-use mathlib.Core.Path.{_≡_, refl, ap, _∙_}
+-- A text put into a buffer at an offset: texts put one after the other are one text, and a loop that stores a text from its last
+-- byte to its first has put it. Assumes nothing.
+use mathlib.Core.Path.{_≡_, refl, sym, ap, _∙_}
+use mathlib.Core.Bool.{Bool, true, false, cond, not}
 use mathlib.Core.List.{List, [], _∷_, _++_, append-assoc}
-use Prim.Native.Nat.{ℕ, _+_, _≤_, _<_}
+use Prim.Native.Nat.{ℕ, suc, _+_, _-_, _≤_, _<_}
 use native.Mathlib.Nat.{zero-add, add-zero, add-assoc}
 use native.Mathlib.Numerals.{add-one}
 use native.Mathlib.Omega.{arith}
-use lib.ListN.{length, getD, take, drop, set, length-append, length-take, length-drop, length-set, take-append-drop}
-use lib.Seq.{paste, paste-zero, paste-suc, set-split, take-at, take-all, take-suc, length-take-le, drop-append-add, drop-drop}
+use lib.ListN.{length, getD, take, drop, set, length-append, length-take, length-drop, take-append-drop}
+use lib.Seq.{set-at, set-split, take-at, take-suc, length-take-le, append-snoc, drop-append-add, drop-cons, drop-drop, drop-length}
+use lib.Dec.{leb}
+use borrow.Author.Tests.{leb-true, leb-false, le-leb, lt-leb, not-true, not-false}
 use Rattle.whole.specs.Lists.{over}
-use Rattle.text.specs.Steps.{splice, Put}
+use Rattle.text.specs.Buffer.{splice, hasRoom, putAt, endOf}
+use Rattle.text.specs.Steps.{Put}
 
 pub splice-nil : (o : ℕ) (s : List ℕ) → splice o [] s ≡ s
 unfolding splice
 splice-nil o s = rw add-zero (take-append-drop o s)
-
-pub splice-set : (o b : ℕ) (s : List ℕ) → o < length s → set s o b ≡ splice o (b ∷ []) s
-unfolding splice
-splice-set o b s h = rw add-one (set-split s o b h)
 
 -- at the start
 pub splice-over : (x s : List ℕ) → splice 0 x s ≡ over x s
@@ -28,8 +28,8 @@ pub length-splice : (o : ℕ) (x s : List ℕ) → o + length x ≤ length s →
 unfolding splice
 length-splice o x s h = simp (length-append, length-take, length-drop) (omega arith)
 
--- a piece put after a piece is one piece
-splice-splice : (o : ℕ) (x y s : List ℕ) → o ≤ length s → splice (o + length x) y (splice o x s) ≡ splice o (x ++ y) s
+-- a text put after a text is one text
+pub splice-splice : (o : ℕ) (x y s : List ℕ) → o ≤ length s → splice (o + length x) y (splice o x s) ≡ splice o (x ++ y) s
 unfolding splice
 splice-splice o x y s h =
     let p = take o s ++ x in
@@ -40,35 +40,19 @@ splice-splice o x y s h =
     let n : o + length x + length y ≡ length p + length y = omega arith in
     rw (e, t, n, drop-append-add p r (length y), drop-drop, length-append) (simp (append-assoc, add-assoc))
 
--- a piece u put after the piece t, at the code's offset k
-pub run-next : (o k : ℕ) (x y s t u : List ℕ) → t ≡ splice o x s → k ≡ o + length x → o + length x ≤ length s → u ≡ splice k y t
-    → u ≡ splice o (x ++ y) s
-run-next o k x y s t u et ek h eu = eu ∙ rw (et, ek) (splice-splice o x y s (omega arith))
+-- one byte more in front of a text
+splice-front : (o b : ℕ) (y s : List ℕ) → o < length s → set (splice (suc o) y s) o b ≡ splice o (b ∷ y) s
+unfolding splice
+splice-front o b y s h =
+    let r = y ++ drop (suc o + length y) s in
+    let e : suc o + length y ≡ o + suc (length y) = omega arith in
+    rw (take-suc s o 0 h, append-snoc (take o s) (getD s o 0) r, set-at (take o s) (getD s o 0) r b o (length-take-le o s (omega arith)), e)
 
--- one byte more of a piece
-pub put-next : (o j b : ℕ) (x s : List ℕ) → j < length x → o + length x ≤ length s → getD x j 0 ≡ b
-    → splice (o + j) (b ∷ []) (splice o (take j x) s) ≡ splice o (take (j + 1) x) s
-put-next o j b x s hj h e =
-    let l : length (take j x) ≡ j = length-take-le j x (omega arith) in
-    let n : take (j + 1) x ≡ take j x ++ (b ∷ []) = rw (add-one, take-suc x j 0 hj, e) in
-    let q : splice (o + length (take j x)) (b ∷ []) (splice o (take j x) s) ≡ splice o (take j x ++ (b ∷ [])) s =
-    splice-splice o (take j x) (b ∷ []) s (omega arith) in
-    rw n (rw l at q)
-
--- ---- the buffer and where the piece ends
+-- ---- the buffer, and where the text ends
 
 -- the buffer stays as long as it was
 pub put-length : {x s t : List ℕ} {o r : ℕ} → Put x o s t r → length t ≡ length s
 put-length {x} {s} {t} {o} {r} p = ap length (p .holds) ∙ length-splice o x s (omega (arith, p .ends, p .fits))
-
-pub put-then : {x y s t u : List ℕ} {o r q : ℕ} → Put x o s t r → Put y r t u q → Put (x ++ y) o s u q
-put-then {x} {y} {s} {t} {u} {o} {r} {q} p w =
-    let l : length t ≡ length s = put-length p in
-    record {
-      ends = omega (arith, p .ends, w .ends, length-append x y);
-      fits = omega (arith, w .fits);
-      holds = w .holds ∙ rw (p .holds, p .ends) (splice-splice o x y s (omega (arith, p .ends, p .fits)));
-    }
 
 -- at the start
 module _ {x s t : List ℕ} {r : ℕ} (p : Put x 0 s t r) where
@@ -78,31 +62,95 @@ module _ {x s t : List ℕ} {r : ℕ} (p : Put x 0 s t r) where
   pub front-left : t ≡ over x s
   front-left = p .holds ∙ splice-over x s
 
--- ---- a loop: the first j bytes of a piece stand at the offset
+-- ---- what the functions answer: a text that fits was put, and else nothing was
 
-pub record Partly (x s : List ℕ) (o : ℕ) (t : List ℕ) (j : ℕ) : Type 0 where
-  pub same : length t ≡ length s
-  pub so : t ≡ paste s o x j
+module _ {x s t : List ℕ} {o r : ℕ} where
+  pub put-is : Put x o s t r → (r ≡ endOf x o s) × (t ≡ putAt x o s)
+  unfolding putAt endOf
+  put-is p = rw (le-leb (o + length x) (length s) (omega (arith, p .ends, p .fits))) (p .ends, p .holds)
 
-pub partly-none : (x s : List ℕ) (o : ℕ) → Partly x s o s 0
-partly-none x s o = record { same = refl; so = paste-zero s o x }
+-- the buffer stays as long as it was, whether or not the text fits
+pub length-put : (x : List ℕ) (o : ℕ) (s : List ℕ) → length (putAt x o s) ≡ length s
+unfolding putAt
+length-put x o s = go (hasRoom x o s) refl
+  where
+    go : (t : Bool) → hasRoom x o s ≡ t → length (cond t (splice o x s) s) ≡ length s
+    go true e = length-splice o x s (leb-true (o + length x) (length s) e)
+    go false e = refl
 
-module _ {x s t : List ℕ} {o j : ℕ} (p : Partly x s o t j) where
-  -- one turn
-  pub partly-next : (b : ℕ) → o + length x ≤ length s → j < length x → getD x j 0 ≡ b → Partly x s o (set t (o + j) b) (j + 1)
-  partly-next b h l e =
-      record { same = length-set t (o + j) b ∙ p .same; so = rw (p .so, add-one, ← e) (paste-suc s o x j 0 (omega arith) l) }
+pub put-fits : (x : List ℕ) (o : ℕ) (s : List ℕ) → o + length x ≤ length s → putAt x o s ≡ splice o x s
+unfolding putAt
+put-fits x o s h = rw (le-leb (o + length x) (length s) h)
 
-  -- the last turn
-  pub partly-all : o + length x ≤ length s → j ≡ length x → Put x o s t (o + j)
-  unfolding splice
-  partly-all h e =
+pub put-none : (x : List ℕ) (o : ℕ) (s : List ℕ) → length s < o + length x → (o ≡ endOf x o s) × (s ≡ putAt x o s)
+unfolding putAt endOf
+put-none x o s h = rw (lt-leb (o + length x) (length s) h) (refl, refl)
+
+-- a test of the room, as the code makes it
+pub no-room : {t : Bool} (m n : ℕ) → t ≡ leb m n → not t ≡ true → n < m
+no-room {t} m n e h = leb-false m n (sym e ∙ not-true t h)
+
+pub room : {t : Bool} (m n : ℕ) → t ≡ leb m n → not t ≡ false → m ≤ n
+room {t} m n e h = leb-true m n (sym e ∙ not-false t h)
+
+-- a text that was put if it fits
+abbrev pub PutIf : List ℕ → ℕ → List ℕ → List ℕ → ℕ → Type 0
+PutIf x o s t r = o + length x ≤ length s → Put x o s t r
+
+module _ {x s t : List ℕ} {o r : ℕ} where
+  pub put-if : (r ≡ endOf x o s) × (t ≡ putAt x o s) → PutIf x o s t r
+  unfolding putAt endOf
+  put-if e h =
+      let b = le-leb (o + length x) (length s) h in
+      let ends : r ≡ o + length x = rw b at (e .0) in
+      record { ends = ends; fits = omega arith; holds = rw b at (e .1) }
+
+  pub put-then : {y u : List ℕ} {q : ℕ} → PutIf x o s t r → PutIf y r t u q → PutIf (x ++ y) o s u q
+  put-then {y} {u} {q} p w h =
+      let n = length-append x y in
+      let a = p (omega arith) in
+      let l = put-length a in
+      let b = w (omega (arith, a .ends)) in
       record {
-        ends = omega arith;
-        fits = omega arith;
-        holds = p .so ∙ rw (e, take-all (length x) x (omega arith)) (simp append-assoc);
+        ends = omega (arith, a .ends, b .ends);
+        fits = omega (arith, b .fits);
+        holds = b .holds ∙ rw (a .holds, a .ends) (splice-splice o x y s (omega (arith, a .ends, a .fits)));
       }
 
+-- ---- a loop: the bytes of a text from its j-th on stand at the offset
+
+pub record Ending (x s : List ℕ) (o : ℕ) (t : List ℕ) (j : ℕ) : Type 0 where
+  pub fits : o + length x ≤ length s
+  pub within : j ≤ length x
+  pub so : t ≡ splice (o + j) (drop j x) s
+
+pub ending-none : (x s : List ℕ) (o : ℕ) → o + length x ≤ length s → Ending x s o s (length x)
+ending-none x s o h = record { fits = h; within = omega arith; so = rw (drop-length x) (sym (splice-nil (o + length x) s)) }
+
+module _ {x s t : List ℕ} {o j : ℕ} (p : Ending x s o t j) where
+  pub ending-length : length t ≡ length s
+  ending-length =
+      let f = p .fits in
+      let w = p .within in
+      ap length (p .so) ∙ length-splice (o + j) (drop j x) s (omega (arith, length-drop j x))
+
+  -- one turn
+  pub ending-next : (b : ℕ) → 0 < j → getD x (j - 1) 0 ≡ b → Ending x s o (set t (o + (j - 1)) b) (j - 1)
+  ending-next b h e =
+      let f = p .fits in
+      let w = p .within in
+      let n : suc (j - 1) ≡ j = omega arith in
+      let m : suc (o + (j - 1)) ≡ o + j = omega arith in
+      let d : b ∷ drop j x ≡ drop (j - 1) x = sym (rw (n, e) at (drop-cons x (j - 1) 0 (omega arith))) in
+      let q : set (splice (suc (o + (j - 1))) (drop j x) s) (o + (j - 1)) b ≡ splice (o + (j - 1)) (b ∷ drop j x) s =
+      splice-front (o + (j - 1)) b (drop j x) s (omega arith) in
+      record { fits = f; within = omega arith; so = rw (p .so, ← d) (rw m at q) }
+
+  -- the last turn
+  pub ending-all : j ≡ 0 → Put x o s t (o + length x)
+  ending-all e = record { ends = refl; fits = p .fits; holds = rw (e, add-zero) at (p .so) }
+
 -- one byte
-pub put-byte : (s : List ℕ) (o b : ℕ) → o < length s → Put (b ∷ []) o s (set s o b) (o + 1)
-put-byte s o b h = record { ends = refl; fits = omega arith; holds = splice-set o b s h }
+pub put-one : (s : List ℕ) (o b : ℕ) → o < length s → Put (b ∷ []) o s (set s o b) (o + 1)
+unfolding splice
+put-one s o b h = record { ends = refl; fits = omega arith; holds = rw add-one (set-split s o b h) }

@@ -9,7 +9,9 @@ no-line-requires : tie.Need-no-line-requires
 no-line-requires c κs = search needs
 
 returns : tie.Need-returns
-returns c = let a = c .before .before .before .before .args in line-past (a .k) (a .input .now) (a .at) (a .out .now) (c .no-line .ensures) (c .before .if1 .taken)
+returns c =
+    let a = c .before .before .before .before .args in
+    line-past (a .k) (a .input .now) (a .at) (a .out .now) (c .no-line .ensures) (c .before .if1 .taken)
 
 no-line-requires-2 : tie.Need-no-line-requires-2
 no-line-requires-2 c κs = search needs

@@ -1,4 +1,6 @@
--- The run is the part that `bytes_at` hands over. Assumes nothing.
+-- The run is the part that `bytes_at` hands over, and it has at most eight bytes. Assumes nothing.
+use native.Mathlib.Omega.{arith}
+use Rattle.text.proofs.Numbers.{digits-read}
 use borrow.Author.Needs.{needs}
 use Rattle.card_text.proofs.digits.digits_at.Statement.{statement}
 use Rattle.card_text.proofs.digits.digits_at.Tie as tie
@@ -10,7 +12,9 @@ digits-of-requires : tie.Need-digits-of-requires
 digits-of-requires c κs = search needs
 
 returns : tie.Need-returns
-returns c = rw (c .before .bytes-at .ensures .0) at (c .digits-of .ensures)
+returns c = let b = c .before .bytes-at .ensures in
+    let n = digits-read 8 _ (omega (arith, b .1)) (omega arith) (c .digits-of .ensures) in
+    rw (← b .0) (record { tested = n .tested; read = n .read; small = n .small })
 
 pub digits-at-spec : {M : Type 1} → statement M
 digits-at-spec = tie.close (tie.spec bytes-at-requires digits-of-requires returns)

@@ -1,19 +1,16 @@
 -- Each test decides one case of `withValues`, in its order; the counted origin and the record make the card. Assumes nothing.
 use mathlib.Core.Path.{_≡_, sym, ap, ap₂, _∙_}
 use mathlib.Core.Bool.{Bool, cond, _&&_}
-use Prim.Native.Nat.{_*_, _/_, _≤_, _<_, _^_}
+use Prim.Native.Nat.{_*_, _/_, _≤_}
 use native.Mathlib.Omega.{arith}
 use borrow.Author.Tests.{not-true, not-false}
 use lib.Dec.{eqb}
 use lib.ListN.{getD}
 use lib.IntN.{ℤ}
-use lib.Signed.{mag}
-use mir.Syntax.{w64}
-use mir.Val.{toZ, ofZ}
-use mir.ValLaws.{toZ-ofZ}
 use Rattle.whole.specs.declared.Counted.{Counted}
 use Rattle.arc.specs.Refusals.{refusal}
 use Rattle.card.specs.declared.Reading.{Reading}
+use Rattle.card.proofs.Answers.{result-is}
 use Rattle.card.specs.Read.{acceptedCard, refusedCard, withOrigin, withValues}
 use Rattle.card_text.specs.StepsRead.{foundAt, tileAt, recordIn, cardFrom}
 use Rattle.card_text.proofs.Values.{pso-kept, lso-kept, north-high, east-high, values-are, extents-are}
@@ -62,10 +59,6 @@ columns c =
     let p = start (northward c) .pre in
     east-high (p .0) (p .1 .0) (p .1 .1) (c .before .before .before .tile-of2 .ensures) (c .before .east .given .1)
 
--- a number handed on as the machine holds it
-told : {z y : ℤ} → mag z < 2 ^ 63 → z ≡ y → toZ w64 (ofZ w64 z) ≡ y
-told {z} f e = toZ-ofZ w64 z (record { sfits = f }) ∙ e
-
 abbrev eastward : tie.After-extents-hold → tie.After-known-told2
 eastward c = c .before .before .before .before
 
@@ -81,8 +74,8 @@ answer : (c : tie.After-extents-hold) {ok : Bool} → c .extents-hold .result �
 answer c q =
     let e = eastward c in
     let s = start (northward e) in
-    let n = told (c .before .before .before .difference .ok) (c .before .before .before .difference .ensures) in
-    let m = told (c .before .before .difference2 .ok) (c .before .before .difference2 .ensures) in
+    let n = result-is (c .before .before .before .difference .ok) (c .before .before .before .difference .ensures) in
+    let m = result-is (c .before .before .difference2 .ok) (c .before .before .difference2 .ensures) in
     rw (with-north (northward e), sym (e .before .before .before .tile-of2 .ensures) ∙ e .before .east .given .1)
     (extents-are (s .args .scale) (s .args .zone) (s .args .a) (s .args .b) _ _ (s .args .s .now) _ _
     (c .before .record-in .ensures ∙ ap₂ (λ (x y : ℤ). recordIn x y (s .args .s .now)) n m) (sym q ∙ c .extents-hold .ensures))

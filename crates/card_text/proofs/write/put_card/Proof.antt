@@ -1,61 +1,154 @@
--- The lead, the extents, the fixed subfields, BAD and TIF are the whole layout. Assumes nothing.
+-- Each subfield is put at its offset, and they are the whole layout. Assumes nothing.
+use mathlib.Core.Path.{_∙_}
+use mir.Syntax.{w64}
+use mir.ValLaws.{toZ-ofZ}
 use Rattle.card.specs.Layout.{layout}
-use Rattle.card_text.specs.StepsWrite.{FieldsPut, end, _▸_, heldBy}
-use Rattle.card_text.proofs.Written.{put-append, put-all}
+use Rattle.card.specs.Write.{valuesOf, cardText}
+use Rattle.text.proofs.Splices.{splice-over}
+use Rattle.card_text.proofs.Written.{FieldsPut, end, _▸_, put-all, fields-length}
 use borrow.Author.Needs.{needs}
 use Rattle.card_text.proofs.write.put_card.Statement.{statement}
 use Rattle.card_text.proofs.write.put_card.Tie as tie
 
-stored-at-requires : tie.Need-stored-at-requires
-stored-at-requires c κs = search needs
+abbrev start : tie.After-slice-known21 → tie.Start
+start c =
+    let pcb = c .before .before .before .before .before .before .before .before .before .before .before .before .before .before .before in
+    let pnl = pcb .before .before .before .before .before .before .before .before .before .before .before .before .before .before .before .before in
+    let nls = pnl .before .before .before .before .before .before .before .before .before .before .before .before .before .before .before .before in
+    let pso = nls .before .before .before .before .before .before .before .before .before .before .before .before .before .before .before .before in
+    let str = pso .before .before .before .before .before .before .before .before .before .before .before .before .before .before .before .before in
+    str .before .before .before .before
 
-stored-at-requires-2 : tie.Need-stored-at-requires-2
-stored-at-requires-2 c κs = search needs
+fields : (c : tie.After-slice-known21)
+    → FieldsPut layout (valuesOf (start c .args .a) (start c .args .b) (start c .args .r)) (start c .args .out .now) (c .before .before .put-byte .last .0)
+unfolding layout valuesOf
+fields c =
+    let tif = c .before .before in
+    let bad = tif .before .before .before .before .before in
+    let pvb = bad .before .before .before .before in
+    let pcb = pvb .before .before .before .before in
+    let por = pcb .before .before .before .before in
+    let rod = por .before .before .before .before in
+    let cod = rod .before .before .before .before in
+    let pnl = cod .before .before .before .before in
+    let pnc = pnl .before .before .before .before in
+    let nfc = pnc .before .before .before .before in
+    let nfl = nfc .before .before .before .before in
+    let nls = nfl .before .before .before .before in
+    let nll = nls .before .before .before .before in
+    let nus = nll .before .before .before .before in
+    let nul = nus .before .before .before .before in
+    let pso = nul .before .before .before .before in
+    let lso = pso .before .before .before .before in
+    let brv = lso .before .before .before .before in
+    let arv = brv .before .before .before .before in
+    let str = arv .before .before .before .before in
+    let s = str .before .before .before .before in
+    let lat = toZ-ofZ w64 (s .args .lat) (s .fits .lat) ∙ s .pre .1 .0 in
+    let lon = toZ-ofZ w64 (s .args .lon) (s .fits .lon) ∙ s .pre .1 .1 in
+    str .put-number .ensures .1 ▸ arv .put-number2 .ensures .1 ▸ brv .put-number3 .ensures .1 ▸
+    (rw lon at (lso .put-angle .ensures .1)) ▸ (rw lat at (pso .put-angle2 .ensures .1)) ▸
+    nul .put-number4 .ensures .1 ▸ nus .put-number5 .ensures .1 ▸ nll .put-number6 .ensures .1 ▸ nls .put-number7 .ensures .1 ▸
+    nfl .put-number8 .ensures .1 ▸ nfc .put-number9 .ensures .1 ▸ pnc .put-number10 .ensures .1 ▸ pnl .put-number11 .ensures .1 ▸
+    cod .put-number12 .ensures .1 ▸ rod .put-number13 .ensures .1 ▸ por .put-number14 .ensures .1 ▸ pcb .put-number15 .ensures .1 ▸
+    pvb .put-number16 .ensures .1 ▸ bad .put-name .ensures .0 ▸ (rw (tif .before .flag .ensures) at (tif .put-byte .ensures .1)) ▸ end
 
-put-lead-requires : tie.Need-put-lead-requires
-put-lead-requires c κs = search needs
+put-number-requires : tie.Need-put-number-requires
+put-number-requires c κs = search needs
 
-put-extents-requires : tie.Need-put-extents-requires
-put-extents-requires c κs = search needs
+put-number-requires-2 : tie.Need-put-number-requires-2
+put-number-requires-2 c κs = search needs
 
-put-fixed-requires : tie.Need-put-fixed-requires
-put-fixed-requires c κs = search needs
+put-number-requires-3 : tie.Need-put-number-requires-3
+put-number-requires-3 c κs = search needs
+
+put-angle-requires : tie.Need-put-angle-requires
+put-angle-requires c κs = search needs
+
+put-angle-requires-2 : tie.Need-put-angle-requires-2
+put-angle-requires-2 c κs = search needs
+
+put-number-requires-4 : tie.Need-put-number-requires-4
+put-number-requires-4 c κs = search needs
+
+put-number-requires-5 : tie.Need-put-number-requires-5
+put-number-requires-5 c κs = search needs
+
+put-number-requires-6 : tie.Need-put-number-requires-6
+put-number-requires-6 c κs = search needs
+
+put-number-requires-7 : tie.Need-put-number-requires-7
+put-number-requires-7 c κs = search needs
+
+put-number-requires-8 : tie.Need-put-number-requires-8
+put-number-requires-8 c κs = search needs
+
+put-number-requires-9 : tie.Need-put-number-requires-9
+put-number-requires-9 c κs = search needs
+
+put-number-requires-10 : tie.Need-put-number-requires-10
+put-number-requires-10 c κs = search needs
+
+put-number-requires-11 : tie.Need-put-number-requires-11
+put-number-requires-11 c κs = search needs
+
+put-number-requires-12 : tie.Need-put-number-requires-12
+put-number-requires-12 c κs = search needs
+
+put-number-requires-13 : tie.Need-put-number-requires-13
+put-number-requires-13 c κs = search needs
+
+put-number-requires-14 : tie.Need-put-number-requires-14
+put-number-requires-14 c κs = search needs
+
+put-number-requires-15 : tie.Need-put-number-requires-15
+put-number-requires-15 c κs = search needs
+
+put-number-requires-16 : tie.Need-put-number-requires-16
+put-number-requires-16 c κs = search needs
 
 put-name-requires : tie.Need-put-name-requires
 put-name-requires c κs = search needs
 
-put-flag-requires : tie.Need-put-flag-requires
-put-flag-requires c κs = search needs
+flag-requires : tie.Need-flag-requires
+flag-requires c κs = search needs
+
+put-byte-requires : tie.Need-put-byte-requires
+put-byte-requires c κs = search needs
 
 same-length : tie.Need-same-length
-same-length c = search needs
+same-length c = fields-length (fields c)
 
 returns : tie.Need-returns
-unfolding layout heldBy
-returns c =
-    let tif = c .before .before in
-    let bad = tif .before .before .before .before in
-    let fixed = bad .before .before .before .before in
-    let extents = fixed .before .before .before .before in
-    let lead = extents .before .before .before .before in
-    let s = lead .before .before .before .before .before .before in
-    let first = rw (lead .before .before .stored-at .ensures .0, lead .before .stored-at2 .ensures .0) at (lead .put-lead .ensures) in
-    let all : FieldsPut layout (heldBy (s .args .a) (s .args .b) (s .args .north) (s .args .east) (s .args .r)) (s .args .out .now) _ =
-    put-append first
-    (put-append (extents .put-extents .ensures)
-    (put-append (fixed .put-fixed .ensures) (bad .put-name .ensures .0 ▸ tif .put-flag .ensures ▸ end))) in
-    put-all all 0 (rw (bad .put-name .ensures .1)) (s .pre .0)
+unfolding cardText layout valuesOf
+returns c = let s = start c in
+    let wide = c .before .before .before .before .before .before .before .put-name .ensures .1 in
+    put-all (fields c) 0 (rw wide) (s .pre .0) ∙ splice-over _ _
 
 pub put-card-spec : {M : Type 1} → statement M
 put-card-spec =
     tie.close
     (tie.spec
-    stored-at-requires
-    stored-at-requires-2
-    put-lead-requires
-    put-extents-requires
-    put-fixed-requires
+    put-number-requires
+    put-number-requires-2
+    put-number-requires-3
+    put-angle-requires
+    put-angle-requires-2
+    put-number-requires-4
+    put-number-requires-5
+    put-number-requires-6
+    put-number-requires-7
+    put-number-requires-8
+    put-number-requires-9
+    put-number-requires-10
+    put-number-requires-11
+    put-number-requires-12
+    put-number-requires-13
+    put-number-requires-14
+    put-number-requires-15
+    put-number-requires-16
     put-name-requires
-    put-flag-requires
+    flag-requires
+    put-byte-requires
     same-length
     returns)

@@ -10,16 +10,15 @@ use lib.ListN.{length}
 use mir.Syntax.{w64}
 use mir.Val.{SFits}
 use Rattle.whole.proofs.Counts.{Inside, counted-outside, counted-from}
+use Rattle.origin.proofs.Axis.{latitudes, longitudes, stored-is}
 use Rattle.arc.specs.declared.Refusal.{Refusal}
 use Rattle.arc.specs.declared.SpacingAnswer.{SpacingAnswer}
 use Rattle.arc.specs.declared.Verdict.{Verdict}
 use Rattle.arc.specs.Refusals.{refusal}
+use Rattle.card.proofs.Answers.{told}
 use Rattle.card.specs.Write.{first, recordTests, writeIn}
-use Rattle.text.specs.Steps.{splice}
 use Rattle.card_text.specs.StepsWrite.{countTests, outIn}
-use Rattle.text.proofs.Splices.{splice-over}
-use Rattle.card_text.proofs.Tests.{inside-is, narrow, counts-refused, rows-refused, columns-refused, extents-judged}
-use Rattle.card_text.proofs.Written.{held-are}
+use Rattle.card_text.proofs.Tests.{inside-is, counts-refused, rows-refused, columns-refused, extents-judged}
 use borrow.Author.Needs.{needs}
 use Rattle.card_text.proofs.write.write_spaced.Statement.{statement}
 use Rattle.card_text.proofs.write.write_spaced.Tie as tie
@@ -172,19 +171,24 @@ returns-6 c =
     let x = c .before .before in
     stays (counted x) (judged x ∙ rw (not-true (x .extents-hold .result) (c .before .if3 .taken))) (c .refused5 .ensures)
 
+angle-at-requires : tie.Need-angle-at-requires
+angle-at-requires c κs =
+    let x = c .before in (start (counted x) .pre .1, omega (arith, rows (x .before .before .before .before .before .before) .high))
+
+angle-at-requires-2 : tie.Need-angle-at-requires-2
+angle-at-requires-2 c κs = let x = c .before .before in (start (counted x) .pre .0, omega (arith, columns (x .before) .high))
+
 put-card-requires : tie.Need-put-card-requires
 put-card-requires c κs =
-    let x = c .before .before in
+    let x = c .before .before .before .before in
     let s = start (counted x) in
-    let north = rows (x .before .before .before .before .before .before) in
-    let held = sym (x .extents-hold .ensures) ∙ not-false (x .extents-hold .result) (c .before .if3 .left) in (
+    let north = inside-is _ _ _ (rows (x .before .before .before .before .before .before)) in
+    let east = inside-is _ _ _ (columns (x .before)) in (
       counted x .before .before .before .if2 .left,
       (
-        s .pre .0,
-        (
-          s .pre .1,
-          ((omega (arith, north .high), omega (arith, columns (x .before) .high)), narrow (s .args .r) (s .args .a) _ (right (counted x)) held),
-        ),
+        told _ 32400000 (c .before .before .angle-at .ok) (c .before .before .angle-at .ensures)
+            (stored-is (latitudes (s .args .b) (s .pre .1)) (s .args .r .n) _ north),
+        told _ 64800000 (c .before .angle-at2 .ok) (c .before .angle-at2 .ensures) (stored-is (longitudes (s .args .a) (s .pre .0)) (s .args .r .m) _ east),
       ),
     )
 
@@ -193,13 +197,9 @@ same-length c = search needs
 
 returns-7 : tie.Need-returns-7
 returns-7 c =
-    let x = c .before .before .before .before .before in
-    let s = start (counted x) in
-    let codes =
-    held-are (s .args .a) (s .args .b) _ _ (s .args .r) (s .pre .0) (s .pre .1)
-    (inside-is _ _ _ (rows (x .before .before .before .before .before .before))) (inside-is _ _ _ (columns (x .before))) in
-    rw (answered (counted x) (judged x), not-false (x .extents-hold .result) (c .before .before .before .before .if3 .left))
-    (refl, c .before .before .put-card .ensures ∙ ap (λ (t : List ℕ). splice 0 t (s .args .out .now)) codes ∙ splice-over _ _)
+    let x = c .before .before .before .before .before .before .before in
+    rw (answered (counted x) (judged x), not-false (x .extents-hold .result) (c .before .before .before .before .before .before .if3 .left))
+    (refl, c .before .before .put-card .ensures)
 
 pub write-spaced-spec : {M : Type 1} → statement M
 write-spaced-spec =
@@ -228,6 +228,8 @@ write-spaced-spec =
     extents-hold-requires
     refused-requires-5
     returns-6
+    angle-at-requires
+    angle-at-requires-2
     put-card-requires
     same-length
     returns-7)

@@ -1,5 +1,7 @@
 -- The line's two numbers decide, and each is below 10 ^ 9. Assumes nothing.
 use Prim.Native.Nat.{_<_}
+use native.Mathlib.Omega.{arith}
+use Rattle.text.proofs.Splices.{put-if}
 use borrow.Author.Needs.{needs}
 use Rattle.printing.specs.Printed.{lineFor}
 use Rattle.printing.proofs.Pairs.{told-pair, told-below, told-bad}
@@ -26,11 +28,11 @@ put-line-requires c κs =
 enum-told : tie.Need-enum-told
 enum-told c = search needs
 
-slice-aggregate-text : tie.Need-slice-aggregate-text
-slice-aggregate-text c = search needs
+slice-aggregate-put-bytes : tie.Need-slice-aggregate-put-bytes
+slice-aggregate-put-bytes c = search needs
 
-text-requires : tie.Need-text-requires
-text-requires c κs = search needs
+put-bytes-requires : tie.Need-put-bytes-requires
+put-bytes-requires c κs = search needs
 
 same-length : tie.Need-same-length
 same-length c = search needs
@@ -54,7 +56,7 @@ returns-2 c =
     let t = p .before .before .before in
     let n = t .before .before in
     let s = n .before .before .before in
-    rw (told-bad (s .args .line .now) (n .numbers-in .ensures) (t .enum-told .given .1)) (p .text .ensures)
+    rw (told-bad (s .args .line .now) (n .numbers-in .ensures) (t .enum-told .given .1)) (put-if (p .put-bytes .ensures) (omega arith))
 
 pub put-pixel-spec : {M : Type 1} → statement M
 put-pixel-spec =
@@ -65,8 +67,8 @@ put-pixel-spec =
     position-at-requires
     put-line-requires
     enum-told
-    slice-aggregate-text
-    text-requires
+    slice-aggregate-put-bytes
+    put-bytes-requires
     same-length
     returns
     same-length-2

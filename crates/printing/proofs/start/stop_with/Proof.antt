@@ -1,11 +1,13 @@
 -- The text is put at the front, and its length answered. Assumes nothing.
-use borrow.Author.Needs.{needs}
+use native.Mathlib.Omega.{arith}
+use Rattle.text.proofs.Splices.{put-if}
 use Rattle.printing.proofs.Openings.{stops}
+use borrow.Author.Needs.{needs}
 use Rattle.printing.proofs.start.stop_with.Statement.{statement}
 use Rattle.printing.proofs.start.stop_with.Tie as tie
 
-text-requires : tie.Need-text-requires
-text-requires c κs = search needs
+put-bytes-requires : tie.Need-put-bytes-requires
+put-bytes-requires c κs = search needs
 
 stop-requires : tie.Need-stop-requires
 stop-requires c κs = search needs
@@ -14,7 +16,7 @@ same-length : tie.Need-same-length
 same-length c = search needs
 
 returns : tie.Need-returns
-returns c = stops (c .before .before .before .text .ensures) (c .stop .result) _ (c .stop .ensures)
+returns c = stops (put-if (c .before .before .before .put-bytes .ensures) (omega arith)) (c .stop .result) _ (c .stop .ensures)
 
 pub stop-with-spec : {M : Type 1} → statement M
-stop-with-spec = tie.close (tie.spec text-requires stop-requires same-length returns)
+stop-with-spec = tie.close (tie.spec put-bytes-requires stop-requires same-length returns)
