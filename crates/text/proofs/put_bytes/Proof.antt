@@ -21,7 +21,10 @@ returns c =
     put-none (a .x .now) (a .o) (a .out .now) (no-room _ _ (c .before .has-room .ensures) (c .if1 .taken))
 
 loop-holds : tie.Need-loop-holds Inv-loop μ-loop
-loop-holds c = let a = c .before .before .before .before .args in ending-none (a .x .now) (a .out .now) (a .o) (room _ _ (c .before .has-room .ensures) (c .if1 .left))
+loop-holds c =
+    let a = c .before .before .before .before .args in
+    let fits = room _ _ (c .before .has-room .ensures) (c .if1 .left) in
+    ending-none (a .x .now) (a .out .now) (a .o) fits
 
 sub-j : tie.Need-sub-j Inv-loop μ-loop
 sub-j c = omega arith

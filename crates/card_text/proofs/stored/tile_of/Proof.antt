@@ -1,9 +1,12 @@
 -- The nearest tile is at most one past the circle, so no product is too large; the one test decides the case. Assumes nothing.
-use mathlib.Core.Path.{ap}
+use mathlib.Core.Path.{_≡_, ap}
+use mathlib.Core.Bool.{Bool, cond}
 use Prim.Native.Nat.{ℕ, _+_, _*_, _≤_}
 use native.Mathlib.Nat.{mul-le-mul}
 use native.Mathlib.Omega.{arith}
+use lib.Dec.{eqb}
 use borrow.Author.Tests.{eq-eqb, ne-eqb}
+use Rattle.whole.specs.declared.Counted.{Counted}
 use Rattle.whole.proofs.Machine.{fits-mul}
 use Rattle.whole.proofs.Near.{near-low}
 use Rattle.card_text.specs.StepsRead.{tileAngle, foundAt}
@@ -34,19 +37,16 @@ mul-nearest-2 c = omega (arith, back c)
 nearest-requires-2 : tie.Need-nearest-requires-2
 nearest-requires-2 c κs = (omega (arith, back c), (omega (arith, c .before .pre .0 .some), omega (arith, c .before .pre .0 .most)))
 
-returns : tie.Need-returns
+found : (c : tie.After-nearest2) {t : Bool} → eqb (c .nearest2 .result) (c .before .before .args .angle) ≡ t
+    → cond t (Counted.From (c .before .nearest .result)) Counted.Outside ≡ foundAt (c .before .before .args .spacing) (c .before .before .args .angle)
 unfolding foundAt
-returns c =
-    let k = c .before .before .nearest .ensures in
-    let s = c .before .before .before .args in
-    rw (← k, ← c .before .nearest2 .ensures, eq-eqb (c .before .nearest2 .result) (s .angle) (c .if1 .taken))
+found c e = rw (← c .before .nearest .ensures, ← c .nearest2 .ensures, e)
+
+returns : tie.Need-returns
+returns c = found (c .before) (eq-eqb _ _ (c .if1 .taken))
 
 returns-2 : tie.Need-returns-2
-unfolding foundAt
-returns-2 c =
-    let k = c .before .before .nearest .ensures in
-    let s = c .before .before .before .args in
-    rw (← k, ← c .before .nearest2 .ensures, ne-eqb (c .before .nearest2 .result) (s .angle) (c .if1 .left))
+returns-2 c = found (c .before) (ne-eqb _ _ (c .if1 .left))
 
 pub tile-of-spec : {M : Type 1} → statement M
 tile-of-spec =
