@@ -1,5 +1,6 @@
 // The subfields, each read once (01, "The image card, 98 bytes").
 use crate::digits;
+use arc::Circle;
 use arc::Refusal;
 use arc::Verdict;
 use text::Digits;
@@ -140,9 +141,9 @@ pub fn fields_in(s: &[u8]) -> Fields
     let arv = number_at(s, 1, 8, 0, ANY, str);
     let brv = number_at(s, 9, 8, 0, ANY, arv);
     let lon = digits::digits_at(s, 18, 3);
-    let lso = angle_at(s, 17, 3, lon, 64_800_000, brv);
+    let lso = angle_at(s, 17, 3, lon, Circle::HALF, brv);
     let lat = digits::digits_at(s, 29, 2);
-    let pso = angle_at(s, 28, 2, lat, 32_400_000, lso);
+    let pso = angle_at(s, 28, 2, lat, Circle::QUARTER, lso);
     let nul = number_at(s, 38, 6, 0, ANY, pso);
     let nus = number_at(s, 44, 6, 0, ANY, nul);
     let nll = number_at(s, 50, 6, 0, ANY, nus);

@@ -20,7 +20,7 @@ fn read_spaced(scale: u64, zone: u64, a: u64, b: u64, bytes: &[u8]) -> Reading
     requires { ⌜ Grid a ⌝ ∗ ⌜ Grid b ⌝ }
     ensures { λ r. ⌜ r ≡ readIn scale zone (SpacingAnswer.Constants a b) (now (bytes .entry)) ⌝ }
 {
-    if (zone == 9) | (zone == 18) {
+    if arc::is_polar(zone) {
         return read::refused_with(arc::refused(3));
     }
     if bytes.len() != 98 {

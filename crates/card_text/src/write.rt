@@ -3,6 +3,7 @@ use crate::digits;
 use crate::fields;
 use crate::read;
 use crate::stored;
+use arc::Circle;
 use arc::Refusal;
 use arc::Verdict;
 use card::Record;
@@ -96,7 +97,7 @@ pub fn write_spaced(zone: u64, a: u64, b: u64, r: Record, out: &mut [u8]) -> Ver
     ensures verdict { λ v. ⌜ v ≡ writeIn zone (SpacingAnswer.Constants a b) r (length (now (out .entry))) ⌝ }
     ensures left { λ _. ⌜ now (out .exit) ≡ outIn zone (SpacingAnswer.Constants a b) r (now (out .entry)) ⌝ }
 {
-    if (zone == 9) | (zone == 18) {
+    if arc::is_polar(zone) {
         return Verdict::Refused(arc::refused(3));
     }
     if out.len() < 98 {
@@ -115,8 +116,8 @@ pub fn write_spaced(zone: u64, a: u64, b: u64, r: Record, out: &mut [u8]) -> Ver
     if !read::extents_hold(a, north, r) {
         return Verdict::Refused(arc::refused(11));
     }
-    let lat = stored::angle_at(north, b, 32_400_000);
-    let lon = stored::angle_at(east, a, 64_800_000);
+    let lat = stored::angle_at(north, b, Circle::LATITUDE);
+    let lon = stored::angle_at(east, a, Circle::LONGITUDE);
     put_card(out, a, b, lat, lon, r);
     Verdict::Accepted
 }

@@ -155,8 +155,8 @@ impl Engine {
         let k = self.card;
         match k.judge_pixel(row, column) {
             Verdict::Accepted => PositionAnswer::At {
-                lat: whole::difference(self.north_of(row as u64) as u32, 32_400_000),
-                lon: whole::difference(self.east_of(column as u64) as u32, 64_800_000),
+                lat: whole::difference(self.north_of(row as u64) as u32, Circle::LATITUDE),
+                lon: whole::difference(self.east_of(column as u64) as u32, Circle::LONGITUDE),
             },
             Verdict::Refused(r) => PositionAnswer::Refused(r),
         }

@@ -1,10 +1,12 @@
 -- Each test decides one case of `readIn`, in its order; the one pass over the layout is the walk, with its values. Assumes nothing.
 use mathlib.Core.Path.{_≡_, sym, ap, _∙_}
+use mathlib.Core.Bool.{false}
 use borrow.Author.Tests.{eq-eqb, ne-eqb}
 use lib.ListN.{length}
 use Rattle.arc.specs.declared.SpacingAnswer.{SpacingAnswer}
 use Rattle.arc.specs.declared.Verdict.{Verdict}
 use Rattle.arc.specs.Refusals.{onVerdict}
+use Rattle.arc.specs.Zones.{isPolar}
 use Rattle.card.specs.Layout.{layout, walk}
 use Rattle.card.specs.Read.{refusedCard, withValues, readIn}
 use borrow.Author.Needs.{needs}
@@ -13,7 +15,10 @@ use Rattle.card_text.proofs.read_spaced.Tie as tie
 
 -- past the length
 abbrev start : tie.After-fields-in → tie.Start
-start c = c .before .before .before .before
+start c = c .before .before .before .before .before
+
+not-polar : (c : tie.Else1) → isPolar (c .before .before .before .args .zone) ≡ false
+not-polar c = sym (c .before .is-polar .ensures) ∙ c .if1 .left
 
 walked : (c : tie.After-fields-in) {v : Verdict} → c .fields-in .result .verdict ≡ v → walk layout (start c .args .bytes .now) ≡ v
 walked c e = sym (c .fields-in .ensures .walks) ∙ e
@@ -22,7 +27,7 @@ past : (c : tie.After-fields-in) {v : Verdict} → c .fields-in .result .verdict
     → readIn (start c .args .scale) (start c .args .zone) (SpacingAnswer.Constants (start c .args .a) (start c .args .b)) (start c .args .bytes .now)
     ≡ onVerdict v refusedCard (withValues (start c .args .scale) (start c .args .zone) (start c .args .a) (start c .args .b) (start c .args .bytes .now))
 unfolding readIn
-past c e = rw (c .before .before .if1 .left, eq-eqb (length (start c .args .bytes .now)) 98 (c .before .if2 .left), walked c e)
+past c e = rw (not-polar (c .before .before), eq-eqb (length (start c .args .bytes .now)) 98 (c .before .if2 .left), walked c e)
 
 refused-requires : tie.Need-refused-requires
 refused-requires c κs = search needs
@@ -32,7 +37,7 @@ refused-with-requires c κs = search needs
 
 returns : tie.Need-returns
 unfolding readIn
-returns c = rw (c .before .before .if1 .taken) (c .refused-with .ensures ∙ ap refusedCard (c .before .refused .ensures))
+returns c = rw (sym (c .before .before .before .is-polar .ensures) ∙ c .before .before .if1 .taken) (c .refused-with .ensures ∙ ap refusedCard (c .before .refused .ensures))
 
 refused-requires-2 : tie.Need-refused-requires-2
 refused-requires-2 c κs = search needs
@@ -43,7 +48,7 @@ refused-with-requires-2 c κs = search needs
 returns-2 : tie.Need-returns-2
 unfolding readIn
 returns-2 c =
-    rw (c .before .before .before .if1 .left, ne-eqb (length (c .before .before .before .before .before .args .bytes .now)) 98 (c .before .before .if2 .taken))
+    rw (not-polar (c .before .before .before), ne-eqb (length (c .before .before .before .before .before .before .args .bytes .now)) 98 (c .before .before .if2 .taken))
     (c .refused-with2 .ensures ∙ ap refusedCard (c .before .refused2 .ensures))
 
 fields-in-requires : tie.Need-fields-in-requires
@@ -75,6 +80,7 @@ pub read-spaced-spec : {M : Type 1} → statement M
 read-spaced-spec =
     tie.close
     (tie.spec
+    (λ c κs. search needs)
     refused-requires
     refused-with-requires
     returns

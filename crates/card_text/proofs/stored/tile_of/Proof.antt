@@ -10,6 +10,7 @@ use Rattle.whole.specs.declared.Counted.{Counted}
 use Rattle.whole.proofs.Machine.{fits-mul}
 use Rattle.whole.proofs.Near.{near-low}
 use Rattle.card_text.specs.StepsRead.{tileAngle, foundAt}
+use borrow.Author.Needs.{needs}
 use Rattle.card_text.proofs.stored.tile_of.Statement.{statement}
 use Rattle.card_text.proofs.stored.tile_of.Tie as tie
 
@@ -28,14 +29,8 @@ back c =
 mul-nearest : tie.Need-mul-nearest
 mul-nearest c = fits-mul 129600000 80076800 tt (c .pre .1) (c .pre .0 .most)
 
-nearest-requires : tie.Need-nearest-requires
-nearest-requires c κs = (omega (arith, product c), (omega arith, omega arith))
-
 mul-nearest-2 : tie.Need-mul-nearest-2
 mul-nearest-2 c = omega (arith, back c)
-
-nearest-requires-2 : tie.Need-nearest-requires-2
-nearest-requires-2 c κs = (omega (arith, back c), (omega (arith, c .before .pre .0 .some), omega (arith, c .before .pre .0 .most)))
 
 found : (c : tie.After-nearest2) {t : Bool} → eqb (c .nearest2 .result) (c .before .before .args .angle) ≡ t
     → cond t (Counted.From (c .before .nearest .result)) Counted.Outside ≡ foundAt (c .before .before .args .spacing) (c .before .before .args .angle)
@@ -51,4 +46,4 @@ returns-2 c = found (c .before) (ne-eqb _ _ (c .if1 .left))
 pub tile-of-spec : {M : Type 1} → statement M
 tile-of-spec =
     tie.close
-    (tie.spec mul-nearest nearest-requires mul-nearest-2 nearest-requires-2 returns returns-2)
+    (tie.spec mul-nearest (λ c κs. search needs) mul-nearest-2 (λ c κs. search needs) returns returns-2)

@@ -1,7 +1,7 @@
 -- Each test decides one case of `writeIn`, in its order, with the output as it was; past the tests the codes of the record
 -- are its bytes. Assumes nothing.
 use mathlib.Core.Path.{_≡_, refl, sym, ap, _∙_}
-use mathlib.Core.Bool.{cond}
+use mathlib.Core.Bool.{false, cond}
 use mathlib.Core.List.{List}
 use Prim.Native.Nat.{ℕ, _/_}
 use native.Mathlib.Omega.{arith}
@@ -15,6 +15,7 @@ use Rattle.arc.specs.declared.Refusal.{Refusal}
 use Rattle.arc.specs.declared.SpacingAnswer.{SpacingAnswer}
 use Rattle.arc.specs.declared.Verdict.{Verdict}
 use Rattle.arc.specs.Refusals.{refusal}
+use Rattle.arc.specs.Zones.{isPolar}
 use Rattle.card.proofs.Answers.{told}
 use Rattle.card.specs.Write.{first, recordTests, writeIn}
 use Rattle.card_text.specs.StepsWrite.{countTests, outIn}
@@ -25,7 +26,7 @@ use Rattle.card_text.proofs.write.write_spaced.Tie as tie
 
 -- past the counts
 abbrev start : tie.After-enum-told → tie.Start
-start c = c .before .before .before .before .before .before
+start c = c .before .before .before .before .before .before .before
 
 right : (c : tie.After-enum-told) → first (countTests (start c .args .r)) ≡ Verdict.Accepted
 right c = sym (c .before .before .judge-counts .ensures) ∙ c .enum-told .given .1
@@ -39,8 +40,11 @@ left s = outIn (s .args .zone) (SpacingAnswer.Constants (s .args .a) (s .args .b
 abbrev tests : tie.Start → Verdict
 tests s = first (recordTests (s .args .a) (s .args .b) (s .args .r))
 
+not-polar : (c : tie.Else1) → isPolar (c .before .before .before .args .zone) ≡ false
+not-polar c = sym (c .before .is-polar .ensures) ∙ c .if1 .left
+
 answered : (c : tie.After-enum-told) {v : Verdict} → tests (start c) ≡ v → asked (start c) ≡ v
-answered c e = rw (c .before .before .before .before .if1 .left, le-leb 98 (length (start c .args .out .now)) (c .before .before .before .if2 .left)) e
+answered c e = rw (not-polar (c .before .before .before .before), le-leb 98 (length (start c .args .out .now)) (c .before .before .before .if2 .left)) e
 
 -- a refusal, with the output as it was
 stays : (c : tie.After-enum-told) {e x : Refusal} → tests (start c) ≡ Verdict.Refused e → x ≡ e
@@ -84,14 +88,14 @@ refused-requires : tie.Need-refused-requires
 refused-requires c κs = search needs
 
 returns : tie.Need-returns
-returns c = rw (c .before .if1 .taken) (ap Verdict.Refused (c .refused .ensures), refl)
+returns c = rw (sym (c .before .before .is-polar .ensures) ∙ c .before .if1 .taken) (ap Verdict.Refused (c .refused .ensures), refl)
 
 refused-requires-2 : tie.Need-refused-requires-2
 refused-requires-2 c κs = search needs
 
 returns-2 : tie.Need-returns-2
 returns-2 c =
-    rw (c .before .before .if1 .left, lt-leb 98 (length (c .before .before .before .before .args .out .now)) (c .before .if2 .taken))
+    rw (not-polar (c .before .before), lt-leb 98 (length (c .before .before .before .before .before .args .out .now)) (c .before .if2 .taken))
     (ap Verdict.Refused (c .refused2 .ensures), refl)
 
 judge-counts-requires : tie.Need-judge-counts-requires
@@ -102,10 +106,10 @@ enum-known-counts c = search needs
 
 returns-3 : tie.Need-returns-3
 returns-3 c =
-    let s = c .before .before .before .before .before .before .before in
+    let s = c .before .before .before .before .before .before .before .before in
     let e = counts-refused (s .args .a) (s .args .b) (s .args .r) (sym (c .before .before .before .judge-counts .ensures) ∙ c .before .counts .given .1) in
     rw (
-      c .before .before .before .before .before .if1 .left,
+      not-polar (c .before .before .before .before .before),
       le-leb 98 (length (s .args .out .now)) (c .before .before .before .before .if2 .left),
       e,
     )
@@ -205,6 +209,7 @@ pub write-spaced-spec : {M : Type 1} → statement M
 write-spaced-spec =
     tie.close
     (tie.spec
+    (λ c κs. search needs)
     refused-requires
     returns
     refused-requires-2
