@@ -2,7 +2,7 @@
 use arc::Tile;
 use whole::Counted;
 ghost use mathlib.Core.Path.{_≡_};
-ghost use Prim.Native.Nat.{_*_, _<_, _≤_};
+ghost use Prim.Native.Nat.{_*_, _≤_};
 ghost use lib.IntN.{pos, _-ℤ_};
 ghost use Rattle.whole.specs.Whole.{near};
 ghost use Rattle.arc.specs.Spacing.{Grid};

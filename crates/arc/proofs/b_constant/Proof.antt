@@ -15,8 +15,4 @@ returns-2 c = rw (sym (c .before .before .is-scale .ensures) ∙ not-false _ (c 
 pub b-constant-spec : {M : Type 1} → statement M
 b-constant-spec =
     tie.close
-    (tie.spec
-    (λ c κs. search needs) (λ c κs. search needs)
-    returns
-    (λ c κs. search needs)
-    returns-2)
+    (tie.spec (λ c κs. search needs) (λ c κs. search needs) returns (λ c κs. search needs) returns-2)

@@ -24,8 +24,5 @@ returns-3 c = rw (sym (c .before .before .before .b-constant .ensures) ∙ c .be
 pub spacing-spec : {M : Type 1} → statement M
 spacing-spec =
     tie.close
-    (tie.spec
-    (λ c κs. search needs) (λ c. search needs) (λ c κs. search needs) (λ c. search needs) (λ c. search needs) (λ c. search needs)
-    returns
-    returns-2
-    returns-3)
+    (tie.spec (λ c κs. search needs) (λ c. search needs) (λ c κs. search needs) (λ c. search needs) (λ c. search needs) (λ c. search needs) returns
+    returns-2 returns-3)

@@ -6,23 +6,11 @@ use borrow.Author.Needs.{needs}
 use Rattle.card_text.proofs.read_card.Statement.{statement}
 use Rattle.card_text.proofs.read_card.Tie as tie
 
-spacing-requires : tie.Need-spacing-requires
-spacing-requires c κs = search needs
-
-enum-known-a : tie.Need-enum-known-a
-enum-known-a c = search needs
-
 read-spaced-requires : tie.Need-read-spaced-requires
 read-spaced-requires c κs =
     let s = c .before .before .before .before .before in
     let g = answered-grids (s .args .scale) (s .args .zone) _ _ (sym (c .before .before .before .spacing .ensures) ∙ c .before .a .given .1) in
     (g .columns, g .rows)
-
-enum-known-r : tie.Need-enum-known-r
-enum-known-r c = search needs
-
-refused-with-requires : tie.Need-refused-with-requires
-refused-with-requires c κs = search needs
 
 returns : tie.Need-returns
 returns c = rw (sym (c .before .before .before .before .spacing .ensures) ∙ c .before .before .a .given .1) (c .read-spaced .ensures)
@@ -34,11 +22,4 @@ returns-2 c = rw (sym (c .before .before .before .before .spacing .ensures) ∙ 
 pub read-card-spec : {M : Type 1} → statement M
 read-card-spec =
     tie.close
-    (tie.spec
-    spacing-requires
-    enum-known-a
-    read-spaced-requires
-    enum-known-r
-    refused-with-requires
-    returns
-    returns-2)
+    (tie.spec (λ c κs. search needs) (λ c. search needs) read-spaced-requires (λ c. search needs) (λ c κs. search needs) returns returns-2)

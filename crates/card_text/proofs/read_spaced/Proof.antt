@@ -29,21 +29,9 @@ past : (c : tie.After-fields-in) {v : Verdict} → c .fields-in .result .verdict
 unfolding readIn
 past c e = rw (not-polar (c .before .before), eq-eqb (length (start c .args .bytes .now)) 98 (c .before .if2 .left), walked c e)
 
-refused-requires : tie.Need-refused-requires
-refused-requires c κs = search needs
-
-refused-with-requires : tie.Need-refused-with-requires
-refused-with-requires c κs = search needs
-
 returns : tie.Need-returns
 unfolding readIn
 returns c = rw (sym (c .before .before .before .is-polar .ensures) ∙ c .before .before .if1 .taken) (c .refused-with .ensures ∙ ap refusedCard (c .before .refused .ensures))
-
-refused-requires-2 : tie.Need-refused-requires-2
-refused-requires-2 c κs = search needs
-
-refused-with-requires-2 : tie.Need-refused-with-requires-2
-refused-with-requires-2 c κs = search needs
 
 returns-2 : tie.Need-returns-2
 unfolding readIn
@@ -51,24 +39,12 @@ returns-2 c =
     rw (not-polar (c .before .before .before), ne-eqb (length (c .before .before .before .before .before .before .args .bytes .now)) 98 (c .before .before .if2 .taken))
     (c .refused-with2 .ensures ∙ ap refusedCard (c .before .refused2 .ensures))
 
-fields-in-requires : tie.Need-fields-in-requires
-fields-in-requires c κs = search needs
-
-enum-told : tie.Need-enum-told
-enum-told c = search needs
-
 read-values-requires : tie.Need-read-values-requires
 read-values-requires c κs =
     let x = c .before .before .before in
     let s = start x in
     let walks = walked x (c .enum-told .given .1) in
     (s .pre .0, (s .pre .1, record { long = x .before .if2 .left; walks = walks; kept = x .fields-in .ensures .kept walks }))
-
-enum-known-verdict : tie.Need-enum-known-verdict
-enum-known-verdict c = search needs
-
-refused-with-requires-3 : tie.Need-refused-with-requires-3
-refused-with-requires-3 c κs = search needs
 
 returns-3 : tie.Need-returns-3
 returns-3 c = rw (past (c .before .before .before .before) (c .before .enum-told .given .1)) (c .read-values .ensures)
@@ -79,18 +55,5 @@ returns-4 c = rw (past (c .before .before .before .before .before) (c .before .b
 pub read-spaced-spec : {M : Type 1} → statement M
 read-spaced-spec =
     tie.close
-    (tie.spec
-    (λ c κs. search needs)
-    refused-requires
-    refused-with-requires
-    returns
-    refused-requires-2
-    refused-with-requires-2
-    returns-2
-    fields-in-requires
-    enum-told
-    read-values-requires
-    enum-known-verdict
-    refused-with-requires-3
-    returns-3
-    returns-4)
+    (tie.spec (λ c κs. search needs) (λ c κs. search needs) (λ c κs. search needs) returns (λ c κs. search needs) (λ c κs. search needs) returns-2
+    (λ c κs. search needs) (λ c. search needs) read-values-requires (λ c. search needs) (λ c κs. search needs) returns-3 returns-4)

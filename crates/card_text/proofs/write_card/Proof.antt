@@ -6,12 +6,6 @@ use borrow.Author.Needs.{needs}
 use Rattle.card_text.proofs.write_card.Statement.{statement}
 use Rattle.card_text.proofs.write_card.Tie as tie
 
-spacing-requires : tie.Need-spacing-requires
-spacing-requires c κs = search needs
-
-enum-known-a : tie.Need-enum-known-a
-enum-known-a c = search needs
-
 write-spaced-requires : tie.Need-write-spaced-requires
 write-spaced-requires c κs =
     let s = c .before .before .before .before .before .before in
@@ -19,12 +13,6 @@ write-spaced-requires c κs =
     answered-grids (s .args .scale) (s .args .zone) _ _
     (sym (c .before .before .before .before .spacing .ensures) ∙ c .before .before .a .given .1) in
     (g .columns, g .rows)
-
-enum-known-e : tie.Need-enum-known-e
-enum-known-e c = search needs
-
-same-length : tie.Need-same-length
-same-length c = search needs
 
 returns : tie.Need-returns
 unfolding writeOf outOf
@@ -39,11 +27,4 @@ returns-2 c = rw (sym (c .before .before .before .spacing .ensures) ∙ c .befor
 pub write-card-spec : {M : Type 1} → statement M
 write-card-spec =
     tie.close
-    (tie.spec
-    spacing-requires
-    enum-known-a
-    write-spaced-requires
-    enum-known-e
-    same-length
-    returns
-    returns-2)
+    (tie.spec (λ c κs. search needs) (λ c. search needs) write-spaced-requires (λ c. search needs) (λ c. search needs) returns returns-2)

@@ -29,12 +29,5 @@ returns-2 c =
 pub answer-list-spec : {M : Type 1} → statement M
 answer-list-spec =
     tie.close
-    (tie.spec
-    (λ c κs. search needs)
-    (λ c κs. search needs)
-    returns
-    (λ c κs. search needs)
-    fill-requires
-    (λ c. search needs)
-    (λ c. search needs)
+    (tie.spec (λ c κs. search needs) (λ c κs. search needs) returns (λ c κs. search needs) fill-requires (λ c. search needs) (λ c. search needs)
     returns-2)

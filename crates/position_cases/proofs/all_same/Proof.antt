@@ -25,14 +25,5 @@ lines-same-requires c κs = opening-known _ _ (c .before .before .before .before
 pub all-same-spec : {M : Type 1} → statement M
 all-same-spec =
     tie.close
-    (tie.spec
-    (λ c. search needs)
-    (λ c κs. search needs)
-    array-share-prefix-out
-    slice-aggregate-goes-on
-    (λ c κs. search needs)
-    lines-same-requires
-    (λ c κs. search needs)
-    (λ c. search needs)
-    (λ c κs. search needs)
-    (λ c. search needs))
+    (tie.spec (λ c. search needs) (λ c κs. search needs) array-share-prefix-out slice-aggregate-goes-on (λ c κs. search needs) lines-same-requires
+    (λ c κs. search needs) (λ c. search needs) (λ c κs. search needs) (λ c. search needs))

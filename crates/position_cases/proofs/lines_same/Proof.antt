@@ -2,7 +2,7 @@
 use mathlib.Core.Path.{sym}
 use Prim.Native.Nat.{_≤_, _-_}
 use native.Mathlib.Omega.{arith}
-use lib.ListN.{length, replicate}
+use lib.ListN.{length}
 use lib.Seq.{length-take-le}
 use borrow.Author.Needs.{needs}
 use Rattle.printing.proofs.Short.{line-fits}
@@ -22,26 +22,11 @@ fits c = omega (arith, line-fits _ _ _ _ (c .before .pixel-line .ensures .0), c 
 loop-less : tie.Need-loop-less Inv-loop μ-loop
 loop-less c =
     let p = c .before .before .before in
-    let g = p .before .before .before .loop in
-    let a = p .before .before .before .before .before .args in
-    omega (
-      arith,
-      next-further (a .k) (a .input .now) (g .at) (replicate 64 0) (p .pixel-line .ensures .0)
-          (p .before .before .loop-test .taken) (omega arith),
-    )
+    omega (arith, next-further _ _ _ _ (p .pixel-line .ensures .0) (p .before .before .loop-test .taken) (omega arith))
 
 pub lines-same-spec : {M : Type 1} → statement M
 lines-same-spec =
     tie.close
-    (tie.spec
-    Inv-loop
-    μ-loop
-    (λ c. c .before .pre .1)
-    (λ c. search needs)
-    (λ c κs. search needs)
-    fits
-    (λ c. sym (length-take-le _ _ (fits (c .before))))
-    (λ c κs. search needs)
-    loop-less
-    (λ c. c .before .before .before .before .before .before .loop .inv)
-    (λ c. search needs))
+    (tie.spec Inv-loop μ-loop (λ c. c .before .pre .1) (λ c. search needs) (λ c κs. search needs) fits
+    (λ c. sym (length-take-le _ _ (fits (c .before)))) (λ c κs. search needs) loop-less
+    (λ c. c .before .before .before .before .before .before .loop .inv) (λ c. search needs))

@@ -5,19 +5,10 @@ use Rattle.printing.proofs.Openings.{opened-none, opened-whole}
 use Rattle.printing.proofs.opening.Statement.{statement}
 use Rattle.printing.proofs.opening.Tie as tie
 
-stop-requires : tie.Need-stop-requires
-stop-requires c κs = search needs
-
 returns : tie.Need-returns
 returns c =
     let a = c .before .before .before .before .args in
     opened-none (a .input .now) (a .out .now) (c .stop .result) (c .before .if1 .taken) (c .stop .ensures)
-
-opening-of-requires : tie.Need-opening-of-requires
-opening-of-requires c κs = search needs
-
-same-length : tie.Need-same-length
-same-length c = search needs
 
 returns-2 : tie.Need-returns-2
 returns-2 c =
@@ -26,4 +17,4 @@ returns-2 c =
     opened-whole (a .input .now) (a .out .now) _ _ (omega arith) (p .opening-of .ensures)
 
 pub opening-spec : {M : Type 1} → statement M
-opening-spec = tie.close (tie.spec stop-requires returns opening-of-requires same-length returns-2)
+opening-spec = tie.close (tie.spec (λ c κs. search needs) returns (λ c κs. search needs) (λ c. search needs) returns-2)

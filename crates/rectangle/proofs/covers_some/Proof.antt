@@ -29,10 +29,5 @@ returns-4 c = let s = c .before .before .before .before in
 pub covers-some-spec : {M : Type 1} → statement M
 covers-some-spec =
     tie.close
-    (tie.spec
-    returns
-    (λ c. search needs) (λ c κs. search needs) (λ c κs. search needs)
-    returns-2
-    returns-3
-    (λ c. search needs) (λ c κs. search needs) (λ c. search needs) (λ c κs. search needs)
-    returns-4)
+    (tie.spec returns (λ c. search needs) (λ c κs. search needs) (λ c κs. search needs) returns-2 returns-3 (λ c. search needs)
+    (λ c κs. search needs) (λ c. search needs) (λ c κs. search needs) returns-4)

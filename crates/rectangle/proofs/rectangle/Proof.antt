@@ -26,9 +26,4 @@ returns-2 c = rw (sym (c .before .before .before .before .b-constant .ensures) �
 pub rectangle-spec : {M : Type 1} → statement M
 rectangle-spec =
     tie.close
-    (tie.spec
-    (λ c κs. search needs) (λ c. search needs)
-    rectangle-at-requires
-    (λ c. search needs) (λ c κs. search needs)
-    returns
-    returns-2)
+    (tie.spec (λ c κs. search needs) (λ c. search needs) rectangle-at-requires (λ c. search needs) (λ c κs. search needs) returns returns-2)

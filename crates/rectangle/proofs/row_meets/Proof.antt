@@ -51,10 +51,4 @@ returns-3 c =
 pub row-meets-spec : {M : Type 1} → statement M
 row-meets-spec =
     tie.close
-    (tie.spec
-    (λ c κs. search needs) (λ c κs. search needs)
-    returns
-    returns-2
-    (λ c κs. search needs)
-    mul-result
-    returns-3)
+    (tie.spec (λ c κs. search needs) (λ c κs. search needs) returns returns-2 (λ c κs. search needs) mul-result returns-3)

@@ -39,15 +39,9 @@ shared-slice-read-b c = omega arith
 mul-value : tie.Need-mul-value Inv-loop μ-loop
 mul-value c = omega (arith, pow-bound (c .before .before .loop .i) (omega arith))
 
-digit-requires : tie.Need-digit-requires Inv-loop μ-loop
-digit-requires c κs = search needs
-
 add-value : tie.Need-add-value Inv-loop μ-loop
 add-value c = let g = c .before .before .before .loop in
     omega (arith, pow-bound (g .i) (omega arith), c .digit .ensures .1)
-
-is-digit-requires : tie.Need-is-digit-requires Inv-loop μ-loop
-is-digit-requires c κs = search needs
 
 add-i : tie.Need-add-i Inv-loop μ-loop
 add-i c = omega arith
@@ -85,18 +79,5 @@ returns-3 c = let s = c .before .before .before .before .before .args .s .now in
 pub digits-of-spec : {M : Type 1} → statement M
 digits-of-spec =
     tie.close
-    (tie.spec
-    Inv-loop
-    μ-loop
-    returns
-    loop-holds
-    shared-slice-read-b
-    mul-value
-    digit-requires
-    add-value
-    is-digit-requires
-    add-i
-    loop-less
-    loop-again
-    returns-2
-    returns-3)
+    (tie.spec Inv-loop μ-loop returns loop-holds shared-slice-read-b mul-value (λ c κs. search needs) add-value (λ c κs. search needs) add-i
+    loop-less loop-again returns-2 returns-3)

@@ -15,43 +15,10 @@ use Rattle.text.proofs.put_angle.Tie as tie
 returns : tie.Need-returns
 returns c = let a = c .before .before .args in put-none (angleText (a .d) (a .z)) (a .o) (a .out .now) (omega (arith, length-angle (a .d) (a .z)))
 
-add-has-room : tie.Need-add-has-room
-add-has-room c = search needs
-
-has-room-requires : tie.Need-has-room-requires
-has-room-requires c κs = search needs
-
 returns-2 : tie.Need-returns-2
 returns-2 c = let a = c .before .before .before .before .args in
     put-none (angleText (a .d) (a .z)) (a .o) (a .out .now)
     (omega (arith, length-angle (a .d) (a .z), no-room (a .o + (a .d + 8)) (length (a .out .now)) (c .before .has-room .ensures) (c .if2 .taken)))
-
-size-requires : tie.Need-size-requires
-size-requires c κs = search needs
-
-sign-requires : tie.Need-sign-requires
-sign-requires c κs = search needs
-
-put-byte-requires : tie.Need-put-byte-requires
-put-byte-requires c κs = search needs
-
-put-number-requires : tie.Need-put-number-requires
-put-number-requires c κs = search needs
-
-put-number-requires-2 : tie.Need-put-number-requires-2
-put-number-requires-2 c κs = search needs
-
-put-number-requires-3 : tie.Need-put-number-requires-3
-put-number-requires-3 c κs = search needs
-
-put-byte-requires-2 : tie.Need-put-byte-requires-2
-put-byte-requires-2 c κs = search needs
-
-put-number-requires-4 : tie.Need-put-number-requires-4
-put-number-requires-4 c κs = search needs
-
-same-length : tie.Need-same-length
-same-length c = search needs
 
 returns-3 : tie.Need-returns-3
 unfolding angleText
@@ -74,18 +41,5 @@ returns-3 c = let hundredths = c .before .before in
 pub put-angle-spec : {M : Type 1} → statement M
 put-angle-spec =
     tie.close
-    (tie.spec
-    returns
-    add-has-room
-    has-room-requires
-    returns-2
-    size-requires
-    sign-requires
-    put-byte-requires
-    put-number-requires
-    put-number-requires-2
-    put-number-requires-3
-    put-byte-requires-2
-    put-number-requires-4
-    same-length
-    returns-3)
+    (tie.spec returns (λ c. search needs) (λ c κs. search needs) returns-2 (λ c κs. search needs) (λ c κs. search needs) (λ c κs. search needs)
+    (λ c κs. search needs) (λ c κs. search needs) (λ c κs. search needs) (λ c κs. search needs) (λ c κs. search needs) (λ c. search needs) returns-3)

@@ -12,9 +12,6 @@ Inv-loop out₀ o x j₀ out j = Ending x out₀ o out j
 abbrev μ-loop : tie.MeasureT-loop
 μ-loop out₀ o x j₀ out j = j
 
-has-room-requires : tie.Need-has-room-requires Inv-loop μ-loop
-has-room-requires c κs = search needs
-
 returns : tie.Need-returns Inv-loop μ-loop
 returns c =
     let a = c .before .before .before .before .args in
@@ -57,18 +54,5 @@ returns-2 c = put-is (ending-all (c .before .loop .inv) (omega arith))
 pub put-bytes-spec : {M : Type 1} → statement M
 put-bytes-spec =
     tie.close
-    (tie.spec
-    Inv-loop
-    μ-loop
-    has-room-requires
-    returns
-    loop-holds
-    sub-j
-    shared-slice-read-out
-    add-out
-    slice-write-out
-    loop-less
-    loop-again
-    add-result
-    same-length
-    returns-2)
+    (tie.spec Inv-loop μ-loop (λ c κs. search needs) returns loop-holds sub-j shared-slice-read-out add-out slice-write-out loop-less loop-again
+    add-result same-length returns-2)

@@ -17,9 +17,6 @@ Inv-loop out₀ o w v rest₀ j₀ out rest j = (rest ≡ v / 10 ^ (w - j)) × E
 abbrev μ-loop : tie.MeasureT-loop
 μ-loop out₀ o w v rest₀ j₀ out rest j = j
 
-has-room-requires : tie.Need-has-room-requires Inv-loop μ-loop
-has-room-requires c κs = search needs
-
 returns : tie.Need-returns Inv-loop μ-loop
 returns c = let a = c .before .before .before .args in
     put-none (digits (a .w) (a .v)) (a .o) (a .out .now)
@@ -79,19 +76,5 @@ returns-2 c = let a = c .before .before .before .before .before .args in
 pub put-number-spec : {M : Type 1} → statement M
 put-number-spec =
     tie.close
-    (tie.spec
-    Inv-loop
-    μ-loop
-    has-room-requires
-    returns
-    loop-holds
-    sub-j
-    cast-out
-    add-out
-    add-out-2
-    slice-write-out
-    loop-less
-    loop-again
-    add-result
-    same-length
-    returns-2)
+    (tie.spec Inv-loop μ-loop (λ c κs. search needs) returns loop-holds sub-j cast-out add-out add-out-2 slice-write-out loop-less loop-again
+    add-result same-length returns-2)

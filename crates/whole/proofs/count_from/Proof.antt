@@ -43,11 +43,4 @@ returns-3 c = let s = c .before .before in
 pub count-from-spec : {M : Type 1} → statement M
 count-from-spec =
     tie.close
-    (tie.spec
-    (λ c. search needs)
-    sub-if1
-    returns
-    returns-2
-    add-t4
-    cast-t6
-    returns-3)
+    (tie.spec (λ c. search needs) sub-if1 returns returns-2 add-t4 cast-t6 returns-3)

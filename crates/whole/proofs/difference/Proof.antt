@@ -19,7 +19,4 @@ returns c =
 pub difference-spec : {M : Type 1} → statement M
 difference-spec =
     tie.close
-    (tie.spec
-    (λ c. search needs) (λ c. search needs)
-    sub-result
-    returns)
+    (tie.spec (λ c. search needs) (λ c. search needs) sub-result returns)

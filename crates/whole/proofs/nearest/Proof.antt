@@ -49,10 +49,4 @@ returns-3 c = let a = c .before .before .args in sym (up (a .x) (a .d) (some (c 
 pub nearest-spec : {M : Type 1} → statement M
 nearest-spec =
     tie.close
-    (tie.spec
-    returns
-    (λ c. search needs) (λ c. search needs)
-    sub-if2
-    returns-2
-    add-result
-    returns-3)
+    (tie.spec returns (λ c. search needs) (λ c. search needs) sub-if2 returns-2 add-result returns-3)

@@ -32,11 +32,4 @@ cast-result-2 c =
 pub size-spec : {M : Type 1} → statement M
 size-spec =
     tie.close
-    (tie.spec
-    add-result
-    sub-result
-    cast-result
-    add-result-2
-    returns
-    cast-result-2
-    (λ c. search needs))
+    (tie.spec add-result sub-result cast-result add-result-2 returns cast-result-2 (λ c. search needs))

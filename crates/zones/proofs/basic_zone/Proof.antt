@@ -31,9 +31,4 @@ returns-2 c = let s = c .before .before .before .before in
 pub basic-zone-spec : {M : Type 1} → statement M
 basic-zone-spec =
     tie.close
-    (tie.spec
-    (λ c κs. search needs) (λ c. search needs)
-    add-t6
-    (λ c. search needs) (λ c κs. search needs)
-    returns
-    returns-2)
+    (tie.spec (λ c κs. search needs) (λ c. search needs) add-t6 (λ c. search needs) (λ c κs. search needs) returns returns-2)

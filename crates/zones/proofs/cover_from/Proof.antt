@@ -88,22 +88,5 @@ returns-2 c =
 pub cover-from-spec : {M : Type 1} → statement M
 cover-from-spec =
     tie.close
-    (tie.spec
-    Inv-loop
-    μ-loop
-    add-zones
-    (λ c. search needs)
-    loop-holds
-    sub-poleward
-    (λ c κs. search needs)
-    sub-if1
-    mul-if1
-    sub-left
-    add-zones-2
-    mul-zones
-    array-write-zones-2
-    add-length
-    loop-less
-    loop-again
-    returns
-    returns-2)
+    (tie.spec Inv-loop μ-loop add-zones (λ c. search needs) loop-holds sub-poleward (λ c κs. search needs) sub-if1 mul-if1 sub-left add-zones-2
+    mul-zones array-write-zones-2 add-length loop-less loop-again returns returns-2)

@@ -41,13 +41,4 @@ returns-2 c = let z = c .before .before .before .before .args .size in
 pub row-holding-spec : {M : Type 1} → statement M
 row-holding-spec =
     tie.close
-    (tie.spec
-    Inv-loop
-    μ-loop
-    loop-holds
-    (λ c κs. search needs)
-    add-row
-    loop-less
-    loop-again
-    returns
-    returns-2)
+    (tie.spec Inv-loop μ-loop loop-holds (λ c κs. search needs) add-row loop-less loop-again returns returns-2)

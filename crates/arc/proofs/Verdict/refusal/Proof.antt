@@ -9,7 +9,4 @@ returns c = rw (c .enum-told .given .1)
 pub refusal-spec : {M : Type 1} → statement M
 refusal-spec =
     tie.close
-    (tie.spec
-    (λ c. search needs) (λ c. search needs)
-    returns
-    (λ c. search needs))
+    (tie.spec (λ c. search needs) (λ c. search needs) returns (λ c. search needs))

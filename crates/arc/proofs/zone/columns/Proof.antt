@@ -35,16 +35,10 @@ returns-10 c =
 pub columns-spec : {M : Type 1} → statement M
 columns-spec =
     tie.close
-    (tie.spec
+    (tie.spec (λ c κs. search needs) (λ c κs. search needs) (λ c κs. search needs) (λ c κs. search needs) (λ c κs. search needs)
     (λ c κs. search needs) (λ c κs. search needs) (λ c κs. search needs) (λ c κs. search needs) (λ c κs. search needs)
-    (λ c κs. search needs) (λ c κs. search needs) (λ c κs. search needs) (λ c κs. search needs) (λ c κs. search needs)
-    (λ c. arm 0 tt _ (c .spacing .ensures) (c .before .match .keys1))
-    (λ c. arm 1 tt _ (c .spacing2 .ensures) (c .before .match .keys2))
-    (λ c. arm 2 tt _ (c .spacing3 .ensures) (c .before .match .keys3))
-    (λ c. arm 3 tt _ (c .spacing4 .ensures) (c .before .match .keys4))
-    (λ c. arm 4 tt _ (c .spacing5 .ensures) (c .before .match .keys5))
-    (λ c. arm 5 tt _ (c .spacing6 .ensures) (c .before .match .keys6))
-    (λ c. arm 6 tt _ (c .spacing7 .ensures) (c .before .match .keys7))
-    (λ c. arm 7 tt _ (c .spacing8 .ensures) (c .before .match .keys8))
-    (λ c. arm 8 tt _ (c .spacing9 .ensures) (c .before .match .keys9))
-    returns-10)
+    (λ c. arm 0 tt _ (c .spacing .ensures) (c .before .match .keys1)) (λ c. arm 1 tt _ (c .spacing2 .ensures) (c .before .match .keys2))
+    (λ c. arm 2 tt _ (c .spacing3 .ensures) (c .before .match .keys3)) (λ c. arm 3 tt _ (c .spacing4 .ensures) (c .before .match .keys4))
+    (λ c. arm 4 tt _ (c .spacing5 .ensures) (c .before .match .keys5)) (λ c. arm 5 tt _ (c .spacing6 .ensures) (c .before .match .keys6))
+    (λ c. arm 6 tt _ (c .spacing7 .ensures) (c .before .match .keys7)) (λ c. arm 7 tt _ (c .spacing8 .ensures) (c .before .match .keys8))
+    (λ c. arm 8 tt _ (c .spacing9 .ensures) (c .before .match .keys9)) returns-10)

@@ -5,16 +5,10 @@ use borrow.Author.Needs.{needs}
 use Rattle.card_text.proofs.digits.digits_at.Statement.{statement}
 use Rattle.card_text.proofs.digits.digits_at.Tie as tie
 
-bytes-at-requires : tie.Need-bytes-at-requires
-bytes-at-requires c κs = search needs
-
-digits-of-requires : tie.Need-digits-of-requires
-digits-of-requires c κs = search needs
-
 returns : tie.Need-returns
 returns c = let b = c .before .bytes-at .ensures in
     let n = digits-read 8 _ (omega (arith, b .1)) (omega arith) (c .digits-of .ensures) in
     rw (← b .0) (record { tested = n .tested; read = n .read; small = n .small })
 
 pub digits-at-spec : {M : Type 1} → statement M
-digits-at-spec = tie.close (tie.spec bytes-at-requires digits-of-requires returns)
+digits-at-spec = tie.close (tie.spec (λ c κs. search needs) (λ c κs. search needs) returns)

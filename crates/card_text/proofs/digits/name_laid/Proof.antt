@@ -4,21 +4,6 @@ use borrow.Author.Needs.{needs}
 use Rattle.card_text.proofs.digits.name_laid.Statement.{statement}
 use Rattle.card_text.proofs.digits.name_laid.Tie as tie
 
-bytes-at-requires : tie.Need-bytes-at-requires
-bytes-at-requires c κs = search needs
-
-all-named-requires : tie.Need-all-named-requires
-all-named-requires c κs = search needs
-
-shared-slice-read-dot : tie.Need-shared-slice-read-dot
-shared-slice-read-dot c = search needs
-
-bytes-at-requires-2 : tie.Need-bytes-at-requires-2
-bytes-at-requires-2 c κs = search needs
-
-all-named-requires-2 : tie.Need-all-named-requires-2
-all-named-requires-2 c κs = search needs
-
 returns : tie.Need-returns
 unfolding nameLaid
 returns c =
@@ -32,10 +17,4 @@ returns c =
 pub name-laid-spec : {M : Type 1} → statement M
 name-laid-spec =
     tie.close
-    (tie.spec
-    bytes-at-requires
-    all-named-requires
-    shared-slice-read-dot
-    bytes-at-requires-2
-    all-named-requires-2
-    returns)
+    (tie.spec (λ c κs. search needs) (λ c κs. search needs) (λ c. search needs) (λ c κs. search needs) (λ c κs. search needs) returns)

@@ -12,66 +12,12 @@ use borrow.Author.Needs.{needs}
 use Rattle.card_text.proofs.fields.angle_at.Statement.{statement}
 use Rattle.card_text.proofs.fields.angle_at.Tie as tie
 
-add-bytes-at : tie.Need-add-bytes-at
-add-bytes-at c = search needs
-
-bytes-at-requires : tie.Need-bytes-at-requires
-bytes-at-requires c κs = search needs
-
-shared-slice-read-sign : tie.Need-shared-slice-read-sign
-shared-slice-read-sign c = search needs
-
-add-digits-at : tie.Need-add-digits-at
-add-digits-at c = search needs
-
-digits-at-requires : tie.Need-digits-at-requires
-digits-at-requires c κs = search needs
-
-add-digits-at-2 : tie.Need-add-digits-at-2
-add-digits-at-2 c = search needs
-
-digits-at-requires-2 : tie.Need-digits-at-requires-2
-digits-at-requires-2 c κs = search needs
-
-add-dot : tie.Need-add-dot
-add-dot c = search needs
-
-shared-slice-read-dot : tie.Need-shared-slice-read-dot
-shared-slice-read-dot c = search needs
-
-add-digits-at-3 : tie.Need-add-digits-at-3
-add-digits-at-3 c = search needs
-
-digits-at-requires-3 : tie.Need-digits-at-requires-3
-digits-at-requires-3 c κs = search needs
-
-mul-size : tie.Need-mul-size
-mul-size c = search needs
-
-mul-size-2 : tie.Need-mul-size-2
-mul-size-2 c = search needs
-
-add-size : tie.Need-add-size
-add-size c = search needs
-
-mul-size-3 : tie.Need-mul-size-3
-mul-size-3 c = search needs
-
-add-size-2 : tie.Need-add-size-2
-add-size-2 c = search needs
-
-add-size-3 : tie.Need-add-size-3
-add-size-3 c = search needs
-
 shifted-by-requires : tie.Need-shifted-by-requires
 shifted-by-requires c κs =
     let h = c .before .before .before .before .before .before .before .before .before .before in
     let t = h .before .before in
     let a = t .before .before .before .before .before in
     (a .pre .1 .1 .0, omega (arith, a .pre .1 .1 .1 .small, t .before .digits-at .ensures .small, t .digits-at2 .ensures .small, h .digits-at3 .ensures .small))
-
-joined-requires : tie.Need-joined-requires
-joined-requires c κs = search needs
 
 returns : tie.Need-returns
 returns c =
@@ -93,24 +39,7 @@ returns c =
 pub angle-at-spec : {M : Type 1} → statement M
 angle-at-spec =
     tie.close
-    (tie.spec
-    add-bytes-at
-    bytes-at-requires
-    shared-slice-read-sign
-    add-digits-at
-    digits-at-requires
-    add-digits-at-2
-    digits-at-requires-2
-    add-dot
-    shared-slice-read-dot
-    add-digits-at-3
-    digits-at-requires-3
-    mul-size
-    mul-size-2
-    add-size
-    mul-size-3
-    add-size-2
-    add-size-3
-    shifted-by-requires
-    joined-requires
+    (tie.spec (λ c. search needs) (λ c κs. search needs) (λ c. search needs) (λ c. search needs) (λ c κs. search needs) (λ c. search needs)
+    (λ c κs. search needs) (λ c. search needs) (λ c. search needs) (λ c. search needs) (λ c κs. search needs) (λ c. search needs)
+    (λ c. search needs) (λ c. search needs) (λ c. search needs) (λ c. search needs) (λ c. search needs) shifted-by-requires (λ c κs. search needs)
     returns)

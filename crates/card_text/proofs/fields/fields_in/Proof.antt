@@ -14,30 +14,6 @@ lead c = c .before .before .before .before .before .before .before .before
 abbrev sized : tie.After-number-at9 → tie.Start
 sized c = lead (c .before .before .before .before .before .before)
 
-number-at-requires : tie.Need-number-at-requires
-number-at-requires c κs = search needs
-
-number-at-requires-2 : tie.Need-number-at-requires-2
-number-at-requires-2 c κs = search needs
-
-number-at-requires-3 : tie.Need-number-at-requires-3
-number-at-requires-3 c κs = search needs
-
-digits-at-requires : tie.Need-digits-at-requires
-digits-at-requires c κs = search needs
-
-angle-at-requires : tie.Need-angle-at-requires
-angle-at-requires c κs = search needs
-
-digits-at-requires-2 : tie.Need-digits-at-requires-2
-digits-at-requires-2 c κs = search needs
-
-angle-at-requires-2 : tie.Need-angle-at-requires-2
-angle-at-requires-2 c κs = search needs
-
-number-at-requires-4 : tie.Need-number-at-requires-4
-number-at-requires-4 c κs = search needs
-
 number-at-requires-5 : tie.Need-number-at-requires-5
 number-at-requires-5 c κs = omega (arith, lead (c .before) .pre)
 
@@ -114,27 +90,7 @@ returns c =
 pub fields-in-spec : {M : Type 1} → statement M
 fields-in-spec =
     tie.close
-    (tie.spec
-    number-at-requires
-    number-at-requires-2
-    number-at-requires-3
-    digits-at-requires
-    angle-at-requires
-    digits-at-requires-2
-    angle-at-requires-2
-    number-at-requires-4
-    number-at-requires-5
-    number-at-requires-6
-    number-at-requires-7
-    number-at-requires-8
-    number-at-requires-9
-    number-at-requires-10
-    number-at-requires-11
-    number-at-requires-12
-    number-at-requires-13
-    number-at-requires-14
-    number-at-requires-15
-    number-at-requires-16
-    name-at-requires
-    flag-at-requires
-    returns)
+    (tie.spec (λ c κs. search needs) (λ c κs. search needs) (λ c κs. search needs) (λ c κs. search needs) (λ c κs. search needs)
+    (λ c κs. search needs) (λ c κs. search needs) (λ c κs. search needs) number-at-requires-5 number-at-requires-6 number-at-requires-7
+    number-at-requires-8 number-at-requires-9 number-at-requires-10 number-at-requires-11 number-at-requires-12 number-at-requires-13
+    number-at-requires-14 number-at-requires-15 number-at-requires-16 name-at-requires flag-at-requires returns)

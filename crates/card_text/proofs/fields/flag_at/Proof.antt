@@ -20,15 +20,6 @@ one-or-none : (t : Bool) → boolByte t ≡ cond t 1 0
 one-or-none true = refl
 one-or-none false = refl
 
-shared-slice-read-b : tie.Need-shared-slice-read-b
-shared-slice-read-b c = search needs
-
-cast-joined : tie.Need-cast-joined
-cast-joined c = search needs
-
-joined-requires : tie.Need-joined-requires
-joined-requires c κs = search needs
-
 returns : tie.Need-returns
 returns c =
     let a = c .before .before .before .args in
@@ -37,4 +28,4 @@ returns c =
     (λ e. (rw b, rw b (one-or-none (eqb (getD (a .s .now) (a .o) 0) 89))))
 
 pub flag-at-spec : {M : Type 1} → statement M
-flag-at-spec = tie.close (tie.spec shared-slice-read-b cast-joined joined-requires returns)
+flag-at-spec = tie.close (tie.spec (λ c. search needs) (λ c. search needs) (λ c κs. search needs) returns)

@@ -4,15 +4,9 @@ use borrow.Author.Needs.{needs}
 use Rattle.card_text.proofs.fields.joined.Statement.{statement}
 use Rattle.card_text.proofs.fields.joined.Tie as tie
 
-judged-requires : tie.Need-judged-requires
-judged-requires c κs = search needs
-
-or-else-requires : tie.Need-or-else-requires
-or-else-requires c κs = search needs
-
 returns : tie.Need-returns
 unfolding fieldOf
 returns c = rw (c .or-else .ensures, c .before .judged .ensures)
 
 pub joined-spec : {M : Type 1} → statement M
-joined-spec = tie.close (tie.spec judged-requires or-else-requires returns)
+joined-spec = tie.close (tie.spec (λ c κs. search needs) (λ c κs. search needs) returns)

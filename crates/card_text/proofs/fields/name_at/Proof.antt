@@ -8,15 +8,6 @@ use borrow.Author.Needs.{needs}
 use Rattle.card_text.proofs.fields.name_at.Statement.{statement}
 use Rattle.card_text.proofs.fields.name_at.Tie as tie
 
-bytes-at-requires : tie.Need-bytes-at-requires
-bytes-at-requires c κs = search needs
-
-name-laid-requires : tie.Need-name-laid-requires
-name-laid-requires c κs = search needs
-
-joined-requires : tie.Need-joined-requires
-joined-requires c κs = search needs
-
 returns : tie.Need-returns
 returns c =
     let a = c .before .before .before .before .args in
@@ -24,4 +15,4 @@ returns c =
     (c .before .name-laid .ensures ∙ ap nameLaid (c .before .before .bytes-at .ensures .0)) (λ e. (refl, refl))
 
 pub name-at-spec : {M : Type 1} → statement M
-name-at-spec = tie.close (tie.spec bytes-at-requires name-laid-requires joined-requires returns)
+name-at-spec = tie.close (tie.spec (λ c κs. search needs) (λ c κs. search needs) (λ c κs. search needs) returns)

@@ -10,12 +10,6 @@ use borrow.Author.Needs.{needs}
 use Rattle.card_text.proofs.fields.number_at.Statement.{statement}
 use Rattle.card_text.proofs.fields.number_at.Tie as tie
 
-digits-at-requires : tie.Need-digits-at-requires
-digits-at-requires c κs = search needs
-
-joined-requires : tie.Need-joined-requires
-joined-requires c κs = search needs
-
 returns : tie.Need-returns
 returns c =
     let a = c .before .before .before .before .before .args in
@@ -24,4 +18,4 @@ returns c =
     (λ e. (ap (λ (v : ℕ). leb (a .low) v && leb v (a .high)) (n .read e), n .read e))
 
 pub number-at-spec : {M : Type 1} → statement M
-number-at-spec = tie.close (tie.spec digits-at-requires joined-requires returns)
+number-at-spec = tie.close (tie.spec (λ c κs. search needs) (λ c κs. search needs) returns)

@@ -7,9 +7,6 @@ use borrow.Author.Needs.{needs}
 use Rattle.card_text.proofs.fields.shifted_by.Statement.{statement}
 use Rattle.card_text.proofs.fields.shifted_by.Tie as tie
 
-add-result : tie.Need-add-result
-add-result c = search needs
-
 returns : tie.Need-returns
 returns c = rw (not-true (c .before .args .below) (c .if1 .taken))
 
@@ -23,4 +20,4 @@ returns-3 : tie.Need-returns-3
 returns-3 c = rw (not-false (c .before .before .args .below) (c .before .if1 .left))
 
 pub shifted-by-spec : {M : Type 1} → statement M
-shifted-by-spec = tie.close (tie.spec add-result returns returns-2 returns-3)
+shifted-by-spec = tie.close (tie.spec (λ c. search needs) returns returns-2 returns-3)

@@ -80,40 +80,13 @@ answer c q =
     (extents-are (s .args .scale) (s .args .zone) (s .args .a) (s .args .b) _ _ (s .args .s .now) _ _
     (c .before .record-in .ensures ∙ ap₂ (λ (x y : ℤ). recordIn x y (s .args .s .now)) n m) (sym q ∙ c .extents-hold .ensures))
 
-array-read-if1 : tie.Need-array-read-if1
-array-read-if1 c = search needs
-
-array-read-if1-2 : tie.Need-array-read-if1-2
-array-read-if1-2 c = search needs
-
-refused-requires : tie.Need-refused-requires
-refused-requires c κs = search needs
-
-refused-with-requires : tie.Need-refused-with-requires
-refused-with-requires c κs = search needs
-
 returns : tie.Need-returns
 returns c =
     let s = c .before .before .before .before in
     rw (values s, not-true (spaced s) (c .before .before .if1 .taken)) (c .refused-with .ensures ∙ ap refusedCard (c .before .refused .ensures))
 
-array-read-tile-of : tie.Need-array-read-tile-of
-array-read-tile-of c = search needs
-
 tile-of-requires : tie.Need-tile-of-requires
 tile-of-requires c κs = let s = c .before .before in (s .pre .1 .0, omega (arith, pso-kept (s .pre .0) (s .pre .1 .0) (s .pre .1 .1)))
-
-enum-known-north : tie.Need-enum-known-north
-enum-known-north c = search needs
-
-enum-told : tie.Need-enum-told
-enum-told c = search needs
-
-refused-requires-2 : tie.Need-refused-requires-2
-refused-requires-2 c κs = search needs
-
-refused-with-requires-2 : tie.Need-refused-with-requires-2
-refused-with-requires-2 c κs = search needs
 
 returns-2 : tie.Need-returns-2
 returns-2 c =
@@ -125,23 +98,8 @@ returns-2 c =
     )
     (c .refused-with2 .ensures ∙ ap refusedCard (c .before .refused2 .ensures))
 
-array-read-tile-of-2 : tie.Need-array-read-tile-of-2
-array-read-tile-of-2 c = search needs
-
 tile-of-requires-2 : tie.Need-tile-of-requires-2
 tile-of-requires-2 c κs = let s = start c in (s .pre .0, omega (arith, lso-kept (s .pre .0) (s .pre .1 .0) (s .pre .1 .1)))
-
-enum-known-east : tie.Need-enum-known-east
-enum-known-east c = search needs
-
-enum-told-2 : tie.Need-enum-told-2
-enum-told-2 c = search needs
-
-refused-requires-3 : tie.Need-refused-requires-3
-refused-requires-3 c κs = search needs
-
-refused-with-requires-3 : tie.Need-refused-with-requires-3
-refused-with-requires-3 c κs = search needs
 
 returns-3 : tie.Need-returns-3
 returns-3 c =
@@ -154,32 +112,8 @@ returns-3 c =
 cast-difference : tie.Need-cast-difference
 cast-difference c = omega (arith, rows (northward c), start (northward c) .pre .1 .0 .most)
 
-cast-difference-2 : tie.Need-cast-difference-2
-cast-difference-2 c = search needs
-
-difference-requires : tie.Need-difference-requires
-difference-requires c κs = search needs
-
 cast-difference-3 : tie.Need-cast-difference-3
 cast-difference-3 c = omega (arith, columns (c .before), start (northward (c .before)) .pre .0 .most)
-
-cast-difference-4 : tie.Need-cast-difference-4
-cast-difference-4 c = search needs
-
-difference-requires-2 : tie.Need-difference-requires-2
-difference-requires-2 c κs = search needs
-
-record-in-requires : tie.Need-record-in-requires
-record-in-requires c κs = search needs
-
-extents-hold-requires : tie.Need-extents-hold-requires
-extents-hold-requires c κs = search needs
-
-refused-requires-4 : tie.Need-refused-requires-4
-refused-requires-4 c κs = search needs
-
-refused-with-requires-4 : tie.Need-refused-with-requires-4
-refused-with-requires-4 c κs = search needs
 
 returns-4 : tie.Need-returns-4
 returns-4 c =
@@ -198,36 +132,8 @@ returns-5 c = let x = c .before .before in rw (answer x (not-false (x .extents-h
 pub read-values-spec : {M : Type 1} → statement M
 read-values-spec =
     tie.close
-    (tie.spec
-    array-read-if1
-    array-read-if1-2
-    refused-requires
-    refused-with-requires
-    returns
-    array-read-tile-of
-    tile-of-requires
-    enum-known-north
-    enum-told
-    refused-requires-2
-    refused-with-requires-2
-    returns-2
-    array-read-tile-of-2
-    tile-of-requires-2
-    enum-known-east
-    enum-told-2
-    refused-requires-3
-    refused-with-requires-3
-    returns-3
-    cast-difference
-    cast-difference-2
-    difference-requires
-    cast-difference-3
-    cast-difference-4
-    difference-requires-2
-    record-in-requires
-    extents-hold-requires
-    refused-requires-4
-    refused-with-requires-4
-    returns-4
-    card-of-requires
-    returns-5)
+    (tie.spec (λ c. search needs) (λ c. search needs) (λ c κs. search needs) (λ c κs. search needs) returns (λ c. search needs) tile-of-requires
+    (λ c. search needs) (λ c. search needs) (λ c κs. search needs) (λ c κs. search needs) returns-2 (λ c. search needs) tile-of-requires-2
+    (λ c. search needs) (λ c. search needs) (λ c κs. search needs) (λ c κs. search needs) returns-3 cast-difference (λ c. search needs)
+    (λ c κs. search needs) cast-difference-3 (λ c. search needs) (λ c κs. search needs) (λ c κs. search needs) (λ c κs. search needs)
+    (λ c κs. search needs) (λ c κs. search needs) returns-4 card-of-requires returns-5)

@@ -6,11 +6,8 @@ use borrow.Author.Needs.{needs}
 use Rattle.card_text.proofs.read.refused_with.Statement.{statement}
 use Rattle.card_text.proofs.read.refused_with.Tie as tie
 
-no-card-requires : tie.Need-no-card-requires
-no-card-requires c κs = search needs
-
 returns : tie.Need-returns
 returns c = ap (λ (k : Card). record { verdict = Verdict.Refused (c .before .args .r); card = k }) (c .no-card .ensures)
 
 pub refused-with-spec : {M : Type 1} → statement M
-refused-with-spec = tie.close (tie.spec no-card-requires returns)
+refused-with-spec = tie.close (tie.spec (λ c κs. search needs) returns)

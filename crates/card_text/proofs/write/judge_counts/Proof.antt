@@ -5,24 +5,6 @@ use borrow.Author.Needs.{needs}
 use Rattle.card_text.proofs.write.judge_counts.Statement.{statement}
 use Rattle.card_text.proofs.write.judge_counts.Tie as tie
 
-tested-requires : tie.Need-tested-requires
-tested-requires c κs = search needs
-
-tested-requires-2 : tie.Need-tested-requires-2
-tested-requires-2 c κs = search needs
-
-name-right-requires : tie.Need-name-right-requires
-name-right-requires c κs = search needs
-
-tested-requires-3 : tie.Need-tested-requires-3
-tested-requires-3 c κs = search needs
-
-or-else-requires : tie.Need-or-else-requires
-or-else-requires c κs = search needs
-
-or-else-requires-2 : tie.Need-or-else-requires-2
-or-else-requires-2 c κs = search needs
-
 returns : tie.Need-returns
 unfolding countTests
 returns c =
@@ -39,11 +21,5 @@ returns c =
 pub judge-counts-spec : {M : Type 1} → statement M
 judge-counts-spec =
     tie.close
-    (tie.spec
-    tested-requires
-    tested-requires-2
-    name-right-requires
-    tested-requires-3
-    or-else-requires
-    or-else-requires-2
-    returns)
+    (tie.spec (λ c κs. search needs) (λ c κs. search needs) (λ c κs. search needs) (λ c κs. search needs) (λ c κs. search needs)
+    (λ c κs. search needs) returns)

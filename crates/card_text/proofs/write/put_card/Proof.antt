@@ -53,69 +53,6 @@ fields c =
     cod .put-number12 .ensures .1 ▸ rod .put-number13 .ensures .1 ▸ por .put-number14 .ensures .1 ▸ pcb .put-number15 .ensures .1 ▸
     pvb .put-number16 .ensures .1 ▸ bad .put-name .ensures .0 ▸ (rw (tif .before .flag .ensures) at (tif .put-byte .ensures .1)) ▸ end
 
-put-number-requires : tie.Need-put-number-requires
-put-number-requires c κs = search needs
-
-put-number-requires-2 : tie.Need-put-number-requires-2
-put-number-requires-2 c κs = search needs
-
-put-number-requires-3 : tie.Need-put-number-requires-3
-put-number-requires-3 c κs = search needs
-
-put-angle-requires : tie.Need-put-angle-requires
-put-angle-requires c κs = search needs
-
-put-angle-requires-2 : tie.Need-put-angle-requires-2
-put-angle-requires-2 c κs = search needs
-
-put-number-requires-4 : tie.Need-put-number-requires-4
-put-number-requires-4 c κs = search needs
-
-put-number-requires-5 : tie.Need-put-number-requires-5
-put-number-requires-5 c κs = search needs
-
-put-number-requires-6 : tie.Need-put-number-requires-6
-put-number-requires-6 c κs = search needs
-
-put-number-requires-7 : tie.Need-put-number-requires-7
-put-number-requires-7 c κs = search needs
-
-put-number-requires-8 : tie.Need-put-number-requires-8
-put-number-requires-8 c κs = search needs
-
-put-number-requires-9 : tie.Need-put-number-requires-9
-put-number-requires-9 c κs = search needs
-
-put-number-requires-10 : tie.Need-put-number-requires-10
-put-number-requires-10 c κs = search needs
-
-put-number-requires-11 : tie.Need-put-number-requires-11
-put-number-requires-11 c κs = search needs
-
-put-number-requires-12 : tie.Need-put-number-requires-12
-put-number-requires-12 c κs = search needs
-
-put-number-requires-13 : tie.Need-put-number-requires-13
-put-number-requires-13 c κs = search needs
-
-put-number-requires-14 : tie.Need-put-number-requires-14
-put-number-requires-14 c κs = search needs
-
-put-number-requires-15 : tie.Need-put-number-requires-15
-put-number-requires-15 c κs = search needs
-
-put-number-requires-16 : tie.Need-put-number-requires-16
-put-number-requires-16 c κs = search needs
-
-put-name-requires : tie.Need-put-name-requires
-put-name-requires c κs = search needs
-
-flag-requires : tie.Need-flag-requires
-flag-requires c κs = search needs
-
-put-byte-requires : tie.Need-put-byte-requires
-put-byte-requires c κs = search needs
-
 same-length : tie.Need-same-length
 same-length c = fields-length (fields c)
 
@@ -128,27 +65,7 @@ returns c = let s = start c in
 pub put-card-spec : {M : Type 1} → statement M
 put-card-spec =
     tie.close
-    (tie.spec
-    put-number-requires
-    put-number-requires-2
-    put-number-requires-3
-    put-angle-requires
-    put-angle-requires-2
-    put-number-requires-4
-    put-number-requires-5
-    put-number-requires-6
-    put-number-requires-7
-    put-number-requires-8
-    put-number-requires-9
-    put-number-requires-10
-    put-number-requires-11
-    put-number-requires-12
-    put-number-requires-13
-    put-number-requires-14
-    put-number-requires-15
-    put-number-requires-16
-    put-name-requires
-    flag-requires
-    put-byte-requires
-    same-length
-    returns)
+    (tie.spec (λ c κs. search needs) (λ c κs. search needs) (λ c κs. search needs) (λ c κs. search needs) (λ c κs. search needs)
+    (λ c κs. search needs) (λ c κs. search needs) (λ c κs. search needs) (λ c κs. search needs) (λ c κs. search needs) (λ c κs. search needs)
+    (λ c κs. search needs) (λ c κs. search needs) (λ c κs. search needs) (λ c κs. search needs) (λ c κs. search needs) (λ c κs. search needs)
+    (λ c κs. search needs) (λ c κs. search needs) (λ c κs. search needs) (λ c κs. search needs) same-length returns)

@@ -84,25 +84,13 @@ judged c =
     extents-judged (s .args .a) (s .args .b) (s .args .r) (right (counted c))
     (rows (c .before .before .before .before .before .before)) (columns (c .before)) (c .extents-hold .result) (c .extents-hold .ensures)
 
-refused-requires : tie.Need-refused-requires
-refused-requires c κs = search needs
-
 returns : tie.Need-returns
 returns c = rw (sym (c .before .before .is-polar .ensures) ∙ c .before .if1 .taken) (ap Verdict.Refused (c .refused .ensures), refl)
-
-refused-requires-2 : tie.Need-refused-requires-2
-refused-requires-2 c κs = search needs
 
 returns-2 : tie.Need-returns-2
 returns-2 c =
     rw (not-polar (c .before .before), lt-leb 98 (length (c .before .before .before .before .before .args .out .now)) (c .before .if2 .taken))
     (ap Verdict.Refused (c .refused2 .ensures), refl)
-
-judge-counts-requires : tie.Need-judge-counts-requires
-judge-counts-requires c κs = search needs
-
-enum-known-counts : tie.Need-enum-known-counts
-enum-known-counts c = search needs
 
 returns-3 : tie.Need-returns-3
 returns-3 c =
@@ -115,45 +103,12 @@ returns-3 c =
     )
     (refl, refl)
 
-enum-told : tie.Need-enum-told
-enum-told c = search needs
-
-cast-count-from : tie.Need-cast-count-from
-cast-count-from c = search needs
-
-count-from-requires : tie.Need-count-from-requires
-count-from-requires c κs = search needs
-
-enum-known-north : tie.Need-enum-known-north
-enum-known-north c = search needs
-
-enum-told-2 : tie.Need-enum-told-2
-enum-told-2 c = search needs
-
-refused-requires-3 : tie.Need-refused-requires-3
-refused-requires-3 c κs = search needs
-
 returns-4 : tie.Need-returns-4
 returns-4 c =
     let x = c .before .before .before in
     let s = start (x .before .before) in
     let out = counted-outside (s .args .b / 512) (s .args .r .n) (row-fits x) (x .count-from .ensures) (c .before .enum-told2 .given .1) in
     stays (x .before .before) (rows-refused (s .args .a) (s .args .b) (s .args .r) (right (x .before .before)) out) (c .refused3 .ensures)
-
-cast-count-from-2 : tie.Need-cast-count-from-2
-cast-count-from-2 c = search needs
-
-count-from-requires-2 : tie.Need-count-from-requires-2
-count-from-requires-2 c κs = search needs
-
-enum-known-east : tie.Need-enum-known-east
-enum-known-east c = search needs
-
-enum-told-3 : tie.Need-enum-told-3
-enum-told-3 c = search needs
-
-refused-requires-4 : tie.Need-refused-requires-4
-refused-requires-4 c κs = search needs
 
 returns-5 : tie.Need-returns-5
 returns-5 c =
@@ -163,12 +118,6 @@ returns-5 c =
     let s = start k in
     let out = counted-outside (s .args .a / 256) (s .args .r .m) (column-fits x) (x .count-from2 .ensures) (c .before .enum-told3 .given .1) in
     stays k (columns-refused (s .args .a) (s .args .b) (s .args .r) (right k) (rows n .test) out) (c .refused4 .ensures)
-
-extents-hold-requires : tie.Need-extents-hold-requires
-extents-hold-requires c κs = search needs
-
-refused-requires-5 : tie.Need-refused-requires-5
-refused-requires-5 c κs = search needs
 
 returns-6 : tie.Need-returns-6
 returns-6 c =
@@ -196,9 +145,6 @@ put-card-requires c κs =
       ),
     )
 
-same-length : tie.Need-same-length
-same-length c = search needs
-
 returns-7 : tie.Need-returns-7
 returns-7 c =
     let x = c .before .before .before .before .before .before .before in
@@ -208,33 +154,7 @@ returns-7 c =
 pub write-spaced-spec : {M : Type 1} → statement M
 write-spaced-spec =
     tie.close
-    (tie.spec
-    (λ c κs. search needs)
-    refused-requires
-    returns
-    refused-requires-2
-    returns-2
-    judge-counts-requires
-    enum-known-counts
-    returns-3
-    enum-told
-    cast-count-from
-    count-from-requires
-    enum-known-north
-    enum-told-2
-    refused-requires-3
-    returns-4
-    cast-count-from-2
-    count-from-requires-2
-    enum-known-east
-    enum-told-3
-    refused-requires-4
-    returns-5
-    extents-hold-requires
-    refused-requires-5
-    returns-6
-    angle-at-requires
-    angle-at-requires-2
-    put-card-requires
-    same-length
-    returns-7)
+    (tie.spec (λ c κs. search needs) (λ c κs. search needs) returns (λ c κs. search needs) returns-2 (λ c κs. search needs) (λ c. search needs)
+    returns-3 (λ c. search needs) (λ c. search needs) (λ c κs. search needs) (λ c. search needs) (λ c. search needs) (λ c κs. search needs)
+    returns-4 (λ c. search needs) (λ c κs. search needs) (λ c. search needs) (λ c. search needs) (λ c κs. search needs) returns-5
+    (λ c κs. search needs) (λ c κs. search needs) returns-6 angle-at-requires angle-at-requires-2 put-card-requires (λ c. search needs) returns-7)

@@ -25,13 +25,5 @@ returns-2 c = rw (← c .before .before .before .before .read-card .ensures, c .
 pub list-on-card-spec : {M : Type 1} → statement M
 list-on-card-spec =
     tie.close
-    (tie.spec
-    (λ c κs. search needs)
-    (λ c. search needs)
-    answer-list-requires
-    (λ c κs. search needs)
-    (λ c. search needs)
-    (λ c. search needs)
-    (λ c. search needs)
-    returns
-    returns-2)
+    (tie.spec (λ c κs. search needs) (λ c. search needs) answer-list-requires (λ c κs. search needs) (λ c. search needs) (λ c. search needs)
+    (λ c. search needs) returns returns-2)

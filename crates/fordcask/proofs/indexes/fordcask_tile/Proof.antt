@@ -62,17 +62,5 @@ returns-3 c = rw (← c .before .before .before .before .before .read-card .ensu
 pub fordcask-tile-spec : {M : Type 1} → statement M
 fordcask-tile-spec =
     tie.close
-    (tie.spec
-    (λ c κs. search needs)
-    (λ c. search needs)
-    stored-number-requires
-    (λ c. search needs)
-    sub-t18
-    mul-t19
-    (λ c. search needs)
-    (λ c κs. search needs)
-    (λ c. search needs)
-    (λ c κs. search needs)
-    returns
-    returns-2
-    returns-3)
+    (tie.spec (λ c κs. search needs) (λ c. search needs) stored-number-requires (λ c. search needs) sub-t18 mul-t19 (λ c. search needs)
+    (λ c κs. search needs) (λ c. search needs) (λ c κs. search needs) returns returns-2 returns-3)

@@ -21,13 +21,5 @@ returns c = rw (c .before .scale-up .ensures, c .scale-up2 .ensures, c .before .
 pub axis-of-spec : {M : Type 1} → statement M
 axis-of-spec =
     tie.close
-    (tie.spec
-    (λ c. search needs)
-    (λ c. search needs)
-    (λ c. search needs)
-    (λ c. search needs)
-    start-of-requires
-    (λ c. search needs)
-    (λ c κs. search needs)
-    scale-up-requires-2
-    returns)
+    (tie.spec (λ c. search needs) (λ c. search needs) (λ c. search needs) (λ c. search needs) start-of-requires (λ c. search needs)
+    (λ c κs. search needs) scale-up-requires-2 returns)

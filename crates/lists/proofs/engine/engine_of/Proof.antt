@@ -44,15 +44,4 @@ returns c =
 pub engine-of-spec : {M : Type 1} → statement M
 engine-of-spec =
     tie.close
-    (tie.spec
-    axis-of-requires
-    axis-of-requires-2
-    add-t5
-    mul-t6
-    add-t7
-    (λ c. search needs)
-    sub-t10
-    mul-t11
-    add-t12
-    (λ c. search needs)
-    returns)
+    (tie.spec axis-of-requires axis-of-requires-2 add-t5 mul-t6 add-t7 (λ c. search needs) sub-t10 mul-t11 add-t12 (λ c. search needs) returns)

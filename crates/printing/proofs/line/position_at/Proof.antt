@@ -8,19 +8,10 @@ use Rattle.card.specs.Grid.{positionOf}
 use Rattle.printing.proofs.line.position_at.Statement.{statement}
 use Rattle.printing.proofs.line.position_at.Tie as tie
 
-cast-position : tie.Need-cast-position
-cast-position c = search needs
-
-cast-position-2 : tie.Need-cast-position-2
-cast-position-2 c = search needs
-
-position-requires : tie.Need-position-requires
-position-requires c κs = search needs
-
 returns : tie.Need-returns
 returns c =
     let s = c .before in
     c .position .ensures ∙ ap₂ (positionOf (s .args .k)) (toZ-pos w64 (s .args .row) (omega arith)) (toZ-pos w64 (s .args .column) (omega arith))
 
 pub position-at-spec : {M : Type 1} → statement M
-position-at-spec = tie.close (tie.spec cast-position cast-position-2 position-requires returns)
+position-at-spec = tie.close (tie.spec (λ c. search needs) (λ c. search needs) (λ c κs. search needs) returns)

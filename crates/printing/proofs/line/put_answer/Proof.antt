@@ -9,42 +9,6 @@ use borrow.Author.Needs.{needs}
 use Rattle.printing.proofs.line.put_answer.Statement.{statement}
 use Rattle.printing.proofs.line.put_answer.Tie as tie
 
-enum-known-a : tie.Need-enum-known-a
-enum-known-a c = search needs
-
-put-angle-requires : tie.Need-put-angle-requires
-put-angle-requires c κs = search needs
-
-put-byte-requires : tie.Need-put-byte-requires
-put-byte-requires c κs = search needs
-
-put-angle-requires-2 : tie.Need-put-angle-requires-2
-put-angle-requires-2 c κs = search needs
-
-put-byte-requires-2 : tie.Need-put-byte-requires-2
-put-byte-requires-2 c κs = search needs
-
-enum-known-a-2 : tie.Need-enum-known-a-2
-enum-known-a-2 c = search needs
-
-slice-aggregate-put-bytes : tie.Need-slice-aggregate-put-bytes
-slice-aggregate-put-bytes c = search needs
-
-put-bytes-requires : tie.Need-put-bytes-requires
-put-bytes-requires c κs = search needs
-
-cast-put-decimal : tie.Need-cast-put-decimal
-cast-put-decimal c = search needs
-
-put-decimal-requires : tie.Need-put-decimal-requires
-put-decimal-requires c κs = search needs
-
-put-byte-requires-3 : tie.Need-put-byte-requires-3
-put-byte-requires-3 c κs = search needs
-
-same-length : tie.Need-same-length
-same-length c = search needs
-
 returns : tie.Need-returns
 returns c = let p4 = c .before .before in
     let p3 = p4 .before .before .before .before in
@@ -58,9 +22,6 @@ returns c = let p4 = c .before .before in
     let r = put-then (put-then q (put-if (rw lon at (p3 .put-angle2 .ensures)))) (put-if (p4 .put-byte2 .ensures)) in
     rw (a .1) (r (omega (arith, answer-short (PositionAnswer.At (a .0 .0) (a .0 .1 .0)))))
 
-same-length-2 : tie.Need-same-length-2
-same-length-2 c = search needs
-
 returns-2 : tie.Need-returns-2
 returns-2 c = let p3 = c .before .before in
     let p2 = p3 .before .before .before .before in
@@ -72,19 +33,6 @@ returns-2 c = let p3 = c .before .before in
 pub put-answer-spec : {M : Type 1} → statement M
 put-answer-spec =
     tie.close
-    (tie.spec
-    enum-known-a
-    put-angle-requires
-    put-byte-requires
-    put-angle-requires-2
-    put-byte-requires-2
-    enum-known-a-2
-    slice-aggregate-put-bytes
-    put-bytes-requires
-    cast-put-decimal
-    put-decimal-requires
-    put-byte-requires-3
-    same-length
-    returns
-    same-length-2
-    returns-2)
+    (tie.spec (λ c. search needs) (λ c κs. search needs) (λ c κs. search needs) (λ c κs. search needs) (λ c κs. search needs) (λ c. search needs)
+    (λ c. search needs) (λ c κs. search needs) (λ c. search needs) (λ c κs. search needs) (λ c κs. search needs) (λ c. search needs) returns
+    (λ c. search needs) returns-2)

@@ -27,26 +27,11 @@ lead c =
     let l = lead-short (s .args .row) (s .args .column) (s .pre .1) (s .pre .2) in
     put-then p (put-if (c .put-byte2 .ensures)) (omega (arith, s .pre .0))
 
-put-decimal-requires : tie.Need-put-decimal-requires
-put-decimal-requires c κs = search needs
-
-put-byte-requires : tie.Need-put-byte-requires
-put-byte-requires c κs = search needs
-
-put-decimal-requires-2 : tie.Need-put-decimal-requires-2
-put-decimal-requires-2 c κs = search needs
-
-put-byte-requires-2 : tie.Need-put-byte-requires-2
-put-byte-requires-2 c κs = search needs
-
 put-answer-requires : tie.Need-put-answer-requires
 put-answer-requires c κs =
     let q = lead (c .before .before .before) in
     let s = start (c .before .before .before) in
     rw (put-length q) (omega (arith, q .ends, s .pre .0, lead-short (s .args .row) (s .args .column) (s .pre .1) (s .pre .2)))
-
-same-length : tie.Need-same-length
-same-length c = search needs
 
 returns : tie.Need-returns
 returns c =
@@ -60,11 +45,5 @@ returns c =
 pub put-line-spec : {M : Type 1} → statement M
 put-line-spec =
     tie.close
-    (tie.spec
-    put-decimal-requires
-    put-byte-requires
-    put-decimal-requires-2
-    put-byte-requires-2
-    put-answer-requires
-    same-length
+    (tie.spec (λ c κs. search needs) (λ c κs. search needs) (λ c κs. search needs) (λ c κs. search needs) put-answer-requires (λ c. search needs)
     returns)

@@ -11,12 +11,6 @@ use Rattle.printing.proofs.line.put_pixel.Tie as tie
 below : (c : tie.After-left) → (c .left .given .0 .0 < 1000000000) × (c .left .given .0 .1 .0 < 1000000000)
 below c = let n = c .before .before in told-below (n .before .before .before .args .line .now) (n .numbers-in .ensures) (c .left .given .1)
 
-numbers-in-requires : tie.Need-numbers-in-requires
-numbers-in-requires c κs = search needs
-
-enum-known-left : tie.Need-enum-known-left
-enum-known-left c = search needs
-
 position-at-requires : tie.Need-position-at-requires
 position-at-requires c κs = (c .before .before .before .before .before .before .pre .0, below (c .before))
 
@@ -24,18 +18,6 @@ put-line-requires : tie.Need-put-line-requires
 put-line-requires c κs =
     let w = below (c .before .before .before) in
     (c .before .before .before .before .before .before .before .before .pre .1, w .0, w .1)
-
-enum-told : tie.Need-enum-told
-enum-told c = search needs
-
-slice-aggregate-put-bytes : tie.Need-slice-aggregate-put-bytes
-slice-aggregate-put-bytes c = search needs
-
-put-bytes-requires : tie.Need-put-bytes-requires
-put-bytes-requires c κs = search needs
-
-same-length : tie.Need-same-length
-same-length c = search needs
 
 returns : tie.Need-returns
 unfolding lineFor
@@ -45,9 +27,6 @@ returns c =
     let n = l .before .before in
     let s = n .before .before .before in
     rw (told-pair (s .args .line .now) (n .numbers-in .ensures) (l .left .given .1), ← p .before .before .position-at .ensures) (p .put-line .ensures)
-
-same-length-2 : tie.Need-same-length-2
-same-length-2 c = search needs
 
 returns-2 : tie.Need-returns-2
 unfolding lineFor
@@ -61,15 +40,5 @@ returns-2 c =
 pub put-pixel-spec : {M : Type 1} → statement M
 put-pixel-spec =
     tie.close
-    (tie.spec
-    numbers-in-requires
-    enum-known-left
-    position-at-requires
-    put-line-requires
-    enum-told
-    slice-aggregate-put-bytes
-    put-bytes-requires
-    same-length
-    returns
-    same-length-2
-    returns-2)
+    (tie.spec (λ c κs. search needs) (λ c. search needs) position-at-requires put-line-requires (λ c. search needs) (λ c. search needs)
+    (λ c κs. search needs) (λ c. search needs) returns (λ c. search needs) returns-2)

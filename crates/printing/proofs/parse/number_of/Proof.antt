@@ -4,11 +4,8 @@ use borrow.Author.Needs.{needs}
 use Rattle.printing.proofs.parse.number_of.Statement.{statement}
 use Rattle.printing.proofs.parse.number_of.Tie as tie
 
-digits-of-requires : tie.Need-digits-of-requires
-digits-of-requires c κs = search needs
-
 returns : tie.Need-returns
 returns c = number-of (c .before .before .before .args .s .now) (c .before .digits-of .ensures)
 
 pub number-of-spec : {M : Type 1} → statement M
-number-of-spec = tie.close (tie.spec digits-of-requires returns)
+number-of-spec = tie.close (tie.spec (λ c κs. search needs) returns)

@@ -6,32 +6,11 @@ use borrow.Author.Needs.{needs}
 use Rattle.printing.proofs.parse.numbers_in.Statement.{statement}
 use Rattle.printing.proofs.parse.numbers_in.Tie as tie
 
-until-requires : tie.Need-until-requires
-until-requires c κs = search needs
-
 returns : tie.Need-returns
 returns c = bad-whole (c .before .before .before .args .s .now) (c .before .until .result) (c .before .until .ensures .0) (c .if1 .taken)
 
 slice-aggregate-number-of : tie.Need-slice-aggregate-number-of
 slice-aggregate-number-of c = sym (length-take-le _ _ (c .before .before .until .ensures .1))
-
-number-of-requires : tie.Need-number-of-requires
-number-of-requires c κs = search needs
-
-add-number-of : tie.Need-add-number-of
-add-number-of c = search needs
-
-sub-number-of : tie.Need-sub-number-of
-sub-number-of c = search needs
-
-part-number-of-start : tie.Need-part-number-of-start
-part-number-of-start c = search needs
-
-part-number-of-end : tie.Need-part-number-of-end
-part-number-of-end c = search needs
-
-number-of-requires-2 : tie.Need-number-of-requires-2
-number-of-requires-2 c κs = search needs
 
 returns-2 : tie.Need-returns-2
 returns-2 c = let right = c .before .before .before in
@@ -51,15 +30,5 @@ returns-3 c = let right = c .before .before .before in
 pub numbers-in-spec : {M : Type 1} → statement M
 numbers-in-spec =
     tie.close
-    (tie.spec
-    until-requires
-    returns
-    slice-aggregate-number-of
-    number-of-requires
-    add-number-of
-    sub-number-of
-    part-number-of-start
-    part-number-of-end
-    number-of-requires-2
-    returns-2
-    returns-3)
+    (tie.spec (λ c κs. search needs) returns slice-aggregate-number-of (λ c κs. search needs) (λ c. search needs) (λ c. search needs)
+    (λ c. search needs) (λ c. search needs) (λ c κs. search needs) returns-2 returns-3)

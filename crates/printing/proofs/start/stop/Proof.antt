@@ -6,12 +6,9 @@ use borrow.Author.Needs.{needs}
 use Rattle.printing.proofs.start.stop.Statement.{statement}
 use Rattle.printing.proofs.start.stop.Tie as tie
 
-no-card-requires : tie.Need-no-card-requires
-no-card-requires c κs = search needs
-
 returns : tie.Need-returns
 returns c =
     let s = c .before .args in ap (λ (k : Card). record { length = s .length; more = false; card = k; next = s .end }) (c .no-card .ensures)
 
 pub stop-spec : {M : Type 1} → statement M
-stop-spec = tie.close (tie.spec no-card-requires returns)
+stop-spec = tie.close (tie.spec (λ c κs. search needs) returns)

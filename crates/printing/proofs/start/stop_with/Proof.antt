@@ -6,17 +6,8 @@ use borrow.Author.Needs.{needs}
 use Rattle.printing.proofs.start.stop_with.Statement.{statement}
 use Rattle.printing.proofs.start.stop_with.Tie as tie
 
-put-bytes-requires : tie.Need-put-bytes-requires
-put-bytes-requires c κs = search needs
-
-stop-requires : tie.Need-stop-requires
-stop-requires c κs = search needs
-
-same-length : tie.Need-same-length
-same-length c = search needs
-
 returns : tie.Need-returns
 returns c = stops (put-if (c .before .before .before .put-bytes .ensures) (omega arith)) (c .stop .result) _ (c .stop .ensures)
 
 pub stop-with-spec : {M : Type 1} → statement M
-stop-with-spec = tie.close (tie.spec put-bytes-requires stop-requires same-length returns)
+stop-with-spec = tie.close (tie.spec (λ c κs. search needs) (λ c κs. search needs) (λ c. search needs) returns)

@@ -97,17 +97,5 @@ returns-2 c =
 pub position-spec : {M : Type 1} → statement M
 position-spec =
     tie.close
-    (tie.spec
-    (λ c κs. search needs)
-    (λ c. search needs)
-    cast-north-of
-    north-of-requires
-    cast-difference
-    (λ c κs. search needs)
-    cast-east-of
-    east-of-requires
-    (λ c. search needs)
-    (λ c κs. search needs)
-    (λ c. search needs)
-    returns
-    returns-2)
+    (tie.spec (λ c κs. search needs) (λ c. search needs) cast-north-of north-of-requires cast-difference (λ c κs. search needs) cast-east-of
+    east-of-requires (λ c. search needs) (λ c κs. search needs) (λ c. search needs) returns returns-2)
