@@ -3,6 +3,7 @@
 --     scaleUp x d        the smallest whole number not below x × 2^36 / d
 --     startOf rest d off what the rounding starts from, the angles being taken off or added
 --     axisOf x pixel off the angle of the first pixel of an axis, x pixels making a circle, what a pixel adds to it or takes off, and that start
+--     axisAt first d off the same, by the nearest's numerator and denominator at the first pixel
 --     rowAxis k          the northings of the rows, taken off that of row 0
 --     columnAxis k       the eastings of the columns, added to that of column 0
 --     engineOf k         the engine of a card

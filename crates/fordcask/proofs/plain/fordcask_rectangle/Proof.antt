@@ -10,7 +10,9 @@ use Rattle.fordcask.proofs.plain.fordcask_rectangle.Tie as tie
 returns : tie.Need-returns
 returns c =
     let s = c .before .before .before in
-    rw (c .before .refusal .ensures) (ap rectangleParts (rw (toZ-ofZ w64 (s .args .south) (s .fits .south), toZ-ofZ w64 (s .args .north) (s .fits .north)) at (c .before .before .rectangle .ensures)))
+    rw (c .before .refusal .ensures)
+    (ap rectangleParts (rw (toZ-ofZ w64 (s .args .south) (s .fits .south), toZ-ofZ w64 (s .args .north) (s .fits .north)) at
+    (c .before .before .rectangle .ensures)))
 
 pub fordcask-rectangle-spec : {M : Type 1} → statement M
 fordcask-rectangle-spec = tie.close (tie.spec (λ c κs. search needs) (λ c κs. search needs) returns)
