@@ -3,7 +3,7 @@
 ghost use mathlib.Core.Path.{_≡_};
 ghost use mathlib.Core.Bool.{true, cond};
 ghost use mathlib.Core.List.{_∷_, []};
-ghost use Prim.Native.Nat.{_+_, _-_, _<_};
+ghost use Prim.Native.Nat.{_+_, _-_, _/_, _<_, _≤_};
 ghost use lib.Dec.{leb};
 ghost use lib.IntN.{pos};
 ghost use lib.Signed.{ltZ};
@@ -96,6 +96,16 @@ pub fn put_byte(out: &mut [u8], o: usize, b: u8) -> usize
     o + 1
 }
 
+// v / 10, divided in 32 bits where v has no more.
+fn tenth(v: u64) -> u64
+    ensures { λ r. ⌜ r ≡ v / 10 ⌝ ∗ ⌜ r ≤ 1844674407370955161 ⌝ }
+{
+    if v < 4_294_967_296 {
+        return ((v as u32) / 10) as u64;
+    }
+    v / 10
+}
+
 // The w digits of v, zero-filled, the last one first.
 pub fn put_number(out: &mut [u8], o: usize, w: usize, v: u64) -> usize
     ensures answer { λ r. ⌜ r ≡ endOf (digits w v) o (now (out .entry)) ⌝ }
@@ -108,8 +118,9 @@ pub fn put_number(out: &mut [u8], o: usize, w: usize, v: u64) -> usize
     let mut j = w;
     while 0 < j {
         j -= 1;
-        out[o + j] = 48 + (rest % 10) as u8;
-        rest = rest / 10;
+        let t = tenth(rest);
+        out[o + j] = 48 + (rest - 10 * t) as u8;
+        rest = t;
     }
     o + w
 }

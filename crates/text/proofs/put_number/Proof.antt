@@ -1,6 +1,6 @@
 -- The digits put so far are the last ones, and what is left of the number is divided by ten for each. Assumes nothing.
 use mathlib.Core.Path.{_≡_, sym, ap, _∙_}
-use Prim.Native.Nat.{ℕ, _+_, _-_, _/_, _^_}
+use Prim.Native.Nat.{ℕ, _+_, _*_, _-_, _/_, _%_, _^_}
 use native.Mathlib.Nat.{div-one}
 use native.Mathlib.Omega.{arith}
 use borrow.Author.Needs.{needs}
@@ -32,18 +32,25 @@ loop-holds c = let a = c .before .before .before .args in
 sub-j : tie.Need-sub-j Inv-loop μ-loop
 sub-j c = omega arith
 
+mul-out : tie.Need-mul-out Inv-loop μ-loop
+mul-out c = omega (arith, c .tenth .ensures .1)
+
+sub-out : tie.Need-sub-out Inv-loop μ-loop
+sub-out c = omega (arith, c .tenth .ensures .0)
+
 cast-out : tie.Need-cast-out Inv-loop μ-loop
-cast-out c = omega arith
+cast-out c = omega (arith, c .tenth .ensures .0)
 
 add-out : tie.Need-add-out Inv-loop μ-loop
-add-out c = omega arith
+add-out c = omega (arith, c .tenth .ensures .0)
 
 add-out-2 : tie.Need-add-out-2 Inv-loop μ-loop
 add-out-2 c = omega arith
 
 slice-write-out : tie.Need-slice-write-out Inv-loop μ-loop
-slice-write-out c = let p = c .before .loop .inv .1 in
-    let a = c .before .before .before .before .before .args in
+slice-write-out c =
+    let p = c .before .before .loop .inv .1 in
+    let a = c .before .before .before .before .before .before .args in
     omega (arith, length-digits (a .w) (a .v), p .within, p .fits, ending-length p)
 
 loop-less : tie.Need-loop-less Inv-loop μ-loop
@@ -51,15 +58,17 @@ loop-less c = omega arith
 
 loop-again : tie.Need-loop-again Inv-loop μ-loop
 loop-again c =
-    let g = c .before .loop in
+    let g = c .before .before .loop in
     let p = g .inv .1 in
-    let a = c .before .before .before .before .before .args in
+    let a = c .before .before .before .before .before .before .args in
     let l = length-digits (a .w) (a .v) in
     let h = p .within in
     let n : a .w - (g .j - 1) ≡ a .w - g .j + 1 = omega arith in
-    let m : a .w - 1 - (g .j - 1) ≡ a .w - g .j = omega arith in (
-      ap (λ (x : ℕ). x / 10) (g .inv .0) ∙ place-next (a .v) (a .w - g .j) ∙ rw n,
-      ending-next p _ (c .loop-test .taken) (digit-at (a .w) (a .v) (g .j - 1) (omega arith) ∙ rw (m, g .inv .0)),
+    let m : a .w - 1 - (g .j - 1) ≡ a .w - g .j = omega arith in
+    let d : g .rest - 10 * c .tenth .result ≡ g .rest % 10 = omega (arith, c .tenth .ensures .0) in (
+      c .tenth .ensures .0 ∙ ap (λ (x : ℕ). x / 10) (g .inv .0) ∙ place-next (a .v) (a .w - g .j) ∙ rw n,
+      ending-next p _ (c .before .loop-test .taken)
+          (digit-at (a .w) (a .v) (g .j - 1) (omega arith) ∙ rw m (ap (λ (x : ℕ). 48 + x % 10) (sym (g .inv .0))) ∙ ap (λ (x : ℕ). 48 + x) (sym d)),
     )
 
 add-result : tie.Need-add-result Inv-loop μ-loop
@@ -76,5 +85,5 @@ returns-2 c = let a = c .before .before .before .before .before .args in
 pub put-number-spec : {M : Type 1} → statement M
 put-number-spec =
     tie.close
-    (tie.spec Inv-loop μ-loop (λ c κs. search needs) returns loop-holds sub-j cast-out add-out add-out-2 slice-write-out loop-less loop-again
-    add-result same-length returns-2)
+    (tie.spec Inv-loop μ-loop (λ c κs. search needs) returns loop-holds sub-j (λ c κs. search needs) mul-out sub-out cast-out add-out add-out-2
+    slice-write-out loop-less loop-again add-result same-length returns-2)
