@@ -13,7 +13,7 @@ use Rattle.arc.specs.Refusals.{refusal}
 use Rattle.arc.specs.Zones.{circle, half, quarter}
 use Rattle.card.specs.declared.OffsetAnswer.{OffsetAnswer}
 use Rattle.card.specs.Grid.{intoRange}
-use Rattle.card.specs.Offset.{Exactly, difference, offsetOf, Whole, Exact}
+use Rattle.card.specs.Offset.{Exactly, difference, offsetOf, ExactOffset, Exact}
 use Rattle.card.proofs.Line.{range-is}
 
 pub in-float : (z : ℤ) → natAbs z ≤ 129600000 → T (inFloat binary64 z)
@@ -22,8 +22,8 @@ in-float (pos n) h = le→leb n (2 ^ 53) (omega arith)
 in-float (negsuc n) h = lt→ltb n (2 ^ 53) (omega arith)
 
 exactly : (z : ℤ) → natAbs z ≤ 129600000 → Exactly (ofInt binary64 z) z
-exactly (pos n) h = record { nearest = refl; back = positive-back binary64 63 n (in-float (pos n) h) (omega arith) .1 }
-exactly (negsuc n) h = record { nearest = refl; back = negative-back binary64 63 n (in-float (negsuc n) h) (omega arith) .1 }
+exactly (pos n) h = record { rounded = refl; back = positive-back binary64 63 n (in-float (pos n) h) (omega arith) .1 }
+exactly (negsuc n) h = record { rounded = refl; back = negative-back binary64 63 n (in-float (negsuc n) h) (omega arith) .1 }
 
 -- the short way between two longitudes counted from one place
 pub short-is : (z : ℤ) (e c : ℕ) → c ≤ circle → Is z e c → Is (intoRange z) ((e + 194400000 - c) % circle) half
@@ -46,7 +46,7 @@ exact lat lon clat clon o e = go (outside quarter lat) (outside half lon) (outsi
     go : (s t u v : Bool) → outside quarter lat ≡ s → outside half lon ≡ t → outside quarter clat ≡ u → outside half clon ≡ v
         → cond s (OffsetAnswer.Refused (refusal 4)) (cond t (OffsetAnswer.Refused (refusal 5)) (cond u (OffsetAnswer.Refused (refusal 4))
         (cond v (OffsetAnswer.Refused (refusal 5)) (OffsetAnswer.At (difference lat lon clat clon))))) ≡ OffsetAnswer.At o
-        → Whole lat lon clat clon o
+        → ExactOffset lat lon clat clon o
     go true t u v es et eu ev k = let x : _≡_ {A = ℕ} 0 1 = cc in absurd (omega arith)
     go false true u v es et eu ev k = let x : _≡_ {A = ℕ} 0 1 = cc in absurd (omega arith)
     go false false true v es et eu ev k = let x : _≡_ {A = ℕ} 0 1 = cc in absurd (omega arith)
@@ -55,7 +55,7 @@ exact lat lon clat clon o e = go (outside quarter lat) (outside half lon) (outsi
         let same : difference lat lon clat clon ≡ o = cc in
         let high = raise-high quarter lat es in
         let high′ = raise-high quarter clat eu in
-        subst (Whole lat lon clat clon) same
+        subst (ExactOffset lat lon clat clon) same
         (record {
           lat-exact =
               exactly (lat -ℤ clat) (omega (arith, is-size (lat -ℤ clat) (raise quarter lat) (raise quarter clat) (apart quarter lat clat es eu)));

@@ -1,5 +1,5 @@
 -- Demand 3: down any list of accepted cards of one scale and zone a pixel's position goes from card to card with no drift
--- (01, "Origins and the zone grid"). Definitions only; the proof is proofs/Chain.antt.
+-- (01, "Origins and the zone grid"). The claim is `NoDrift`; the proof is proofs/Chain.antt.
 --     HasPlace k u v r c         pixel (r, c) has the place (u, v) of the zone grid
 --     TilesHave, ChartHas        a pixel of the card's tiles, of its chart rectangle, has the place
 --     Close a b u v lat lon      the position is within half a hundredth of the exact place

@@ -1,4 +1,4 @@
--- The offset of a position from a centre (01, "Origins and the zone grid"). Definitions only.
+-- The offset of a position from a centre (01, "Origins and the zone grid"). Definitions, and a claim.
 --     Exactly x z            the double x is the whole number z, nothing lost
 --     offsetOf ..            what `offset_from` answers: 4, 5 of the position, then 4, 5 of the centre
 --     offsetParts a          the paper's number, place and values of an answer, the values doubles
@@ -16,7 +16,7 @@ use Rattle.card.specs.Grid.{intoRange}
 
 -- it is the nearest double to z, and taken back as a whole number it is z
 pub record Exactly (x : Float) (z : ℤ) : Type 0 where
-  pub nearest : x ≡ ofInt binary64 z
+  pub rounded : x ≡ ofInt binary64 z
   pub back : toSigned 63 x ≡ z
 
 -- position minus centre, the longitude difference from −64,800,000 up to but not including 64,800,000
@@ -38,10 +38,11 @@ offsetParts (OffsetAnswer.Refused r) =
     record { number = r .number; at = r .at; lat = ofInt binary64 (pos 0); lon = ofInt binary64 (pos 0) }
 
 -- both doubles hold whole hundredths, exactly
-pub record Whole (lat lon clat clon : ℤ) (o : Offset) : Type 0 where
+pub record ExactOffset (lat lon clat clon : ℤ) (o : Offset) : Type 0 where
   pub lat-exact : Exactly (o .lat) (lat -ℤ clat)
   pub lon-exact : Exactly (o .lon) (intoRange (lon -ℤ clon))
 
--- what the answer is held to
+-- ---- what the answer is held to: proved in proofs/Doubles.antt
+
 abbrev pub Exact : Type 0
-Exact = (lat lon clat clon : ℤ) (o : Offset) → offsetOf lat lon clat clon ≡ OffsetAnswer.At o → Whole lat lon clat clon o
+Exact = (lat lon clat clon : ℤ) (o : Offset) → offsetOf lat lon clat clon ≡ OffsetAnswer.At o → ExactOffset lat lon clat clon o

@@ -1,4 +1,4 @@
--- Answered positions are in range (01, "Units and the zone table"). Definitions only; the proof is proofs/Answered.antt.
+-- Answered positions are in range (01, "Units and the zone table"). A claim: the proof is proofs/Answered.antt.
 --     InRange lat lon        a latitude within ±90°, a longitude from −180° up to but not including 180°
 --     AnsweredInRange        every position that a card answers is such a pair
 use mathlib.Core.Path.{_≡_}

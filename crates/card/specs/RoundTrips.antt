@@ -1,4 +1,4 @@
--- Both round trips (01, "The image card, 98 bytes"): what is claimed, proved in crate round_trip. Definitions only.
+-- Both round trips (01, "The image card, 98 bytes"): what is claimed, proved in round_trip/proofs/ReadBack.antt and WriteBack.antt.
 --     recordOf k         the record that a card's value holds
 --     ReadsBack          reading what was written gives the record back
 --     WritesBack         writing what was read gives the bytes back

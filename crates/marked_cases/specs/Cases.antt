@@ -1,4 +1,4 @@
--- The twelve cases marked P (01, "Figures on both sides of each edge"). Definitions only; the proof is proofs/AllHold.antt.
+-- The twelve cases marked P (01, "Figures on both sides of each edge"). A claim: the proof is proofs/AllHold.antt.
 --     Case               what the definitions give, and what document 01 states
 --     AllAs cs           in each case the two are the same
 --     card               the bytes of document 01's card, as its two parts

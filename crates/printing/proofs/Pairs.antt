@@ -14,7 +14,7 @@ use Rattle.text.specs.Text.{all, isDigit, number}
 use Rattle.text.specs.Buffer.{digitsIn}
 use Rattle.text.specs.declared.Digits.{Digits}
 use Rattle.text.proofs.Numbers.{number-below, digits-read}
-use Rattle.printing.specs.Lines.{upTo, beforeSpace, afterSpace, isNumber, Pair, numbersOf}
+use Rattle.printing.specs.Lines.{upTo, beforeSpace, afterSpace, isNumber, TwoNumbers, numbersOf}
 use Rattle.printing.specs.Steps.{NumberOf, numbersAnswer}
 use Rattle.printing.specs.declared.parse.Numbers.{Numbers}
 use Rattle.printing.proofs.Scan.{upTo-take, space-drop, is-number}
@@ -68,11 +68,11 @@ number-of s {d} e =
 below : (s : List ℕ) → isNumber s ≡ true → number s < 1000000000
 below s t = let n = is-number s t in number-below 9 s (n .nine-digits) (n .of-digits)
 
-pub pair-below : (l : List ℕ) (p : Pair) → numbersOf l ≡ some p → (p .left < 1000000000) × (p .right < 1000000000)
+pub pair-below : (l : List ℕ) (p : TwoNumbers) → numbersOf l ≡ some p → (p .left < 1000000000) × (p .right < 1000000000)
 unfolding numbersOf
 pair-below l p e = split (isNumber (beforeSpace l) && isNumber (afterSpace l)) refl e
   where
-    x : Pair
+    x : TwoNumbers
     x = record { left = number (beforeSpace l); right = number (afterSpace l) }
 
     split : (t : Bool) → isNumber (beforeSpace l) && isNumber (afterSpace l) ≡ t → cond t (some x) none ≡ some p
@@ -85,14 +85,14 @@ pair-below l p e = split (isNumber (beforeSpace l) && isNumber (afterSpace l)) r
 
 -- ---- what `numbers_in` tells of a line
 
-pair-of : (o : Option Pair) {x y : ℕ} → numbersAnswer o ≡ Numbers.Pair x y → o ≡ some (record { left = x; right = y })
+pair-of : (o : Option TwoNumbers) {x y : ℕ} → numbersAnswer o ≡ Numbers.Pair x y → o ≡ some (record { left = x; right = y })
 pair-of (some p) {x} {y} e =
     let l : p .left ≡ x = cc in
     let r : p .right ≡ y = cc in
     rw (← l, ← r)
 pair-of none e = let z : _≡_ {A = ℕ} 0 1 = cc in absurd (omega arith)
 
-none-of : (o : Option Pair) → numbersAnswer o ≡ Numbers.Bad → o ≡ none
+none-of : (o : Option TwoNumbers) → numbersAnswer o ≡ Numbers.Bad → o ≡ none
 none-of (some p) e = let z : _≡_ {A = ℕ} 0 1 = cc in absurd (omega arith)
 none-of none e = refl
 

@@ -14,7 +14,7 @@ use borrow.Author.Tests.{ltb-true, ltb-false, leb-true, leb-false}
 use Rattle.arc.specs.declared.Verdict.{Verdict}
 use Rattle.card.specs.declared.Card.{Card}
 use Rattle.card.specs.Read.{readOf}
-use Rattle.printing.specs.Lines.{intoFirst, linesOf, Pair, numbersOf}
+use Rattle.printing.specs.Lines.{intoFirst, linesOf, TwoNumbers, numbersOf}
 use Rattle.printing.specs.Printed.{badLine, tooLong, lineFor, linesFor, cardOut, withCard, run, printed}
 use Rattle.printing.specs.Run.{firstLine, lineAt, nextAt, Opened, closed, openedWith, openedCard, openingOf, fromOn, runFrom, RunPrints}
 
@@ -55,7 +55,7 @@ from-lines k s (suc n) at h = turn (ltb at (length s)) refl (λ g. from-lines k 
     turn false e more = rw (lines-end s at (ltb-false at (length s) e))
 
 -- what is printed of a card, its lines being ls
-opened-card : (o : Option Pair) (card : List ℕ) (next end : ℕ) (s : List ℕ) (ls : List (List ℕ))
+opened-card : (o : Option TwoNumbers) (card : List ℕ) (next end : ℕ) (s : List ℕ) (ls : List (List ℕ))
     → ((k : Card) → fromOn k s next (length s) ≡ linesFor k ls) → runFrom (openedCard o card next end) s ≡ withCard o card ls
 opened-card none card next end s ls more = refl
 opened-card (some p) card next end s ls more = verdict (readOf (p .left) (p .right) card .verdict) (readOf (p .left) (p .right) card .card)

@@ -16,7 +16,7 @@ use Rattle.card.specs.declared.Card.{Card}
 use Rattle.card.specs.declared.PositionAnswer.{PositionAnswer}
 use Rattle.card.specs.Grid.{positionOf}
 use Rattle.card.specs.Read.{readOf, Accepted, Known}
-use Rattle.printing.specs.Lines.{Pair, numbersOf}
+use Rattle.printing.specs.Lines.{TwoNumbers, numbersOf}
 use Rattle.printing.specs.Printed.{badLine, tooLong, answerText, lineOut, lineFor, cardOut}
 use Rattle.printing.specs.Run.{lineAt, nextAt, Opened, closed, openedWith, openedCard, openingOf}
 use Rattle.printing.specs.Steps.{openingFor, openingAnswer, served, textAt, lineAnswer}
@@ -44,7 +44,7 @@ pub line-short : (k : Card) (l : List ℕ) → length (lineFor k l) ≤ 64
 unfolding lineFor
 line-short k l = split (numbersOf l) refl
   where
-    split : (o : Option Pair) → numbersOf l ≡ o → length (lineOut k o) ≤ 64
+    split : (o : Option TwoNumbers) → numbersOf l ≡ o → length (lineOut k o) ≤ 64
     split (some p) e =
         let b = pair-below l p e in
         let a = positionOf k (pos (p .left)) (pos (p .right)) in
@@ -71,7 +71,7 @@ pub record Opening (s : List ℕ) (o : Opened) : Type 0 where
 shut : (s x : List ℕ) → length x ≤ 64 → Opening s (closed x (length s))
 shut s x h = record { short = h; known = λ e. absurd (false≢true e); small = λ e. absurd (false≢true e) }
 
-with-card : (s : List ℕ) → length s ≤ 65536 → (o : Option Pair) (card : List ℕ) (next : ℕ) → Opening s (openedCard o card next (length s))
+with-card : (s : List ℕ) → length s ≤ 65536 → (o : Option TwoNumbers) (card : List ℕ) (next : ℕ) → Opening s (openedCard o card next (length s))
 with-card s h none card next = shut s badLine (omega arith)
 with-card s h (some p) card next = verdict (readOf (p .left) (p .right) card .verdict) (readOf (p .left) (p .right) card .card) refl
   where

@@ -1,4 +1,4 @@
--- Document 01's worked example, whole (01, "The printing program"). Definitions only; the proof is proofs/Shown.antt.
+-- Document 01's worked example, whole (01, "The printing program"). A claim: the proof is proofs/Shown.antt.
 use mathlib.Core.Path.{_≡_}
 use mathlib.Core.List.{List, _++_}
 use Prim.Native.Nat.{ℕ}

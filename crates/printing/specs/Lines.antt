@@ -38,11 +38,11 @@ afterSpace (b ∷ bs) = cond (eqb b 32) bs (afterSpace bs)
 abbrev pub isNumber : List ℕ → Bool
 isNumber s = leb 1 (length s) && leb (length s) 9 && all isDigit s
 
-pub record Pair : Type 0 where
+pub record TwoNumbers : Type 0 where
   pub left : ℕ
   pub right : ℕ
 
-unfoldable pub numbersOf : List ℕ → Option Pair
+unfoldable pub numbersOf : List ℕ → Option TwoNumbers
 numbersOf l =
     cond (isNumber (beforeSpace l) && isNumber (afterSpace l))
     (some (record { left = number (beforeSpace l); right = number (afterSpace l) })) none

@@ -14,7 +14,7 @@ use Rattle.card.specs.declared.PositionAnswer.{PositionAnswer}
 use Rattle.text.specs.Text.{bytes, decimal, angleText}
 use Rattle.card.specs.Read.{readOf}
 use Rattle.card.specs.Grid.{positionOf}
-use Rattle.printing.specs.Lines.{linesOf, Pair, numbersOf}
+use Rattle.printing.specs.Lines.{linesOf, TwoNumbers, numbersOf}
 
 abbrev pub header : List ℕ
 header = bytes "row column latitude longitude\n"
@@ -35,7 +35,7 @@ abbrev pub pixelText : ℕ → ℕ → PositionAnswer → List ℕ
 pixelText row column a = decimal row ++ bytes " " ++ decimal column ++ bytes " " ++ answerText a
 
 -- other lines print "bad line"
-abbrev pub lineOut : Card → Option Pair → List ℕ
+abbrev pub lineOut : Card → Option TwoNumbers → List ℕ
 lineOut k (some p) = pixelText (p .left) (p .right) (positionOf k (pos (p .left)) (pos (p .right)))
 lineOut k none = badLine
 
@@ -53,7 +53,7 @@ cardOut (Verdict.Refused e) k ls =
     bytes "card refused " ++ decimal (e .number) ++ bytes " " ++ decimal (e .at) ++ bytes "\n"
 
 -- a bad first line prints only that
-abbrev pub withCard : Option Pair → List ℕ → List (List ℕ) → List ℕ
+abbrev pub withCard : Option TwoNumbers → List ℕ → List (List ℕ) → List ℕ
 withCard (some p) card ls = let r = readOf (p .left) (p .right) card in cardOut (r .verdict) (r .card) ls
 withCard none card ls = badLine
 

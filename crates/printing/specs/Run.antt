@@ -18,7 +18,7 @@ use lib.ListN.{length, drop}
 use Rattle.arc.specs.declared.Verdict.{Verdict}
 use Rattle.card.specs.declared.Card.{Card}
 use Rattle.card.specs.Read.{readOf, noCard}
-use Rattle.printing.specs.Lines.{upTo, Pair, numbersOf}
+use Rattle.printing.specs.Lines.{upTo, TwoNumbers, numbersOf}
 use Rattle.printing.specs.Printed.{header, badLine, tooLong, lineFor, cardOut, printed}
 
 -- up to the line feed
@@ -46,7 +46,7 @@ abbrev pub openedWith : Verdict → Card → ℕ → ℕ → Opened
 openedWith Verdict.Accepted k next end = record { text = header; more = true; card = k; next = next }
 openedWith (Verdict.Refused e) k next end = closed (cardOut (Verdict.Refused e) k []) end
 
-abbrev pub openedCard : Option Pair → List ℕ → ℕ → ℕ → Opened
+abbrev pub openedCard : Option TwoNumbers → List ℕ → ℕ → ℕ → Opened
 openedCard (some p) card next end = let r = readOf (p .left) (p .right) card in openedWith (r .verdict) (r .card) next end
 openedCard none card next end = closed badLine end
 

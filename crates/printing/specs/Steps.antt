@@ -21,7 +21,7 @@ use Rattle.card.specs.Read.{noCard}
 use Rattle.whole.specs.Lists.{over}
 use Rattle.text.specs.Text.{number}
 use Rattle.text.specs.declared.Digits.{Digits}
-use Rattle.printing.specs.Lines.{isNumber, Pair}
+use Rattle.printing.specs.Lines.{isNumber, TwoNumbers}
 use Rattle.printing.specs.Printed.{lineFor}
 use Rattle.printing.specs.Run.{lineAt, Opened, closed, openingOf, goesOn}
 use Rattle.printing.specs.declared.parse.Numbers.{Numbers}
@@ -32,7 +32,7 @@ pub record NumberOf (s : List ℕ) (r : Digits) : Type 0 where
   pub tested : r .ok ≡ isNumber s
   pub read : isNumber s ≡ true → r .value ≡ number s
 
-abbrev pub numbersAnswer : Option Pair → Numbers
+abbrev pub numbersAnswer : Option TwoNumbers → Numbers
 numbersAnswer (some p) = Numbers.Pair (p .left) (p .right)
 numbersAnswer none = Numbers.Bad
 

@@ -1,5 +1,5 @@
 -- Every aligned origin can stand on a card (01, "Origins and the zone grid", "The image card, 98 bytes"): what is claimed, proved in
--- proofs/Aligned.antt. Definitions only.
+-- proofs/Aligned.antt.
 --     Fits a b o r       a record at the origin o, with counts, a name and extents that a card may have
 --     Carried ..         it is written, and read back to the same n and m; LSO and PSO are the texts of o's angles
 --     AlignedBack        the claim
