@@ -25,7 +25,7 @@ use Rattle.card_text.specs.declared.fields.Fields.{Fields}
 pub record DigitsOf (s : List ℕ) (r : Digits) : Type 0 where
   pub tested : r .ok ≡ all isDigit s
   pub read : all isDigit s ≡ true → r .value ≡ number s
-  pub small : r .value < 100000000
+  pub small : r .value < 2900000000
 
 -- an angle z of a limit l is held as z + l, and as 0 below −l
 abbrev pub shifted : ℕ → Bool → ℕ → ℕ

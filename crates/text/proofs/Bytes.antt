@@ -9,7 +9,8 @@ use native.Mathlib.Nat.{not-suc-le-zero, le-of-suc-le-suc}
 use native.Mathlib.Omega.{arith}
 use lib.ListN.{length, getD, take, drop, set, length-take, length-drop, take-append-drop}
 use lib.Seq.{drop-cons, take-at, drop-at, take-suc, take-suc-set, take-add, take-take, drop-drop, getD-take, getD-drop}
-use Rattle.text.specs.Text.{part, all, onward}
+use Rattle.text.specs.Text.{part, all}
+use Rattle.text.specs.Buffer.{lessZero, summed}
 
 -- ---- the next byte
 
@@ -21,9 +22,9 @@ pub all-next : (f : ℕ → Bool) (ok : Bool) (s : List ℕ) (i : ℕ) → i < l
     → ((ok && f (getD s i 0)) && all f (drop (i + 1) s)) ≡ (ok && all f (drop i s))
 all-next f ok s i h = rw (drop-next s i h) (and-assoc ok (f (getD s i 0)) (all f (drop (i + 1) s)))
 
--- one digit more is read
-pub onward-next : (v : ℕ) (s : List ℕ) (i : ℕ) → i < length s → onward (v * 10 + (getD s i 0 - 48)) (drop (i + 1) s) ≡ onward v (drop i s)
-onward-next v s i h = rw (drop-next s i h)
+-- one byte more is read
+pub summed-next : (v : ℕ) (s : List ℕ) (i : ℕ) → i < length s → summed (v * 10 + lessZero (getD s i 0)) (drop (i + 1) s) ≡ summed v (drop i s)
+summed-next v s i h = rw (drop-next s i h)
 
 -- one byte more is copied
 pub copy-next : (r q : List ℕ) (i : ℕ) → i < length r → i < length q → take i r ≡ take i q

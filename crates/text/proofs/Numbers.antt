@@ -5,7 +5,7 @@ use mathlib.Core.List.{List, [], _∷_}
 use mathlib.Core.Bool.{Bool, true, false, cond, and-eq-true-iff}
 use Prim.Native.Nat.{ℕ, zero, suc, _+_, _*_, _-_, _/_, _%_, _^_, _≤_, _<_}
 use native.Mathlib.Nat.{pow-succ', zero-mul, zero-add, mul-one, add-mul, mul-assoc, mod-one, mod-lt, mod-eq-of-lt, one-le-pow}
-use native.Mathlib.Nat.{pow-le-pow-right, div-eq-of-lt, div-eq-of-lt-le, mul-le-mul-right, add-sub-cancel-left, mul-add-mod-self-right}
+use native.Mathlib.Nat.{pow-le-pow-right, div-eq-of-lt, div-eq-of-lt-le, mul-le-mul-left, mul-le-mul-right, add-sub-cancel-left, mul-add-mod-self-right}
 use native.Mathlib.Nat.{not-suc-le-zero, le-of-suc-le-suc, pow-suc, div-div-eq-div-mul, le-div-iff-mul-le, div-lt-iff-lt-mul}
 use native.Mathlib.Numerals.{add-one}
 use native.Mathlib.Omega.{arith}
@@ -14,7 +14,7 @@ use lib.Dec.{leb, ltb, eqb}
 use lib.ListN.{length, getD}
 use borrow.Author.Tests.{leb-true, leb-false, le-leb, ltb-true, ltb-false, ne-eqb}
 use Rattle.text.specs.Text.{all, isDigit, onward, number, digits, trimmed, decimal}
-use Rattle.text.specs.Buffer.{digitsIn}
+use Rattle.text.specs.Buffer.{lessZero, summed, digitsIn}
 use Rattle.text.specs.declared.Digits.{Digits}
 
 pub tens : (w : ℕ) → 0 < 10 ^ w
@@ -98,16 +98,30 @@ number-below w s l e =
 pub record Read (w : ℕ) (s : List ℕ) (r : Digits) : Type 0 where
   pub tested : r .ok ≡ all isDigit s
   pub read : all isDigit s ≡ true → r .value ≡ number s
-  pub small : r .value < 10 ^ w
+  pub small : r .value + 29 ≤ 29 * 10 ^ w
+
+-- of digits the sum is their number, and of any bytes it is small
+summed-digits : (bs : List ℕ) (v : ℕ) → all isDigit bs ≡ true → summed v bs ≡ onward v bs
+summed-digits [] v e = refl
+summed-digits (b ∷ bs) v e =
+    let t = and-eq-true-iff (isDigit b) (all isDigit bs) .0 e in
+    let d = digit-in b (t .0) in
+    let same : lessZero b ≡ b - 48 = omega arith in
+    rw same (summed-digits bs (v * 10 + (b - 48)) (t .1))
+
+summed-small : (bs : List ℕ) (v : ℕ) → summed v bs + 29 ≤ (v + 29) * 10 ^ length bs
+summed-small [] v = rw mul-one (omega arith)
+summed-small (b ∷ bs) v =
+    let p = 10 ^ length bs in
+    let step : (v * 10 + lessZero b + 29) * p ≤ (v + 29) * 10 * p = mul-le-mul-right p (omega arith) in
+    rw (pow-succ' 10 (length bs), ← mul-assoc (v + 29) 10 p) (omega (arith, summed-small bs (v * 10 + lessZero b), step))
 
 pub digits-read : (w : ℕ) (s : List ℕ) {r : Digits} → length s ≤ w → w ≤ 17 → r ≡ digitsIn s → Read w s r
-unfolding digitsIn
+unfolding digitsIn number
 digits-read w s h l e =
-    rw (e, le-leb (length s) 17 (omega arith)) (record { tested = refl; read = λ t. rw t; small = go (all isDigit s) refl })
-  where
-    go : (t : Bool) → all isDigit s ≡ t → cond t (number s) 0 < 10 ^ w
-    go true e = number-below w s h e
-    go false e = tens w
+    let p : 29 * 10 ^ length s ≤ 29 * 10 ^ w = mul-le-mul-left 29 (pow-le-pow-right (omega arith) h) in
+    rw (e, le-leb (length s) 17 (omega arith))
+    (record { tested = refl; read = λ t. summed-digits s 0 t; small = omega (arith, summed-small s 0, p) })
 
 -- ---- leading zeros
 

@@ -4,13 +4,14 @@
 --     hasRoom x o s      x fits at offset o of s
 --     putAt x o s        s with x at offset o, where x fits there; else s as it was
 --     endOf x o s        where x then ends; else the offset itself, nothing being put
---     digitsIn s         a run of up to 17 digits: whether each byte is a digit, and its number; else 0
-use Prim.Native.Nat.{ℕ, _+_}
-use mathlib.Core.List.{List, _++_}
+--     summed v s         the bytes s written after a number v, each less 48 and, below 48, 256 more; of digits it is their number
+--     digitsIn s         a run of up to 17 bytes: whether each is a digit, and what they sum to; 0 for a longer one
+use Prim.Native.Nat.{ℕ, _+_, _*_, _%_}
+use mathlib.Core.List.{List, [], _∷_, _++_}
 use mathlib.Core.Bool.{Bool, cond, _&&_}
 use lib.Dec.{leb}
 use lib.ListN.{length, take, drop}
-use Rattle.text.specs.Text.{isDigit, all, number}
+use Rattle.text.specs.Text.{isDigit, all}
 use Rattle.text.specs.declared.Digits.{Digits}
 
 unfoldable pub splice : ℕ → List ℕ → List ℕ → List ℕ
@@ -29,5 +30,12 @@ endOf x o s = cond (hasRoom x o s) (o + length x) o
 abbrev pub readable : List ℕ → Bool
 readable s = leb (length s) 17 && all isDigit s
 
+abbrev pub lessZero : ℕ → ℕ
+lessZero b = (b + 208) % 256
+
+abbrev pub summed : ℕ → List ℕ → ℕ
+summed v [] = v
+summed v (b ∷ bs) = summed (v * 10 + lessZero b) bs
+
 unfoldable pub digitsIn : List ℕ → Digits
-digitsIn s = record { value = cond (readable s) (number s) 0; ok = readable s }
+digitsIn s = record { value = cond (leb (length s) 17) (summed 0 s) 0; ok = readable s }

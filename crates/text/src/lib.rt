@@ -8,9 +8,9 @@ ghost use lib.Dec.{leb};
 ghost use lib.IntN.{pos};
 ghost use lib.Signed.{ltZ};
 ghost use Rattle.text.specs.Text.{isDigit, digits, decimal, angleText};
-ghost use Rattle.text.specs.Buffer.{putAt, endOf, digitsIn};
+ghost use Rattle.text.specs.Buffer.{putAt, endOf, lessZero, digitsIn};
 
-// A run of digits: whether it is one, and then its number.
+// A run of bytes: whether it is one of digits, and then its number.
 pub struct Digits {
     pub value: u64,
     pub ok: bool,
@@ -23,14 +23,14 @@ fn is_digit(b: u8) -> bool
     (48 <= b) & (b <= 57)
 }
 
-// b − 48, of a digit.
+// b − 48, and 256 more where that is below 0.
 fn digit(b: u8) -> u64
-    ensures { λ r. ⌜ (isDigit b ≡ true → r ≡ b - 48) × (r < 256) ⌝ }
+    ensures { λ r. ⌜ r ≡ lessZero b ⌝ }
 {
     std::num::wrapping_sub_u8(b, 48) as u64
 }
 
-// A run of up to 17 digits, read once.
+// A run of up to 17 bytes, read once.
 pub fn digits_of(s: &[u8]) -> Digits
     ensures { λ r. ⌜ r ≡ digitsIn (now (s .entry)) ⌝ }
 {
@@ -49,13 +49,7 @@ pub fn digits_of(s: &[u8]) -> Digits
         ok = ok & is_digit(b);
         i += 1;
     }
-    if !ok {
-        return Digits {
-            value: 0,
-            ok: false,
-        };
-    }
-    Digits { value, ok: true }
+    Digits { value, ok }
 }
 
 // Whether w bytes fit at an offset of n bytes.

@@ -33,12 +33,8 @@ pub fn nearest(x: u64, d: u64) -> u64
     if d == 0 {
         return 0;
     }
-    let floor = x / d;
     let rest = x % d;
-    if rest < d - rest {
-        return floor;
-    }
-    floor + 1
+    x / d + ((d - rest <= rest) as u64)
 }
 
 // z counted from −limit, unless it is outside −limit to limit.

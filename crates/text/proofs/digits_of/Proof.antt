@@ -1,17 +1,16 @@
--- The test so far, and the one of what is left, are the whole's; where each byte is a digit, so is the value. The value is
--- small, whatever the bytes are. Assumes nothing.
+-- The test so far, and the one of what is left, are the whole's, and so is the sum, which is small, whatever the bytes are. Assumes nothing.
 use mathlib.Core.Path.{_≡_, refl, sym, _∙_}
-use mathlib.Core.Bool.{true, _&&_, and-true}
+use mathlib.Core.Bool.{_&&_, and-true}
 use Prim.Native.Nat.{ℕ, _+_, _-_, _*_, _^_, _≤_, _<_}
 use native.Mathlib.Nat.{pow-succ', pow-le-pow-right}
 use native.Mathlib.Numerals.{add-one}
 use native.Mathlib.Omega.{arith}
 use lib.ListN.{length, drop, drop-of-length-le}
 use borrow.Author.Needs.{needs}
-use borrow.Author.Tests.{le-leb, lt-leb, not-true, not-false}
-use Rattle.text.specs.Text.{number, onward, all, isDigit}
-use Rattle.text.specs.Buffer.{digitsIn}
-use Rattle.text.proofs.Bytes.{onward-next, all-next, all-at}
+use borrow.Author.Tests.{le-leb, lt-leb}
+use Rattle.text.specs.Text.{all, isDigit}
+use Rattle.text.specs.Buffer.{summed, digitsIn}
+use Rattle.text.proofs.Bytes.{summed-next, all-next}
 use Rattle.text.proofs.digits_of.Statement.{statement}
 use Rattle.text.proofs.digits_of.Tie as tie
 
@@ -20,8 +19,7 @@ pow-bound i h = pow-le-pow-right (omega arith) h
 
 abbrev Inv-loop : tie.InvT-loop
 Inv-loop s value₀ ok₀ i₀ value ok i =
-    (i ≤ length s) × (all isDigit s ≡ true → onward value (drop i s) ≡ onward 0 s) × ((ok && all isDigit (drop i s)) ≡ all isDigit s)
-    × (value + 29 ≤ 29 * 10 ^ i)
+    (i ≤ length s) × (summed value (drop i s) ≡ summed 0 s) × ((ok && all isDigit (drop i s)) ≡ all isDigit s) × (value + 29 ≤ 29 * 10 ^ i)
 
 abbrev μ-loop : tie.MeasureT-loop
 μ-loop s value₀ ok₀ i₀ value ok i = length s - i
@@ -31,7 +29,7 @@ unfolding digitsIn
 returns c = rw (lt-leb (length (c .before .before .args .s .now)) 17 (c .if1 .taken))
 
 loop-holds : tie.Need-loop-holds Inv-loop μ-loop
-loop-holds c = (omega arith, λ e. refl, refl, omega arith)
+loop-holds c = (omega arith, refl, refl, omega arith)
 
 shared-slice-read-b : tie.Need-shared-slice-read-b Inv-loop μ-loop
 shared-slice-read-b c = omega arith
@@ -41,7 +39,7 @@ mul-value c = omega (arith, pow-bound (c .before .before .loop .i) (omega arith)
 
 add-value : tie.Need-add-value Inv-loop μ-loop
 add-value c = let g = c .before .before .before .loop in
-    omega (arith, pow-bound (g .i) (omega arith), c .digit .ensures .1)
+    omega (arith, pow-bound (g .i) (omega arith), c .digit .ensures)
 
 add-i : tie.Need-add-i Inv-loop μ-loop
 add-i c = omega arith
@@ -55,29 +53,22 @@ loop-again c = let g = c .before .before .before .before .loop in
     let h : g .i < length s = omega arith in
     let p : 10 ^ (g .i + 1) ≡ 10 * 10 ^ g .i = rw add-one (pow-succ' 10 (g .i)) in (
       omega arith,
-      λ e. rw (c .before .digit .ensures .0 (all-at isDigit s (g .i) e h)) (onward-next (g .value) s (g .i) h ∙ g .inv .1 e),
+      rw (c .before .digit .ensures) (summed-next (g .value) s (g .i) h ∙ g .inv .1),
       rw (c .is-digit .ensures) (all-next isDigit (g .ok) s (g .i) h ∙ g .inv .2),
-      omega (arith, c .before .digit .ensures .1),
+      omega (arith, c .before .digit .ensures),
     )
 
 returns-2 : tie.Need-returns-2 Inv-loop μ-loop
 unfolding digitsIn
-returns-2 c = let s = c .before .before .before .before .before .args .s .now in
-    let g = c .before .before .loop in
-    let tested : g .ok ≡ all isDigit s = sym (and-true (g .ok)) ∙ (rw (drop-of-length-le s {i = g .i} (omega arith)) at (g .inv .2)) in
-    rw (le-leb (length s) 17 (c .before .before .before .if1 .left), ← tested, not-true (g .ok) (c .if2 .taken))
-
-returns-3 : tie.Need-returns-3 Inv-loop μ-loop
-unfolding digitsIn number
-returns-3 c = let s = c .before .before .before .before .before .args .s .now in
-    let g = c .before .before .loop in
+returns-2 c =
+    let s = c .before .before .before .before .args .s .now in
+    let g = c .before .loop in
     let none = drop-of-length-le s {i = g .i} (omega arith) in
     let tested : g .ok ≡ all isDigit s = sym (and-true (g .ok)) ∙ (rw none at (g .inv .2)) in
-    let ok = sym tested ∙ not-false (g .ok) (c .if2 .left) in
-    rw (le-leb (length s) 17 (c .before .before .before .if1 .left), ok, ← g .inv .1 ok, none)
+    rw (le-leb (length s) 17 (c .before .before .if1 .left), ← tested, ← g .inv .1, none)
 
 pub digits-of-spec : {M : Type 1} → statement M
 digits-of-spec =
     tie.close
     (tie.spec Inv-loop μ-loop returns loop-holds shared-slice-read-b mul-value (λ c κs. search needs) add-value (λ c κs. search needs) add-i
-    loop-less loop-again returns-2 returns-3)
+    loop-less loop-again returns-2)
