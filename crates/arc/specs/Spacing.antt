@@ -73,7 +73,7 @@ spacingReport (SpacingAnswer.Refused r) = refusedWith r 2
 abbrev pub spacingTold : SpacingParts → Report
 spacingTold p = record { number = p .number; place = p .at; values = pos (p .a) ∷ pos (p .b) ∷ [] }
 
--- ---- what a spacing is held to, for every unit and scale: proved in proofs/Spaced.antt
+-- ---- what a spacing is held to, for every unit and scale: proved in proofs/Spaced.antt, and `GridsIs` in proofs/Answered.antt
 
 pub record SpacingUnit (u : ℕ) : Type 0 where
   pub least : 1 ≤ u

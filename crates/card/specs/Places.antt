@@ -1,7 +1,7 @@
--- Demand 3's last sentences, of each later card: what it answers is told by the place alone (01, "Origins and the zone grid").
+-- Demand 3 (NoDrift), of each later card by itself: what it answers is told by the place alone (01, "Origins and the zone grid").
 -- Definitions and claims; the proof is proofs/Places.antt.
 --     GivesPixel k lat lon   the card gives a pixel for the position
---     Walks Q, EachLater P   Q of the later cards, P of each later card, with the place and the position of the first card's pixel
+--     AlongList Q, EachLater P   Q of the later cards, P of each later card, with the place and the position of the first card's pixel
 --     OnlyAt k u v r c       the pixel (r, c) has the place, and no other pixel of the card's tiles does
 --     GivesWhere, GivesOnly, RefusesWhere   what the three claims say of one later card
 --     GivesExactly           a pixel is given exactly where the card's chart rectangle has the place
@@ -29,15 +29,15 @@ pub record GivesPixel (k : Card) (lat lon : ℤ) : Type 0 where
 
 -- Q holds of the later cards of any list of accepted cards of one scale and zone, with the place and the position of any pixel in the
 -- first card's chart rectangle
-abbrev pub Walks : (List Card → ℤ → ℤ → ℤ → ℤ → Type 0) → Type 0
-Walks Q =
+abbrev pub AlongList : (List Card → ℤ → ℤ → ℤ → ℤ → Type 0) → Type 0
+AlongList Q =
     (scale zone : ℕ) (first : Card) (rest : List Card) → Every (Accepted scale zone) (first ∷ rest)
     → (r c : ℤ) → inChart first r c ≡ true → (lat lon : ℤ) → positionOf first r c ≡ PositionAnswer.At lat lon
     → Q rest (placeRow first r) (placeColumn first c) lat lon
 
 -- P holds of each later card
 abbrev pub EachLater : (Card → ℤ → ℤ → ℤ → ℤ → Type 0) → Type 0
-EachLater P = Walks (λ rest u v lat lon. Every (λ k. P k u v lat lon) rest)
+EachLater P = AlongList (λ rest u v lat lon. Every (λ k. P k u v lat lon) rest)
 
 -- what is said of a later card k, the place (u, v) and the position (lat, lon)
 abbrev pub GivesWhere : Card → ℤ → ℤ → ℤ → ℤ → Type 0
@@ -66,4 +66,4 @@ abbrev pub RefusesExactly : Type 0
 RefusesExactly = EachLater RefusesWhere
 
 abbrev pub AskedAlike : Type 0
-AskedAlike = Walks (λ rest u v lat lon. visits lat lon rest ≡ map (λ k. visit k lat lon) rest)
+AskedAlike = AlongList (λ rest u v lat lon. visits lat lon rest ≡ map (λ k. visit k lat lon) rest)

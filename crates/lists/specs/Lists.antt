@@ -5,7 +5,7 @@
 --     pairAt ps i            pair i of a list: its first number stands at 2i, its second at 2i + 1
 --     positionReportAt k ps i      the report of pixel i of the list, a pair of row and column
 --     pixelReportAt k qs i     the report of position i of the list, a pair of latitude and longitude
---     askedReport asked k u v      the report of the position of pixel (u, v), or of the pixel at position (u, v)
+--     askedReport asked k x y      the report of the position of pixel (x, y), or of the pixel at position (x, y)
 --     reportAt asked k ps i  the same of pair i of the list
 --     reportValues, reportNumbers  the value parts, and the numbers, of the first n reports
 --     valuesLeft, numbersLeft    what the list to fill and the numbers hold at the end
@@ -42,8 +42,8 @@ abbrev pub pixelReportAt : Card → List ℤ → ℕ → Report
 pixelReportAt k qs i = pixelReport (pixelOf k (pairAt qs i .first) (pairAt qs i .second))
 
 abbrev pub askedReport : Asked → Card → ℤ → ℤ → Report
-askedReport Asked.Positions k u v = positionReport (positionOf k u v)
-askedReport Asked.Pixels k u v = pixelReport (pixelOf k u v)
+askedReport Asked.Positions k x y = positionReport (positionOf k x y)
+askedReport Asked.Pixels k x y = pixelReport (pixelOf k x y)
 
 abbrev pub reportAt : Asked → Card → List ℤ → ℕ → Report
 reportAt asked k ps i = askedReport asked k (pairAt ps i .first) (pairAt ps i .second)

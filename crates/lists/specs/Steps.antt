@@ -29,7 +29,7 @@ startOf rest d off = cond off (d - 1 - rest) rest
 abbrev pub axisAt : ℕ → ℕ → Bool → Axis
 axisAt first d off = record { base = first / d; rate = scaleUp 506250 d; start = scaleUp (startOf (first % d) d off) d }
 
--- the nearest's numerator at the pixel, less its 512: 506,250 × 128n + u, counted from the South Pole, and the like of m
+-- the nearest's numerator at the pixel, its factor 512 taken out: 506,250 × 128n + u, counted from the South Pole, and the like of m
 abbrev pub axisOf : ℕ → ℕ → Bool → Axis
 axisOf x pixel off = axisAt (506250 * pixel + x / 512) (2 * (x / 512)) off
 

@@ -54,6 +54,10 @@ alignIn zone (SpacingAnswer.Refused r) lat lon = OriginAnswer.Refused r
 abbrev pub alignOf : ℕ → ℕ → ℤ → ℤ → OriginAnswer
 alignOf s zone lat lon = alignIn zone (spacingOf s zone) lat lon
 
+-- accepted: −B/512 ≤ n ≤ B/512 and −A/256 ≤ m ≤ A/256
+abbrev pub onGrid : ℕ → ℕ → ℤ → ℤ → Bool
+onGrid a b n m = not (outside (b / 512) n) && not (outside (a / 256) m)
+
 -- ---- the paper's number, place and values, n, m and the two stored angles: of an answer, and as `into_parts` tells them
 
 abbrev pub originReport : OriginAnswer → Report
@@ -74,10 +78,6 @@ pub record Aligned (a b : ℕ) (lat lon : ℤ) (o : Origin) : Type 0 where
 
 abbrev pub AlignedIs : Type 0
 AlignedIs = (a b : ℕ) (lat lon : ℤ) → Aligned a b lat lon (originOf a b lat lon)
-
--- accepted: −B/512 ≤ n ≤ B/512 and −A/256 ≤ m ≤ A/256
-abbrev pub onGrid : ℕ → ℕ → ℤ → ℤ → Bool
-onGrid a b n m = not (outside (b / 512) n) && not (outside (a / 256) m)
 
 -- alignment never leaves the range
 abbrev pub AlignedOnGrid : Type 0

@@ -15,7 +15,7 @@ use Rattle.text.specs.Buffer.{digitsIn}
 use Rattle.text.specs.declared.Digits.{Digits}
 use Rattle.text.proofs.Numbers.{number-below, digits-read}
 use Rattle.printing.specs.Lines.{upTo, beforeSpace, afterSpace, isNumber, TwoNumbers, numbersOf}
-use Rattle.printing.specs.Steps.{NumberOf, numbersAnswer}
+use Rattle.printing.specs.Steps.{ReadNumber, numbersAnswer}
 use Rattle.printing.specs.declared.parse.Numbers.{Numbers}
 use Rattle.printing.proofs.Scan.{upTo-take, space-drop, is-number}
 
@@ -52,7 +52,7 @@ module _ (s : List ℕ) (k : ℕ) (e : k ≡ 0 + length (upTo 32 s)) where
 
 -- a part as it was read
 pub number-of : (s : List ℕ) {d : Digits} → d ≡ digitsIn s
-    → NumberOf s (record { value = d .value; ok = leb 1 (length s) && leb (length s) 9 && d .ok })
+    → ReadNumber s (record { value = d .value; ok = leb 1 (length s) && leb (length s) 9 && d .ok })
 number-of s {d} e =
     record {
       tested = go (leb (length s) 9) refl;

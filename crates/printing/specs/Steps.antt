@@ -1,5 +1,5 @@
 -- What only the code needs: what its functions answer, as its declared types have it (01, "The printing program"). Definitions only.
---     NumberOf s r           a part of a line as it was read: whether it is a number, and which
+--     ReadNumber s r           a part of a line as it was read: whether it is a number, and which
 --     numbersAnswer o        the two numbers of a line
 --     openingFor s out       what is printed first, into a buffer of 64 bytes or more; else nothing
 --     openingAnswer o        the same as `opening` answers it
@@ -28,7 +28,7 @@ use Rattle.printing.specs.declared.parse.Numbers.{Numbers}
 use Rattle.printing.specs.declared.OpeningAnswer.{OpeningAnswer}
 use Rattle.printing.specs.declared.LineAnswer.{LineAnswer}
 
-pub record NumberOf (s : List ℕ) (r : Digits) : Type 0 where
+pub record ReadNumber (s : List ℕ) (r : Digits) : Type 0 where
   pub tested : r .ok ≡ isNumber s
   pub read : isNumber s ≡ true → r .value ≡ number s
 

@@ -4,7 +4,7 @@ ghost use mathlib.Core.Path.{_≡_};
 ghost use Prim.Native.Nat.{_+_, _≤_};
 ghost use lib.ListN.{length, drop};
 ghost use Rattle.printing.specs.Lines.{upTo, numbersOf};
-ghost use Rattle.printing.specs.Steps.{NumberOf, numbersAnswer};
+ghost use Rattle.printing.specs.Steps.{ReadNumber, numbersAnswer};
 
 // What a line holds.
 pub enum Numbers {
@@ -29,7 +29,7 @@ pub fn until(s: &[u8], at: usize, e: u8) -> usize
 
 // A number of 1 to 9 digits.
 fn number_of(s: &[u8]) -> Digits
-    ensures { λ r. ⌜ NumberOf (now (s .entry)) r ⌝ }
+    ensures { λ r. ⌜ ReadNumber (now (s .entry)) r ⌝ }
 {
     let d = text::digits_of(s);
     Digits {

@@ -1,7 +1,7 @@
 -- The zones of a rectangle, south to north (01, "Units and the zone table"). Definitions, and what they are held to.
---     coversSome b s n zone    the zone covers some latitude from s to n, both edges belonging to it
---     rectangleZones b s n     every such zone, in ascending zone number
---     rectangleOf S s n        what `rectangle` answers: refusals 1, 4, 4, 16
+--     coversSome b south north zone    the zone covers some latitude from south to north, both edges belonging to it
+--     rectangleZones b south north     every such zone, in ascending zone number
+--     rectangleOf S south north        what `rectangle` answers: refusals 1, 4, 4, 16
 use mathlib.Core.Path.{_≡_}
 use Prim.Native.Nat.{ℕ, _+_}
 use mathlib.Core.Bool.{Bool, true, cond}

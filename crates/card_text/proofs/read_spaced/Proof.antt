@@ -31,12 +31,15 @@ past c e = rw (not-polar (c .before .before), eq-eqb (length (start c .args .byt
 
 returns : tie.Need-returns
 unfolding readIn
-returns c = rw (sym (c .before .before .before .is-polar .ensures) ∙ c .before .before .if1 .taken) (c .refused-with .ensures ∙ ap refusedCard (c .before .refused .ensures))
+returns c =
+    rw (sym (c .before .before .before .is-polar .ensures) ∙ c .before .before .if1 .taken)
+    (c .refused-with .ensures ∙ ap refusedCard (c .before .refused .ensures))
 
 returns-2 : tie.Need-returns-2
 unfolding readIn
 returns-2 c =
-    rw (not-polar (c .before .before .before), ne-eqb (length (c .before .before .before .before .before .before .args .bytes .now)) 98 (c .before .before .if2 .taken))
+    let s = c .before .before .before .before .before .before in
+    rw (not-polar (c .before .before .before), ne-eqb (length (s .args .bytes .now)) 98 (c .before .before .if2 .taken))
     (c .refused-with2 .ensures ∙ ap refusedCard (c .before .refused2 .ensures))
 
 read-values-requires : tie.Need-read-values-requires

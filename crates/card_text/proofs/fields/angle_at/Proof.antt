@@ -17,7 +17,8 @@ shifted-by-requires c κs =
     let h = c .before .before .before .before .before .before .before .before .before .before in
     let t = h .before .before in
     let a = t .before .before .before .before .before in
-    (a .pre .1 .1 .0, omega (arith, a .pre .1 .1 .1 .small, t .before .digits-at .ensures .small, t .digits-at2 .ensures .small, h .digits-at3 .ensures .small))
+    let d = a .pre .1 .1 .1 in
+    (a .pre .1 .1 .0, omega (arith, d .small, t .before .digits-at .ensures .small, t .digits-at2 .ensures .small, h .digits-at3 .ensures .small))
 
 returns : tie.Need-returns
 returns c =

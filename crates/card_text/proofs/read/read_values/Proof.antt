@@ -118,7 +118,8 @@ cast-difference-3 c = omega (arith, columns (c .before), start (northward (c .be
 returns-4 : tie.Need-returns-4
 returns-4 c =
     let x = c .before .before .before in
-    rw (answer x (not-true (x .extents-hold .result) (c .before .before .if2 .taken))) (c .refused-with4 .ensures ∙ ap refusedCard (c .before .refused4 .ensures))
+    rw (answer x (not-true (x .extents-hold .result) (c .before .before .if2 .taken)))
+    (c .refused-with4 .ensures ∙ ap refusedCard (c .before .refused4 .ensures))
 
 card-of-requires : tie.Need-card-of-requires
 card-of-requires c κs =

@@ -62,7 +62,8 @@ cast-east-of c =
 
 east-of-requires : tie.Need-east-of-requires
 east-of-requires c κs =
-    let s = c .before .before .before .before .before .before in (s .pre, cast-below _ (s .args .column) (s .fits .column) (inside (c .before .before) .column))
+    let s = c .before .before .before .before .before .before in
+    (s .pre, cast-below _ (s .args .column) (s .fits .column) (inside (c .before .before) .column))
 
 returns : tie.Need-returns
 unfolding positionOf
