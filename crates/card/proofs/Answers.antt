@@ -4,27 +4,18 @@ use mathlib.Core.Bool.{Bool, true, false, cond}
 use Prim.Native.Nat.{ℕ, _<_, _≤_, _^_}
 use native.Mathlib.Omega.{arith}
 use lib.Dec.{T}
-use lib.IntN.{ℤ, pos, natAbs, _-ℤ_}
-use lib.Signed.{mag, nonNeg}
+use lib.IntN.{ℤ, pos, natAbs}
+use lib.Signed.{nonNeg}
 use mir.Syntax.{w64}
 use mir.Val.{SFits, Fits, toZ, ofZ}
 use mir.ValLaws.{toZ-ofZ}
-use Rattle.whole.proofs.Signed.{Is, is-difference, is-unique}
 use Rattle.whole.proofs.Machine.{casts}
 use Rattle.arc.specs.declared.Refusal.{Refusal}
 use Rattle.arc.specs.declared.Verdict.{Verdict}
 use Rattle.arc.specs.Refusals.{refusal, onVerdict}
 use Rattle.card.specs.declared.Card.{Card}
 use Rattle.card.specs.Grid.{inTiles, inChart, verdictOf}
-use Rattle.card.proofs.Regions.{Within, Inside, tiles-inside}
-
--- a result
-pub result-is : {r k : ℤ} → mag r < 2 ^ 63 → r ≡ k → toZ w64 (ofZ w64 r) ≡ k
-result-is {r} f e = toZ-ofZ w64 r (record { sfits = f }) ∙ e
-
--- a result that is the difference k
-pub told : {r k : ℤ} (n t : ℕ) → mag r < 2 ^ 63 → r ≡ pos n -ℤ pos t → Is k n t → toZ w64 (ofZ w64 r) ≡ k
-told {r} {k} n t f d e = result-is f (d ∙ is-unique (pos n -ℤ pos t) k n t (is-difference n t) e)
+use Rattle.card.proofs.Regions.{Within, PixelInside, tiles-inside}
 
 -- a pixel that is accepted passed both tests
 pub accepted-in : (k : Card) (r c : ℤ) → verdictOf k r c ≡ Verdict.Accepted → (inTiles k r c ≡ true) × (inChart k r c ≡ true)
@@ -52,7 +43,7 @@ module _ (k : Card) (r c : ℤ) (f : SFits w64 r) (g : SFits w64 c) {v : Verdict
   pub judged-answered : {A : Type 0} (F : Refusal → A) (x : A) → v ≡ Verdict.Accepted → x ≡ onVerdict (verdictOf k r c) F x
   judged-answered F x o = ap (λ (w : Verdict). onVerdict w F x) (sym o ∙ plain-verdict)
 
-  pub judged-inside : v ≡ Verdict.Accepted → Inside k r c
+  pub judged-inside : v ≡ Verdict.Accepted → PixelInside k r c
   judged-inside o = tiles-inside k r c (judged-accepted o .0)
 
 -- a test of two numbers, likewise

@@ -1,5 +1,5 @@
 -- What `count_position` answered of a position: the refusal that each question gives, or the position counted in naturals. Assumes nothing.
-use mathlib.Core.Path.{_≡_, refl, sym, ap, ap₂, _∙_, subst}
+use mathlib.Core.Path.{_≡_, refl, sym, ap, ap₂, _∙_}
 use mathlib.Core.Bool.{Bool, true, false, cond}
 use Prim.Native.Nat.{ℕ, _+_}
 use native.Mathlib.Omega.{arith}
@@ -9,7 +9,7 @@ use mir.Val.{SFits, toZ, ofZ}
 use mir.ValLaws.{toZ-ofZ}
 use Rattle.whole.specs.Whole.{outside, raise}
 use Rattle.whole.proofs.Signed.{Is, is-equal, is-unique, is-minus, is-difference, is-raise, raise-high}
-use Rattle.whole.proofs.Counts.{Inside}
+use Rattle.whole.proofs.Counts.{Inside, inside-is}
 use Rattle.arc.specs.declared.Refusal.{Refusal}
 use Rattle.arc.specs.Refusals.{refusal}
 use Rattle.arc.specs.Zones.{half, quarter}
@@ -19,9 +19,6 @@ use Rattle.card.specs.Steps.{rangedOf}
 pub raise-is : (t : ℕ) (z : ℤ) (n : ℕ) → Is z n t → raise t z ≡ n
 raise-is t (pos m) n e = e
 raise-is t (negsuc m) n e = omega arith
-
-inside-is : {k : ℕ} {z : ℤ} {n : ℕ} → Inside k z n → Is z n k
-inside-is {k} {z} {n} i = subst (λ (y : ℤ). Is y n k) (i .same) (is-difference n k)
 
 pub inside-raise : {k : ℕ} {z : ℤ} {n : ℕ} → Inside k z n → raise k z ≡ n
 inside-raise {k} {z} {n} i = raise-is k z n (inside-is i)

@@ -31,12 +31,12 @@ upto low high n (negsuc m) h e = let x : _≡_ {A = ℕ} 0 1 = cc in absurd (ome
 within-test : (low n : ℕ) (z : ℤ) → Within low n z → leZ (pos 0) z && ltZ z (pos n) ≡ true
 within-test low n z w = rw (w .same, le-leb 0 (w .at) (omega arith), lt-ltb (w .at) n (w .below))
 
-pub record Inside (k : Card) (r c : ℤ) : Type 0 where
+pub record PixelInside (k : Card) (r c : ℤ) : Type 0 where
   pub row : Within 0 (128 * k .nfl) r
   pub column : Within 0 (128 * k .nfc) c
 
 module _ (k : Card) (r c : ℤ) where
-  pub tiles-inside : inTiles k r c ≡ true → Inside k r c
+  pub tiles-inside : inTiles k r c ≡ true → PixelInside k r c
   tiles-inside e =
       let t = and-eq-true-iff (leZ (pos 0) r && ltZ r (pos (128 * k .nfl))) (leZ (pos 0) c && ltZ c (pos (128 * k .nfc))) .0 e in
       record { row = below 0 (128 * k .nfl) r (t .0); column = below 0 (128 * k .nfc) c (t .1) }

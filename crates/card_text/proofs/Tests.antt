@@ -1,13 +1,11 @@
 -- The tests of a record to be written, in their order: the counts and the name first, then the origin, then the extents.
 -- Assumes nothing.
-use mathlib.Core.Path.{_≡_, refl, sym, ap, _∙_, subst}
+use mathlib.Core.Path.{_≡_, refl, sym, ap, _∙_}
 use mathlib.Core.Bool.{Bool, true, false, cond}
 use mathlib.Core.List.{List, [], _∷_, _++_}
 use Prim.Native.Nat.{ℕ, _/_}
-use lib.IntN.{ℤ}
 use Rattle.whole.specs.Whole.{outside}
-use Rattle.whole.proofs.Signed.{Is, is-difference}
-use Rattle.whole.proofs.Counts.{Inside}
+use Rattle.whole.proofs.Counts.{Inside, inside-is}
 use Rattle.arc.specs.declared.Refusal.{Refusal}
 use Rattle.arc.specs.declared.Verdict.{Verdict}
 use Rattle.arc.specs.Refusals.{refusal}
@@ -20,10 +18,6 @@ use Rattle.card_text.specs.StepsRead.{extentsAt}
 use Rattle.card_text.specs.StepsWrite.{countTests}
 use Rattle.card_text.proofs.Table.{orElse-assoc}
 use Rattle.card_text.proofs.Tiled.{extents-at}
-
--- z is n − k
-pub inside-is : (k : ℕ) (z : ℤ) (n : ℕ) → Inside k z n → Is z n k
-inside-is k z n i = subst (λ (y : ℤ). Is y n k) (i .same) (is-difference n k)
 
 first-append : (xs ys : List Verdict) → first (xs ++ ys) ≡ orElse (first xs) (first ys)
 first-append [] ys = refl
@@ -64,7 +58,7 @@ module _ (a b : ℕ) (r : Record) where
           p,
           i .test,
           j .test,
-          extents-at a b (r .n) north (r .nul) (r .nus) (r .nll) (r .nls) (r .nfl) (r .nfc) (inside-is (b / 512) (r .n) north i),
+          extents-at a b (r .n) north (r .nul) (r .nus) (r .nll) (r .nls) (r .nfl) (r .nfc) (inside-is i),
           ← e,
         )
         (last ok)

@@ -35,18 +35,18 @@ listsVerdict p o n = cond (listsFit p o n) Verdict.Accepted (Verdict.Refused (re
 abbrev pub pairAt : List ℤ → ℕ → Pair
 pairAt ps i = record { first = getD ps (2 * i) (pos 0); second = getD ps (2 * i + 1) (pos 0) }
 
-abbrev pub positionReportAt : Card → List ℤ → ℕ → Report
-positionReportAt k ps i = positionReport (positionOf k (pairAt ps i .first) (pairAt ps i .second))
-
-abbrev pub pixelReportAt : Card → List ℤ → ℕ → Report
-pixelReportAt k qs i = pixelReport (pixelOf k (pairAt qs i .first) (pairAt qs i .second))
-
 abbrev pub askedReport : Asked → Card → ℤ → ℤ → Report
 askedReport Asked.Positions k x y = positionReport (positionOf k x y)
 askedReport Asked.Pixels k x y = pixelReport (pixelOf k x y)
 
 abbrev pub reportAt : Asked → Card → List ℤ → ℕ → Report
 reportAt asked k ps i = askedReport asked k (pairAt ps i .first) (pairAt ps i .second)
+
+abbrev pub positionReportAt : Card → List ℤ → ℕ → Report
+positionReportAt k ps i = reportAt Asked.Positions k ps i
+
+abbrev pub pixelReportAt : Card → List ℤ → ℕ → Report
+pixelReportAt k qs i = reportAt Asked.Pixels k qs i
 
 abbrev pub reportValues : ℕ → (ℕ → Report) → List ℤ
 reportValues n f = each n (λ i. f i .values)

@@ -16,7 +16,7 @@ use Rattle.arc.specs.declared.Verdict.{Verdict}
 use Rattle.arc.specs.Refusals.{refusal, onVerdict}
 use Rattle.card.specs.declared.Card.{Card}
 use Rattle.card.specs.Grid.{inTiles, inChart, verdictOf}
-use Rattle.card.proofs.Regions.{Inside, tiles-inside}
+use Rattle.card.proofs.Regions.{PixelInside, tiles-inside}
 use Rattle.tiles.specs.declared.NumberAnswer.{NumberAnswer}
 use Rattle.tiles.specs.declared.Said.{Said}
 use Rattle.tiles.specs.Index.{tiles, indexWrong, saidOf, tileOf}
@@ -24,7 +24,7 @@ use Rattle.tiles.specs.LookUp.{tileBytes, storeWrong, numberSaid, foundO
 use Rattle.tiles.proofs.Entry.{neither, tile-inside, stored-most}
 
 -- a pixel of the tiles
-tile-of : (k : Card) (r c : ℤ) → Inside k r c → tileOf k (natAbs r) (natAbs c) < tiles k
+tile-of : (k : Card) (r c : ℤ) → PixelInside k r c → tileOf k (natAbs r) (natAbs c) < tiles k
 tile-of k r c w =
     rw (w .row .same, w .column .same)
     (tile-inside (w .row .at / 128) (w .column .at / 128) (k .nfl) (k .nfc) (omega (arith, w .row .below))

@@ -1,6 +1,6 @@
 -- What an answer of `count_from` tells of the number that it was asked: the range test's outcome, and the number as a
 -- difference. Assumes nothing.
-use mathlib.Core.Path.{_≡_, refl, sym, ap, ap₂, _∙_}
+use mathlib.Core.Path.{_≡_, refl, sym, ap, ap₂, _∙_, subst}
 use mathlib.Core.Bool.{Bool, true, false, cond}
 use Prim.Native.Nat.{ℕ, _+_, _*_, _≤_, _<_}
 use native.Mathlib.Omega.{arith}
@@ -13,13 +13,16 @@ use mir.Val.{SFits, toZ, ofZ}
 use mir.ValLaws.{toZ-ofZ}
 use Rattle.whole.specs.declared.Counted.{Counted}
 use Rattle.whole.specs.Whole.{outside, raise, countedBy}
-use Rattle.whole.proofs.Signed.{is-unique, is-difference, is-raise, raise-high, is-ltZ}
+use Rattle.whole.proofs.Signed.{Is, is-unique, is-difference, is-raise, raise-high, is-ltZ}
 
 -- z is n − k, at most k from 0
 pub record Inside (k : ℕ) (z : ℤ) (n : ℕ) : Type 0 where
   pub test : outside k z ≡ false
   pub same : pos n -ℤ pos k ≡ z
   pub high : n ≤ 2 * k
+
+pub inside-is : {k : ℕ} {z : ℤ} {n : ℕ} → Inside k z n → Is z n k
+inside-is {k} {z} {n} i = subst (λ (y : ℤ). Is y n k) (i .same) (is-difference n k)
 
 -- r is the answer for z, as the machine reads it
 module _ (k : ℕ) (z : ℤ) (f : SFits w64 z) {r : Counted} (e : r ≡ countedBy k (toZ w64 (ofZ w64 z))) where

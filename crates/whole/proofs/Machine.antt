@@ -8,7 +8,7 @@ use native.Mathlib.Omega.{arith}
 use borrow.Author.Tests.{ltb-true}
 use lib.Dec.{T, ltb, lit<}
 use lib.IntN.{ℤ, pos, negsuc, negℤ, natAbs, _+ℤ_, _-ℤ_}
-use lib.Signed.{ltZ, nonNeg}
+use lib.Signed.{mag, ltZ, nonNeg}
 use mir.Syntax.{w64}
 use mir.Val.{SFits, Fits, toZ, ofZ}
 use mir.ValLaws.{toZ-pos, toZ-ofZ}
@@ -25,6 +25,14 @@ is-fits (negsuc n) a b p h k = record { sfits = omega arith }
 
 pub held : (x : ℤ) (a b : ℕ) → Is x a b → a < 2 ^ 63 → b ≤ 2 ^ 63 → toZ w64 (ofZ w64 x) ≡ x
 held x a b p h k = toZ-ofZ w64 x (is-fits x a b p h k)
+
+-- a result, as the machine reads it back
+pub result-is : {r k : ℤ} → mag r < 2 ^ 63 → r ≡ k → toZ w64 (ofZ w64 r) ≡ k
+result-is {r} f e = toZ-ofZ w64 r (record { sfits = f }) ∙ e
+
+-- a result that is the difference k
+pub told : {r k : ℤ} (n t : ℕ) → mag r < 2 ^ 63 → r ≡ pos n -ℤ pos t → Is k n t → toZ w64 (ofZ w64 r) ≡ k
+told {r} {k} n t f d e = result-is f (d ∙ is-unique (pos n -ℤ pos t) k n t (is-difference n t) e)
 
 -- a difference that is not negative
 pub is-pos : (x : ℤ) (a b : ℕ) → Is x a b → b ≤ a → x ≡ pos (a - b)

@@ -1,15 +1,11 @@
 -- Each of the four numbers is a difference that the laws of its axis name, of naturals that fit. Assumes nothing.
 use mathlib.Core.Path.{_≡_, ap, _∙_}
-use Prim.Native.Nat.{ℕ, _+_, _*_, _/_, _≤_, _<_, _^_}
+use Prim.Native.Nat.{ℕ, _+_, _*_, _/_, _≤_}
 use native.Mathlib.Nat.{mul-le-mul}
 use native.Mathlib.Omega.{arith}
 use lib.IntN.{ℤ, pos, _-ℤ_}
-use lib.Signed.{mag}
-use mir.Syntax.{w64}
-use mir.Val.{toZ, ofZ}
-use mir.ValLaws.{toZ-ofZ}
-use Rattle.whole.proofs.Signed.{Is, is-difference, is-unique}
-use Rattle.whole.proofs.Machine.{fits-mul}
+use Rattle.whole.proofs.Signed.{is-difference}
+use Rattle.whole.proofs.Machine.{fits-mul, told}
 use Rattle.arc.specs.Zones.{circle, half, quarter}
 use Rattle.arc.specs.Spacing.{Grid}
 use Rattle.origin.specs.declared.Origin.{Origin}
@@ -35,10 +31,6 @@ columns-high s = column-high (columns s) (s .args .east) (s .pre .1 .1 .1)
 -- fewer tiles than the circle has hundredths
 few : {x n : ℕ} → Grid x → n ≤ 2 * (x / 256) → n ≤ circle
 few g h = omega (arith, g .most)
-
--- a result that is the difference k, as the machine reads it back
-told : {r k : ℤ} (n t : ℕ) → mag r < 2 ^ 63 → r ≡ pos n -ℤ pos t → Is k n t → toZ w64 (ofZ w64 r) ≡ k
-told {r} {k} n t f d e = toZ-ofZ w64 r (record { sfits = f }) ∙ d ∙ is-unique (pos n -ℤ pos t) k n t (is-difference n t) e
 
 same : {n n′ m m′ p p′ l l′ : ℤ} → n ≡ n′ → m ≡ m′ → p ≡ p′ → l ≡ l′
     → _≡_ {A = Origin} (record { n = n; m = m; pso = p; lso = l }) (record { n = n′; m = m′; pso = p′; lso = l′ })

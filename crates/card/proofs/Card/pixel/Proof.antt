@@ -1,8 +1,8 @@
 -- A position out of range is refused; else the row and the column are those of its axes, and the tests come last. Assumes nothing.
 use mathlib.Core.Path.{ap, ap₂, _∙_}
+use Rattle.whole.proofs.Machine.{result-is}
 use Rattle.card.specs.declared.PixelAnswer.{PixelAnswer}
 use Rattle.card.specs.Grid.{rowOf, columnOf, pixelAt, pixelOf}
-use Rattle.card.proofs.Answers.{result-is}
 use Rattle.card.proofs.Ranges.{Counts, ranged-at, ranged-refused}
 use borrow.Author.Needs.{needs}
 use Rattle.card.proofs.Card.pixel.Statement.{statement}

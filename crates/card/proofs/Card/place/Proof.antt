@@ -3,11 +3,12 @@ use mathlib.Core.Path.{_≡_, ap, ap₂, _∙_}
 use mathlib.Core.Bool.{true}
 use native.Mathlib.Omega.{arith}
 use borrow.Author.Tests.{not-true, not-false}
+use Rattle.whole.proofs.Machine.{result-is}
 use Rattle.card.specs.declared.PlaceAnswer.{PlaceAnswer}
 use Rattle.card.specs.Grid.{inTiles, placeRow, placeColumn, placeOf}
 use Rattle.card.proofs.Laid.{known-laid}
-use Rattle.card.proofs.Regions.{Inside, tiles-inside}
-use Rattle.card.proofs.Answers.{result-is, tested, cast-fits, cast-below, cast-same}
+use Rattle.card.proofs.Regions.{PixelInside, tiles-inside}
+use Rattle.card.proofs.Answers.{tested, cast-fits, cast-below, cast-same}
 use borrow.Author.Needs.{needs}
 use Rattle.card.proofs.Card.place.Statement.{statement}
 use Rattle.card.proofs.Card.place.Tie as tie
@@ -18,7 +19,7 @@ tiles c =
     tested (inTiles (s .args .self)) (s .args .row) (s .args .column) (s .fits .row) (s .fits .column)
     (c .before .in-tiles .ensures) (not-false _ (c .if1 .left))
 
-inside : (c : tie.Else1) → Inside (c .before .before .args .self) (c .before .before .args .row) (c .before .before .args .column)
+inside : (c : tie.Else1) → PixelInside (c .before .before .args .self) (c .before .before .args .row) (c .before .before .args .column)
 inside c = tiles-inside _ _ _ (tiles c)
 
 returns : tie.Need-returns

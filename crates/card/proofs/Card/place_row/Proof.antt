@@ -2,11 +2,11 @@
 use Prim.Native.Nat.{_-_, _*_, _/_}
 use native.Mathlib.Omega.{arith}
 use lib.IntN.{pos}
+use Rattle.whole.proofs.Machine.{told}
 use Rattle.whole.proofs.Signed.{is-same}
 use Rattle.card.specs.Grid.{placeRow}
 use Rattle.card.proofs.Laid.{known-laid}
 use Rattle.card.proofs.Axes.{row-is}
-use Rattle.card.proofs.Answers.{told}
 use borrow.Author.Needs.{needs}
 use Rattle.card.proofs.Card.place_row.Statement.{statement}
 use Rattle.card.proofs.Card.place_row.Tie as tie

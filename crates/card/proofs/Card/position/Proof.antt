@@ -1,18 +1,19 @@
 -- The verdict decides as `positionOf` does; an accepted pixel is one of naturals, and its angles are those of its axes. Assumes nothing.
 use mathlib.Core.Path.{ap, ap₂, _∙_}
 use native.Mathlib.Omega.{arith}
+use Rattle.whole.proofs.Machine.{result-is}
 use Rattle.card.specs.declared.PositionAnswer.{PositionAnswer}
 use Rattle.card.specs.Grid.{latitudeOf, longitudeOf, positionOf}
 use Rattle.card.proofs.Laid.{known-laid}
-use Rattle.card.proofs.Regions.{Inside}
-use Rattle.card.proofs.Answers.{result-is, judged-refused, judged-answered, judged-inside, cast-fits, cast-below, cast-same}
+use Rattle.card.proofs.Regions.{PixelInside}
+use Rattle.card.proofs.Answers.{judged-refused, judged-answered, judged-inside, cast-fits, cast-below, cast-same}
 use borrow.Author.Needs.{needs}
 use Rattle.card.proofs.Card.position.Statement.{statement}
 use Rattle.card.proofs.Card.position.Tie as tie
 
 -- what the verdict tells where it accepts
 inside : (c : tie.After-enum-told)
-    → Inside (c .before .before .before .args .self) (c .before .before .before .args .row) (c .before .before .before .args .column)
+    → PixelInside (c .before .before .before .args .self) (c .before .before .before .args .row) (c .before .before .before .args .column)
 inside c =
     let s = c .before .before .before in
     judged-inside (s .args .self) _ _ (s .fits .row) (s .fits .column) (c .before .before .judge-pixel .ensures) (c .enum-told .given .1)

@@ -5,11 +5,10 @@ use native.Mathlib.Omega.{arith}
 use lib.IntN.{pos, _-ℤ_}
 use Rattle.whole.specs.Whole.{near}
 use Rattle.whole.proofs.Signed.{is-difference}
-use Rattle.whole.proofs.Machine.{fits-mul}
+use Rattle.whole.proofs.Machine.{fits-mul, told}
 use Rattle.arc.specs.Zones.{circle, quarter}
 use Rattle.card.proofs.Laid.{known-laid}
 use Rattle.card.proofs.Axes.{row-at, row-fits, row-high}
-use Rattle.card.proofs.Answers.{told}
 use borrow.Author.Needs.{needs}
 use Rattle.card.proofs.Card.row_at.Statement.{statement}
 use Rattle.card.proofs.Card.row_at.Tie as tie

@@ -5,11 +5,11 @@ use lib.IntN.{ℤ, pos, _-ℤ_}
 use lib.Ieee.{Float, ofInt, binary64}
 use mir.Syntax.{w64}
 use mir.Val.{toZ, ofZ}
+use Rattle.whole.proofs.Machine.{result-is}
 use Rattle.whole.proofs.Signed.{is-difference, is-size}
 use Rattle.card.specs.declared.Offset.{Offset}
 use Rattle.card.specs.Grid.{intoRange}
 use Rattle.card.specs.Offset.{difference}
-use Rattle.card.proofs.Answers.{result-is}
 use Rattle.card.proofs.Doubles.{in-float, short-size}
 use borrow.Author.Needs.{needs}
 use Rattle.card.proofs.centre.offset_at.Statement.{statement}

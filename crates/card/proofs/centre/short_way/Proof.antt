@@ -1,9 +1,9 @@
 -- A circle and a half more keeps the difference from being negative, and the circle goes again in the modulo. Assumes nothing.
 use Prim.Native.Nat.{_+_, _-_, _%_}
 use lib.IntN.{pos, _-ℤ_}
+use Rattle.whole.proofs.Machine.{told}
 use Rattle.whole.proofs.Signed.{is-difference}
 use Rattle.arc.specs.Zones.{circle, half}
-use Rattle.card.proofs.Answers.{told}
 use Rattle.card.proofs.Doubles.{short-is}
 use borrow.Author.Needs.{needs}
 use Rattle.card.proofs.centre.short_way.Statement.{statement}

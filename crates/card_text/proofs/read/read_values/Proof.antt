@@ -7,10 +7,10 @@ use borrow.Author.Tests.{not-true, not-false}
 use lib.Dec.{eqb}
 use lib.ListN.{getD}
 use lib.IntN.{ℤ}
+use Rattle.whole.proofs.Machine.{result-is}
 use Rattle.whole.specs.declared.Counted.{Counted}
 use Rattle.arc.specs.Refusals.{refusal}
 use Rattle.card.specs.declared.Reading.{Reading}
-use Rattle.card.proofs.Answers.{result-is}
 use Rattle.card.specs.Read.{acceptedCard, refusedCard, withOrigin, withValues}
 use Rattle.card_text.specs.StepsRead.{foundAt, tileAt, recordIn, cardFrom}
 use Rattle.card_text.proofs.Values.{pso-kept, lso-kept, north-high, east-high, values-are, extents-are}

@@ -3,10 +3,10 @@ use mathlib.Core.Path.{_≡_, ap, _∙_}
 use Prim.Native.Nat.{ℕ, _*_, _≤_}
 use native.Mathlib.Omega.{arith}
 use lib.IntN.{pos, _-ℤ_}
+use Rattle.whole.proofs.Machine.{result-is}
 use Rattle.whole.specs.Whole.{near}
 use Rattle.whole.proofs.Near.{near-le}
 use Rattle.origin.proofs.Axis.{tileAngle, from-near}
-use Rattle.card.proofs.Answers.{result-is}
 use borrow.Author.Needs.{needs}
 use Rattle.card_text.proofs.stored.angle_at.Statement.{statement}
 use Rattle.card_text.proofs.stored.angle_at.Tie as tie

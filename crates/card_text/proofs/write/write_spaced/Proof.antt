@@ -9,17 +9,17 @@ use borrow.Author.Tests.{lt-leb, le-leb, not-true, not-false}
 use lib.ListN.{length}
 use mir.Syntax.{w64}
 use mir.Val.{SFits}
-use Rattle.whole.proofs.Counts.{Inside, counted-outside, counted-from}
+use Rattle.whole.proofs.Machine.{told}
+use Rattle.whole.proofs.Counts.{Inside, inside-is, counted-outside, counted-from}
 use Rattle.origin.proofs.Axis.{latitudes, longitudes, stored-is}
 use Rattle.arc.specs.declared.Refusal.{Refusal}
 use Rattle.arc.specs.declared.SpacingAnswer.{SpacingAnswer}
 use Rattle.arc.specs.declared.Verdict.{Verdict}
 use Rattle.arc.specs.Refusals.{refusal}
 use Rattle.arc.specs.Zones.{isPolar}
-use Rattle.card.proofs.Answers.{told}
 use Rattle.card.specs.Write.{first, recordTests, writeIn}
 use Rattle.card_text.specs.StepsWrite.{countTests, outIn}
-use Rattle.card_text.proofs.Tests.{inside-is, counts-refused, rows-refused, columns-refused, extents-judged}
+use Rattle.card_text.proofs.Tests.{counts-refused, rows-refused, columns-refused, extents-judged}
 use borrow.Author.Needs.{needs}
 use Rattle.card_text.proofs.write.write_spaced.Statement.{statement}
 use Rattle.card_text.proofs.write.write_spaced.Tie as tie
@@ -135,8 +135,8 @@ put-card-requires : tie.Need-put-card-requires
 put-card-requires c κs =
     let x = c .before .before .before .before in
     let s = start (counted x) in
-    let north = inside-is _ _ _ (rows (x .before .before .before .before .before .before)) in
-    let east = inside-is _ _ _ (columns (x .before)) in (
+    let north = inside-is (rows (x .before .before .before .before .before .before)) in
+    let east = inside-is (columns (x .before)) in (
       counted x .before .before .before .if2 .left,
       (
         told _ 32400000 (c .before .before .angle-at .ok) (c .before .before .angle-at .ensures)

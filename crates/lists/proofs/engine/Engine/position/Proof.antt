@@ -6,13 +6,14 @@ use native.Mathlib.Omega.{arith}
 use lib.IntN.{pos, natAbs, _-ℤ_}
 use mir.Syntax.{w64}
 use mir.Val.{toZ, ofZ}
+use Rattle.whole.proofs.Machine.{told}
 use Rattle.whole.specs.Whole.{near}
 use Rattle.arc.specs.Zones.{circle, half, quarter}
 use Rattle.card.specs.declared.PositionAnswer.{PositionAnswer}
 use Rattle.card.specs.Grid.{inTiles, inChart, latitudeOf, longitudeOf, positionOf}
-use Rattle.card.proofs.Regions.{Inside, tiles-inside}
+use Rattle.card.proofs.Regions.{PixelInside, tiles-inside}
 use Rattle.card.proofs.Axes.{north-high, down-high, latitude-is, latitude-high, longitude-is}
-use Rattle.card.proofs.Answers.{told, judged-refused, judged-accepted, cast-fits, cast-below, cast-same}
+use Rattle.card.proofs.Answers.{judged-refused, judged-accepted, cast-fits, cast-below, cast-same}
 use Rattle.lists.proofs.Engines.{laid}
 use borrow.Author.Needs.{needs}
 use Rattle.lists.proofs.engine.Engine.position.Statement.{statement}
@@ -30,7 +31,7 @@ tests c =
     (c .before .before .judge-pixel .ensures) (c .enum-told .given .1)
 
 inside : (c : tie.After-enum-told)
-    → Inside (c .before .before .before .before .args .self .card) (c .before .before .before .before .args .row)
+    → PixelInside (c .before .before .before .before .args .self .card) (c .before .before .before .before .args .row)
     (c .before .before .before .before .args .column)
 inside c = tiles-inside _ _ _ (tests c .0)
 

@@ -3,11 +3,11 @@ use mathlib.Core.Path.{ap, _∙_}
 use Prim.Native.Nat.{ℕ, _+_, _-_, _*_, _/_}
 use native.Mathlib.Omega.{arith}
 use lib.IntN.{pos, _-ℤ_}
+use Rattle.whole.proofs.Machine.{told}
 use Rattle.whole.specs.Whole.{near}
 use Rattle.whole.proofs.Signed.{is-difference}
 use Rattle.arc.specs.Zones.{circle, quarter}
 use Rattle.card.proofs.Axes.{row-at, row-high}
-use Rattle.card.proofs.Answers.{told}
 use Rattle.lists.proofs.Engines.{laid, row-product, row-count, top-low}
 use borrow.Author.Needs.{needs}
 use Rattle.lists.proofs.engine.Engine.row_at.Statement.{statement}
