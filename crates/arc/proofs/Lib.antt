@@ -1,3 +1,4 @@
 pub mod Spaced
 pub mod Table
+pub mod AsPrinted
 pub mod Answered

@@ -8,8 +8,8 @@ use mathlib.Core.Option.{some}
 use Prim.Native.Nat.{ℕ, suc, _+_, _≤_, _<_}
 use native.Mathlib.Nat.{zero-add}
 use native.Mathlib.Omega.{arith}
-use borrow.Author.Tests.{ltb-true, ne-eqb}
-use lib.Dec.{ltb, eqb}
+use borrow.Author.Tests.{leb-true, ltb-true, ltb-false, ne-eqb}
+use lib.Dec.{leb, ltb, eqb}
 use lib.ListN.{length, getD, List·getD-eq-default}
 use Rattle.whole.specs.Lists.{upFrom}
 use Rattle.whole.proofs.Lists.{agree, upFrom-at}
@@ -64,3 +64,18 @@ neither n s zone f = rw (ne-eqb zone n (λ e. f (inl e)), ne-eqb zone s (λ e. f
 -- no row past the last
 pub past-last : (i : ℕ) → 9 ≤ i → rowAt i ≡ noRow
 past-last i h = List·getD-eq-default table noRow h
+
+-- a column's most, which no row has to pass
+most : (f : Row → ℕ) (m : ℕ) → f noRow ≤ m → map (λ (r : Row). leb (f r) m) table ≡ map (λ (n : ℕ). true) (upFrom 0 9) → (i : ℕ) → f (rowAt i) ≤ m
+most f m h e i = go (ltb i 9) refl
+  where
+    go : (t : Bool) → ltb i 9 ≡ t → f (rowAt i) ≤ m
+    go true k = leb-true (f (rowAt i)) m (column i (ltb-true i 9 k) (λ (r : Row). leb (f r) m) (λ (n : ℕ). true) 0 e)
+    go false k = omega (arith, ap f (past-last i (ltb-false i 9 k)))
+
+-- a limit is 90° at most
+pub from-most : (i : ℕ) → rowAt i .equatorward ≤ 90
+from-most = most (λ (r : Row). r .equatorward) 90 (omega arith) refl
+
+pub to-most : (i : ℕ) → rowAt i .poleward ≤ 90
+to-most = most (λ (r : Row). r .poleward) 90 (omega arith) refl

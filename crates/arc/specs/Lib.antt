@@ -1,3 +1,5 @@
 pub mod Refusals
 pub mod Zones
+pub mod AsPrinted
 pub mod Spacing
+pub mod Steps

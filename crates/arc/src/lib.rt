@@ -3,13 +3,11 @@ ghost use mathlib.Core.Path.{_≡_};
 ghost use Rattle.arc.specs.Refusals.{refusal};
 ghost use Rattle.arc.specs.Spacing.{rowsOf, spacingOf};
 
-mod limits;
 mod parts;
 mod units;
 mod zone;
+mod zone_table;
 
-pub use limits::equatorward;
-pub use limits::poleward;
 pub use parts::ConstantParts;
 pub use parts::SpacingParts;
 pub use units::Circle;
@@ -28,6 +26,10 @@ pub use zone::Zone6;
 pub use zone::Zone7;
 pub use zone::Zone8;
 pub use zone::Zone9;
+pub use zone_table::equatorward;
+pub use zone_table::northern;
+pub use zone_table::poleward;
+pub use zone_table::southern;
 
 // A refusal: its number, and its place (01, "Numbers given in refusal").
 #[repr(C)]

@@ -2,8 +2,14 @@
 use crate::Circle;
 use crate::ConstantAnswer;
 use crate::refused;
+use crate::zone_table::FROM;
+use crate::zone_table::TABLE;
+use crate::zone_table::TO;
+use crate::zone_table::UNIT;
 ghost use mathlib.Core.Path.{_≡_};
+ghost use Rattle.arc.specs.Zones.{rowAt};
 ghost use Rattle.arc.specs.Spacing.{spacingAt, rowUnit, columnsOf, SpacingUnit};
+ghost use Rattle.arc.specs.Steps.{limitsOf};
 
 // B, the same in every zone (001, Table 3-3).
 pub struct Meridian;
@@ -22,11 +28,11 @@ impl Meridian {
 pub struct Zone1;
 
 impl Zone1 {
-    pub const EQUATORWARD: u64 = 0 * Circle::DEGREE;
+    pub const EQUATORWARD: u64 = TABLE[0][FROM] * Circle::DEGREE;
 
-    pub const POLEWARD: u64 = 32 * Circle::DEGREE;
+    pub const POLEWARD: u64 = TABLE[0][TO] * Circle::DEGREE;
 
-    pub const UNIT: u64 = 722;
+    pub const UNIT: u64 = TABLE[0][UNIT];
 
     fn spacing(scale: u64) -> u64
         ensures { λ r. ⌜ r ≡ spacingAt 722 scale ⌝ }
@@ -39,11 +45,11 @@ impl Zone1 {
 pub struct Zone2;
 
 impl Zone2 {
-    pub const EQUATORWARD: u64 = 32 * Circle::DEGREE;
+    pub const EQUATORWARD: u64 = TABLE[1][FROM] * Circle::DEGREE;
 
-    pub const POLEWARD: u64 = 48 * Circle::DEGREE;
+    pub const POLEWARD: u64 = TABLE[1][TO] * Circle::DEGREE;
 
-    pub const UNIT: u64 = 591;
+    pub const UNIT: u64 = TABLE[1][UNIT];
 
     fn spacing(scale: u64) -> u64
         ensures { λ r. ⌜ r ≡ spacingAt 591 scale ⌝ }
@@ -56,11 +62,11 @@ impl Zone2 {
 pub struct Zone3;
 
 impl Zone3 {
-    pub const EQUATORWARD: u64 = 48 * Circle::DEGREE;
+    pub const EQUATORWARD: u64 = TABLE[2][FROM] * Circle::DEGREE;
 
-    pub const POLEWARD: u64 = 56 * Circle::DEGREE;
+    pub const POLEWARD: u64 = TABLE[2][TO] * Circle::DEGREE;
 
-    pub const UNIT: u64 = 480;
+    pub const UNIT: u64 = TABLE[2][UNIT];
 
     fn spacing(scale: u64) -> u64
         ensures { λ r. ⌜ r ≡ spacingAt 480 scale ⌝ }
@@ -73,11 +79,11 @@ impl Zone3 {
 pub struct Zone4;
 
 impl Zone4 {
-    pub const EQUATORWARD: u64 = 56 * Circle::DEGREE;
+    pub const EQUATORWARD: u64 = TABLE[3][FROM] * Circle::DEGREE;
 
-    pub const POLEWARD: u64 = 64 * Circle::DEGREE;
+    pub const POLEWARD: u64 = TABLE[3][TO] * Circle::DEGREE;
 
-    pub const UNIT: u64 = 389;
+    pub const UNIT: u64 = TABLE[3][UNIT];
 
     fn spacing(scale: u64) -> u64
         ensures { λ r. ⌜ r ≡ spacingAt 389 scale ⌝ }
@@ -90,11 +96,11 @@ impl Zone4 {
 pub struct Zone5;
 
 impl Zone5 {
-    pub const EQUATORWARD: u64 = 64 * Circle::DEGREE;
+    pub const EQUATORWARD: u64 = TABLE[4][FROM] * Circle::DEGREE;
 
-    pub const POLEWARD: u64 = 68 * Circle::DEGREE;
+    pub const POLEWARD: u64 = TABLE[4][TO] * Circle::DEGREE;
 
-    pub const UNIT: u64 = 319;
+    pub const UNIT: u64 = TABLE[4][UNIT];
 
     fn spacing(scale: u64) -> u64
         ensures { λ r. ⌜ r ≡ spacingAt 319 scale ⌝ }
@@ -107,11 +113,11 @@ impl Zone5 {
 pub struct Zone6;
 
 impl Zone6 {
-    pub const EQUATORWARD: u64 = 68 * Circle::DEGREE;
+    pub const EQUATORWARD: u64 = TABLE[5][FROM] * Circle::DEGREE;
 
-    pub const POLEWARD: u64 = 72 * Circle::DEGREE;
+    pub const POLEWARD: u64 = TABLE[5][TO] * Circle::DEGREE;
 
-    pub const UNIT: u64 = 268;
+    pub const UNIT: u64 = TABLE[5][UNIT];
 
     fn spacing(scale: u64) -> u64
         ensures { λ r. ⌜ r ≡ spacingAt 268 scale ⌝ }
@@ -124,11 +130,11 @@ impl Zone6 {
 pub struct Zone7;
 
 impl Zone7 {
-    pub const EQUATORWARD: u64 = 72 * Circle::DEGREE;
+    pub const EQUATORWARD: u64 = TABLE[6][FROM] * Circle::DEGREE;
 
-    pub const POLEWARD: u64 = 76 * Circle::DEGREE;
+    pub const POLEWARD: u64 = TABLE[6][TO] * Circle::DEGREE;
 
-    pub const UNIT: u64 = 215;
+    pub const UNIT: u64 = TABLE[6][UNIT];
 
     fn spacing(scale: u64) -> u64
         ensures { λ r. ⌜ r ≡ spacingAt 215 scale ⌝ }
@@ -141,11 +147,11 @@ impl Zone7 {
 pub struct Zone8;
 
 impl Zone8 {
-    pub const EQUATORWARD: u64 = 76 * Circle::DEGREE;
+    pub const EQUATORWARD: u64 = TABLE[7][FROM] * Circle::DEGREE;
 
-    pub const POLEWARD: u64 = 80 * Circle::DEGREE;
+    pub const POLEWARD: u64 = TABLE[7][TO] * Circle::DEGREE;
 
-    pub const UNIT: u64 = 161;
+    pub const UNIT: u64 = TABLE[7][UNIT];
 
     fn spacing(scale: u64) -> u64
         ensures { λ r. ⌜ r ≡ spacingAt 161 scale ⌝ }
@@ -158,11 +164,11 @@ impl Zone8 {
 pub struct Zone9;
 
 impl Zone9 {
-    pub const EQUATORWARD: u64 = 80 * Circle::DEGREE;
+    pub const EQUATORWARD: u64 = TABLE[8][FROM] * Circle::DEGREE;
 
-    pub const POLEWARD: u64 = 90 * Circle::DEGREE;
+    pub const POLEWARD: u64 = TABLE[8][TO] * Circle::DEGREE;
 
-    pub const UNIT: u64 = 782;
+    pub const UNIT: u64 = TABLE[8][UNIT];
 
     fn spacing(scale: u64) -> u64
         ensures { λ r. ⌜ r ≡ spacingAt 782 scale ⌝ }
@@ -180,6 +186,24 @@ fn spacing_of(unit: u64, scale: u64) -> u64
         return 0;
     }
     512 * ((unit * 1_000_000 - 1) / scale + 1)
+}
+
+// The limits that the zones of the row at a place, 0 to 8, carry as constants of their own kind; 0 past them (01, "Units and the zone table").
+fn carried(row: u64) -> [u64; 2]
+    ensures { λ r. ⌜ r ≡ limitsOf (rowAt row) ⌝ }
+{
+    match row {
+        0 => [Zone1::EQUATORWARD, Zone1::POLEWARD],
+        1 => [Zone2::EQUATORWARD, Zone2::POLEWARD],
+        2 => [Zone3::EQUATORWARD, Zone3::POLEWARD],
+        3 => [Zone4::EQUATORWARD, Zone4::POLEWARD],
+        4 => [Zone5::EQUATORWARD, Zone5::POLEWARD],
+        5 => [Zone6::EQUATORWARD, Zone6::POLEWARD],
+        6 => [Zone7::EQUATORWARD, Zone7::POLEWARD],
+        7 => [Zone8::EQUATORWARD, Zone8::POLEWARD],
+        8 => [Zone9::EQUATORWARD, Zone9::POLEWARD],
+        _ => [0, 0],
+    }
 }
 
 // A of a zone. Refuses 2.

@@ -1,0 +1,36 @@
+-- How the basic zone is found (02, E5; 001, 3.3.3). A claim: the proof is proofs/ZoneRule.antt.
+--     printedAt i        the row at place i, 0 to 8, of the nine that 01 prints
+--     Holds r size       the row holds a latitude of that size
+--     Found lat zone     one row of the nine holds the latitude's size, the zone is that row's, and it is the southern one exactly below 0
+--     ZoneRule           so it is for the zone answered, for every latitude in range
+use mathlib.Core.Path.{_≡_}
+use mathlib.Core.Bool.{true, false}
+use mathlib.Core.Logic.{_⊎_}
+use Prim.Native.Nat.{ℕ, _≤_, _<_}
+use lib.ListN.{getD}
+use lib.IntN.{ℤ, pos, natAbs}
+use lib.Signed.{ltZ}
+use Rattle.whole.specs.Whole.{outside}
+use Rattle.arc.specs.Zones.{quarter, Row, from, to, noRow}
+use Rattle.arc.specs.AsPrinted.{printedRows}
+use Rattle.zones.specs.declared.ZoneAnswer.{ZoneAnswer}
+use Rattle.zones.specs.Basic.{basicZoneOf}
+
+abbrev pub printedAt : ℕ → Row
+printedAt i = getD printedRows i noRow
+
+-- a limit belongs to the poleward row, and 90° to the last
+abbrev pub Holds : Row → ℕ → Type 0
+Holds r size = (from r ≤ size) × ((size < to r) ⊎ ((r .poleward ≡ 90) × (size ≡ to r)))
+
+pub record Found (lat : ℤ) (zone : ℕ) : Type 0 where
+  pub at : ℕ
+  pub of-nine : at < 9
+  pub holds : Holds (printedAt at) (natAbs lat)
+  pub alone : (j : ℕ) → j < 9 → Holds (printedAt j) (natAbs lat) → j ≡ at
+  pub of-row : (zone ≡ printedAt at .northern) ⊎ (zone ≡ printedAt at .southern)
+  pub below : ltZ lat (pos 0) ≡ true → zone ≡ printedAt at .southern
+  pub only-below : zone ≡ printedAt at .southern → ltZ lat (pos 0) ≡ true
+
+abbrev pub ZoneRule : Type 0
+ZoneRule = (lat : ℤ) → outside quarter lat ≡ false → (zone : ℕ) × (basicZoneOf lat ≡ ZoneAnswer.Zone zone) × Found lat zone
