@@ -5,3 +5,4 @@ pub mod Covering
 pub mod Lying
 pub mod Six
 pub mod CoverAll
+pub mod ZoneRule

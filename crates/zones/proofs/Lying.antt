@@ -11,22 +11,21 @@ use Rattle.whole.specs.Whole.{outside}
 use Rattle.arc.specs.Zones.{quarter}
 use Rattle.zones.specs.declared.Located.{Located}
 use Rattle.zones.specs.declared.Located.the-variants.{At, Outside}
-use Rattle.zones.specs.Basic.{rowHolding}
-use Rattle.zones.specs.Cover.{firstZone}
+use Rattle.zones.specs.Basic.{rowHolding, basicZone}
 use Rattle.zones.specs.Steps.{locatedOf}
 use Rattle.zones.proofs.Rows.{place, northern-is}
 
--- a latitude in range, its hemisphere's first zone, its row's place and its size
-pub record Lies (lat : ℤ) (first row size : ℕ) : Type 0 where
+-- a latitude in range, its basic zone, its row's place and its size
+pub record Lies (lat : ℤ) (zone row size : ℕ) : Type 0 where
   pub test : outside quarter lat ≡ false
-  pub is-first : first ≡ firstZone lat
+  pub is-zone : zone ≡ basicZone lat
   pub is-row : row ≡ place (natAbs lat) .at
   pub is-size : size ≡ natAbs lat
 
 -- r is the answer for lat, as the machine reads it
 module _ (lat : ℤ) (f : SFits w64 lat) {r : Located} (e : r ≡ locatedOf (toZ w64 (ofZ w64 lat))) where
   answer : (t : Bool) → Located
-  answer t = cond t Outside (At (firstZone lat) (rowHolding (natAbs lat) .northern - 1) (natAbs lat))
+  answer t = cond t Outside (At (basicZone lat) (rowHolding (natAbs lat) .northern - 1) (natAbs lat))
 
   answered : r ≡ answer (outside quarter lat)
   unfolding answer
@@ -40,12 +39,12 @@ module _ (lat : ℤ) (f : SFits w64 lat) {r : Located} (e : r ≡ locatedOf (toZ
       go true p = refl
       go false p = let x : _≡_ {A = ℕ} 0 1 = cc in absurd (omega arith)
 
-  pub located-at : {first row size : ℕ} → r ≡ At first row size → Lies lat first row size
+  pub located-at : {zone row size : ℕ} → r ≡ At zone row size → Lies lat zone row size
   unfolding answer
-  located-at {first} {row} {size} o = go (outside quarter lat) refl (sym answered ∙ o)
+  located-at {zone} {row} {size} o = go (outside quarter lat) refl (sym answered ∙ o)
     where
-      go : (t : Bool) → outside quarter lat ≡ t → answer t ≡ At first row size → Lies lat first row size
+      go : (t : Bool) → outside quarter lat ≡ t → answer t ≡ At zone row size → Lies lat zone row size
       go true t p = let x : _≡_ {A = ℕ} 0 1 = cc in absurd (omega arith)
       go false t p =
           let q : rowHolding (natAbs lat) .northern - 1 ≡ row = cc in
-          record { test = t; is-first = cc; is-row = omega (arith, northern-is (natAbs lat)); is-size = cc }
+          record { test = t; is-zone = cc; is-row = omega (arith, northern-is (natAbs lat)); is-size = cc }

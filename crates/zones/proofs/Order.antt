@@ -1,21 +1,22 @@
--- The rows' order: each starts where the one before it ends, and rows six apart are more than 18° apart, the widest overlap
+-- The rows' order: each starts where the one before it ends, so one row alone holds a size; and rows six apart are more than 18° apart, the widest overlap
 -- that any scale has. Assumes nothing.
 use mathlib.Core.Path.{_≡_, refl, sym, ap, _∙_, subst}
-use mathlib.Core.Bool.{Bool, true, false}
+use mathlib.Core.Bool.{Bool, true, false, _||_, and-eq-true-iff, or-true, false≢true}
 use mathlib.Core.List.{List, []}
-use mathlib.Core.Logic.{⊎-elim}
+use mathlib.Core.Logic.{_⊎_, inl, inr, ⊎-elim}
 use Prim.Native.Nat.{ℕ, zero, suc, _+_, _-_, _*_, _≤_, _<_}
 use native.Mathlib.Nat.{mul-le-mul-left, mul-le-mul-right}
 use native.Mathlib.Omega.{arith}
-use borrow.Author.Tests.{ltb-true, ltb-false, lt-ltb, le-ltb, ne-eqb, eqb-true, eqb-false}
-use lib.Dec.{ltb, eqb, lit≤}
+use borrow.Author.Tests.{leb-true, le-leb, ltb-true, ltb-false, lt-ltb, le-ltb, eq-eqb, ne-eqb, eqb-true, eqb-false}
+use lib.Dec.{leb, ltb, eqb, lit≤}
 use lib.ListN.{set, take, drop}
 use lib.Seq.{getD-take}
 use Rattle.arc.specs.Zones.{circle, table, from, to, rowAt, noRow}
 use Rattle.whole.specs.Lists.{those, downFrom}
+use Rattle.zones.specs.Basic.{holdsSize}
 use Rattle.zones.specs.Steps.{reaches, coverFrom, Rowed}
 use Rattle.whole.proofs.Lists.{agree, Sofar, taken}
-use Rattle.arc.proofs.Table.{from-to, polar-at}
+use Rattle.arc.proofs.Table.{from-to, polar-at, last-at}
 use Rattle.zones.proofs.Rows.{place}
 
 pub next-from : (i : ℕ) → i < 8 → from (rowAt (suc i)) ≡ to (rowAt i)
@@ -31,25 +32,44 @@ to-from i (suc j) h k = go (eqb i j) refl (λ l. to-from i j l (omega arith))
         omega (arith, next-from j (omega arith))
     go false e f = omega (arith, f (omega (arith, eqb-false i j e)), next-from j (omega arith), from-to j (omega arith))
 
--- a search from the Equator for the row that holds a size, at a row no farther: it stands there, or goes on
-module _ (size row : ℕ) (h : row ≤ place size .at) where
-  pub stands : size < to (rowAt row) → row ≡ place size .at
-  stands l = go (ltb row (place size .at)) refl
-    where
-      go : (t : Bool) → ltb row (place size .at) ≡ t → row ≡ place size .at
-      go true e =
-          absurd (omega (arith, to-from row (place size .at) (ltb-true row (place size .at) e) (place size .in-list), place size .low))
-      go false e = omega (arith, ltb-false row (place size .at) e)
+-- no row but that at its place holds a size
+pub only : (size j : ℕ) → j < 9 → from (rowAt j) ≤ size → (size < to (rowAt j)) ⊎ (j ≡ 8) → j ≡ place size .at
+only size j h low high = let p = place size in go (ltb j (p .at)) (ltb (p .at) j) refl refl
+  where
+    go : (t u : Bool) → ltb j (place size .at) ≡ t → ltb (place size .at) j ≡ u → j ≡ place size .at
+    go true u e f = let p = place size in let k = ltb-true j (p .at) e in
+        ⊎-elim (λ x. absurd (omega (arith, to-from j (p .at) k (p .in-list), p .low))) (λ x. absurd (omega (arith, p .in-list))) high
+    go false true e f = let p = place size in let k = ltb-true (p .at) j f in
+        ⊎-elim (λ x. absurd (omega (arith, to-from (p .at) j k h))) (λ x. absurd (omega arith)) (p .high)
+    go false false e f = omega (arith, ltb-false j (place size .at) e, ltb-false (place size .at) j f)
 
-  pub goes-on : row < 8 → to (rowAt row) ≤ size → row < place size .at
-  goes-on k l = go (ltb row (place size .at)) refl
-    where
-      go : (t : Bool) → ltb row (place size .at) ≡ t → row < place size .at
-      go true e = ltb-true row (place size .at) e
-      go false e =
-          let s : row ≡ place size .at = omega (arith, ltb-false row (place size .at) e) in
-          let q : to (rowAt row) ≡ to (rowAt (place size .at)) = ap (λ (n : ℕ). to (rowAt n)) s in
-          ⊎-elim (λ x. absurd (omega arith)) (λ x. absurd (omega arith)) (place size .high)
+-- the same as a test
+pub holds-there : (size : ℕ) → holdsSize (rowAt (place size .at)) size ≡ true
+holds-there size =
+    let p = place size in
+    let r = rowAt (p .at) in
+    rw (le-leb (from r) size (p .low), last-at (p .at) (p .in-list))
+    (⊎-elim (λ h. rw (lt-ltb size (to r) h)) (λ h. rw (eq-eqb (p .at) 8 (omega arith), or-true (ltb size (to r)))) (p .high))
+
+pub holds-only : (size j : ℕ) → j < 9 → holdsSize (rowAt j) size ≡ true → j ≡ place size .at
+holds-only size j h e =
+    let r = rowAt j in
+    let q = and-eq-true-iff (leb (from r) size) (ltb size (to r) || eqb (r .poleward) 90) .0 e in
+    only size j h (leb-true (from r) size (q .0)) (go (ltb size (to r)) refl (q .1))
+  where
+    go : (t : Bool) → ltb size (to (rowAt j)) ≡ t → t || eqb (rowAt j .poleward) 90 ≡ true → (size < to (rowAt j)) ⊎ (j ≡ 8)
+    go true k w = inl (ltb-true size (to (rowAt j)) k)
+    go false k w = inr (eqb-true j 8 (sym (last-at j h) ∙ w))
+
+-- a row no farther than that place which does not hold the size is before it
+pub before-place : (size j : ℕ) → j ≤ place size .at → holdsSize (rowAt j) size ≡ false → j < place size .at
+before-place size j h e = go (ltb j (place size .at)) refl
+  where
+    go : (t : Bool) → ltb j (place size .at) ≡ t → j < place size .at
+    go true k = ltb-true j (place size .at) k
+    go false k =
+        let s : j ≡ place size .at = omega (arith, ltb-false j (place size .at) k) in
+        absurd (false≢true (sym e ∙ ap (λ (n : ℕ). holdsSize (rowAt n) size) s ∙ holds-there size))
 
 -- six rows on, the limits are at least 18° apart
 six : (i : ℕ) → i < 3 → to (rowAt i) + 6480000 ≤ from (rowAt (i + 6))

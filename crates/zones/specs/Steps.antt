@@ -1,6 +1,6 @@
 -- What only the code needs: how it asks of a row and a size of latitude. The laws that tie this to cover and rectangle are in proofs/.
 -- Definitions only.
---     locatedOf lat      a latitude in range by its hemisphere's first zone, its row's place and its size; row i has the zones 1 + i and 10 + i
+--     locatedOf lat      a latitude in range by its basic zone, its row's place and its size; the row at place i has the zones 1 + i and 10 + i
 --     reaches b r size   the row and its overlap do not end before a latitude of that size
 --     coverFrom b first i size    the zones from the row at i equatorward that reach the size; row j's zone is first + j
 --     Rows, Rowed        what the code's parts are handed
@@ -14,11 +14,10 @@ use Rattle.arc.specs.Zones.{circle, quarter, Row, isPolar, from, to, rowAt}
 use Rattle.whole.specs.Lists.{those, downFrom}
 use Rattle.zones.specs.declared.Located.{Located}
 use Rattle.zones.specs.declared.Located.the-variants.{At, Outside}
-use Rattle.zones.specs.Basic.{rowHolding}
-use Rattle.zones.specs.Cover.{firstZone}
+use Rattle.zones.specs.Basic.{rowHolding, basicZone}
 
 abbrev pub locatedOf : ℤ → Located
-locatedOf lat = cond (outside quarter lat) Outside (At (firstZone lat) (rowHolding (natAbs lat) .northern - 1) (natAbs lat))
+locatedOf lat = cond (outside quarter lat) Outside (At (basicZone lat) (rowHolding (natAbs lat) .northern - 1) (natAbs lat))
 
 abbrev pub reaches : ℕ → Row → ℕ → Bool
 reaches b r size = (ltb size (to r) || isPolar (r .northern)) || ltb ((size - to r) * b) (1024 * circle)

@@ -6,7 +6,8 @@ use arc::Refusal;
 use arc::Verdict;
 ghost use mathlib.Core.Path.{_≡_};
 ghost use Prim.Native.Nat.{_+_};
-ghost use Rattle.zones.specs.Basic.{rowHolding, basicZoneOf};
+ghost use Rattle.arc.specs.Zones.{rowAt};
+ghost use Rattle.zones.specs.Basic.{holdsSize, rowHolding, basicZoneOf};
 ghost use Rattle.zones.specs.Cover.{acceptedCover, coverOf, refusedCover};
 ghost use Rattle.zones.specs.Steps.{locatedOf, coverFrom, Rowed};
 
@@ -27,27 +28,32 @@ pub struct CoverAnswer {
     pub zones: [u64; 6],
 }
 
-// Where a latitude in range lies: its hemisphere's first zone, the place of the row that holds it, and its size.
+// Where a latitude in range lies: its basic zone, the place of the row that holds it, and its size.
 enum Located {
-    At { first: u64, row: u64, size: u64 },
+    At { zone: u64, row: u64, size: u64 },
     Outside,
 }
 
-// The place, 0 to 8, of the row whose limits hold a size of latitude (001, Table 3-1).
+// Whether the row at a place holds a size of latitude: a limit belongs to the poleward row, 90° to the last (01, "Units and the zone table").
+fn holds(row: u64, size: u64) -> bool
+    ensures { λ r. ⌜ r ≡ holdsSize (rowAt row) size ⌝ }
+{
+    let to = arc::poleward(row);
+    (arc::equatorward(row) <= size) & ((size < to) | (to == Circle::QUARTER))
+}
+
+// The place, 0 to 8, of the row that holds a size of latitude: the table's rows are asked in order, the first row first (02, E5).
 fn row_holding(size: u64) -> u64
     ensures { λ r. ⌜ r + 1 ≡ rowHolding size .northern ⌝ }
 {
     let mut row = 0;
-    while row < 8 {
-        if size < arc::poleward(row) {
-            break;
-        }
+    while !holds(row, size) {
         row += 1;
     }
     row
 }
 
-// A latitude by its row. Row i has the zones 1 + i and 10 + i.
+// A latitude by the row that holds its size: the row's southern zone below 0, else its northern zone.
 fn locate(lat: i64) -> Located
     ensures { λ r. ⌜ r ≡ locatedOf lat ⌝ }
 {
@@ -58,13 +64,13 @@ fn locate(lat: i64) -> Located
     let row = row_holding(size);
     if lat < 0 {
         return Located::At {
-            first: 10,
+            zone: arc::southern(row),
             row,
             size,
         };
     }
     Located::At {
-        first: 1,
+        zone: arc::northern(row),
         row,
         size,
     }
@@ -75,7 +81,7 @@ pub fn basic_zone(lat: i64) -> ZoneAnswer
     ensures { λ r. ⌜ r ≡ basicZoneOf lat ⌝ }
 {
     match locate(lat) {
-        Located::At { first, row, .. } => ZoneAnswer::Zone(first + row),
+        Located::At { zone, .. } => ZoneAnswer::Zone(zone),
         Located::Outside => ZoneAnswer::Refused(arc::refused(4)),
     }
 }
@@ -122,7 +128,7 @@ pub fn cover(scale: u64, lat: i64) -> CoverAnswer
 {
     match arc::b_constant(scale) {
         ConstantAnswer::Pixels(b) => match locate(lat) {
-            Located::At { first, row, size } => cover_from(b, first, row as usize, size),
+            Located::At { zone, row, size } => cover_from(b, zone - row, row as usize, size),
             Located::Outside => no_cover(arc::refused(4)),
         },
         ConstantAnswer::Refused(r) => no_cover(r),

@@ -1,8 +1,10 @@
--- The search goes poleward while the row's poleward limit is not beyond the size, and is left at the row that holds it. Assumes nothing.
-use Prim.Native.Nat.{_-_, _≤_}
+-- The walk passes each row that does not hold the size, and is left at the one that does. Assumes nothing.
+use mathlib.Core.Path.{sym, _∙_}
+use Prim.Native.Nat.{_-_, _≤_, _<_}
 use native.Mathlib.Omega.{arith}
+use borrow.Author.Tests.{not-true, not-false}
 use Rattle.zones.proofs.Rows.{place, northern-is}
-use Rattle.zones.proofs.Order.{stands, goes-on}
+use Rattle.zones.proofs.Order.{holds-only, before-place}
 use borrow.Author.Needs.{needs}
 use Rattle.zones.proofs.row_holding.Statement.{statement}
 use Rattle.zones.proofs.row_holding.Tie as tie
@@ -16,29 +18,25 @@ abbrev μ-loop : tie.MeasureT-loop
 loop-holds : tie.Need-loop-holds Inv-loop μ-loop
 loop-holds c = omega arith
 
+passed : (c : tie.Then1 Inv-loop μ-loop) → c .before .before .loop .row < place (c .before .before .before .args .size) .at
+passed c = let l = c .before .before .loop in
+    before-place (c .before .before .before .args .size) (l .row) (l .inv) (sym (c .before .holds .ensures) ∙ not-true _ (c .if1 .taken))
+
 add-row : tie.Need-add-row Inv-loop μ-loop
-add-row c = omega arith
+add-row c = omega (arith, passed c, place (c .before .before .before .args .size) .in-list)
 
 loop-less : tie.Need-loop-less Inv-loop μ-loop
-loop-less c = omega arith
+loop-less c = omega (arith, passed c, place (c .before .before .before .args .size) .in-list)
 
 loop-again : tie.Need-loop-again Inv-loop μ-loop
-loop-again c = let l = c .before .before .before .loop in
-    omega (
-      arith,
-      goes-on (c .before .before .before .before .args .size) (l .row) (l .inv) (c .before .before .loop-test .taken)
-          (omega (arith, c .before .poleward .ensures, c .if1 .left)),
-    )
+loop-again c = omega (arith, passed c)
 
 returns : tie.Need-returns Inv-loop μ-loop
-returns c = let z = c .before .before .args .size in omega (arith, northern-is z, place z .in-list, c .before .loop .inv, c .loop-test .left)
-
-returns-2 : tie.Need-returns-2 Inv-loop μ-loop
-returns-2 c = let z = c .before .before .before .before .args .size in
-    let l = c .before .before .before .loop in
-    omega (arith, northern-is z, stands z (l .row) (l .inv) (omega (arith, c .before .poleward .ensures, c .if1 .taken)))
+returns c = let z = c .before .before .before .args .size in
+    let l = c .before .before .loop in
+    omega (arith, northern-is z, holds-only z (l .row) (omega (arith, place z .in-list, l .inv)) (sym (c .before .holds .ensures) ∙ not-false _ (c .if1 .left)))
 
 pub row-holding-spec : {M : Type 1} → statement M
 row-holding-spec =
     tie.close
-    (tie.spec Inv-loop μ-loop loop-holds (λ c κs. search needs) add-row loop-less loop-again returns returns-2)
+    (tie.spec Inv-loop μ-loop loop-holds (λ c κs. search needs) add-row loop-less loop-again returns)
