@@ -1,19 +1,20 @@
 -- The table by a row's place in it, 0 to 8: each column of the table is one equation that computes; and a zone number against
 -- the two zones of a row. Assumes nothing.
 use mathlib.Core.Path.{_≡_, refl, sym, ap, _∙_}
-use mathlib.Core.Bool.{Bool, true, false, cond, _||_}
+use mathlib.Core.Bool.{Bool, true, false, cond, _&&_, _||_, and-eq-true-iff}
 use mathlib.Core.List.{List, [], _∷_, map}
 use mathlib.Core.Logic.{_⊎_, inl, inr, ⊎-elim}
 use mathlib.Core.Option.{some}
-use Prim.Native.Nat.{ℕ, suc, _+_, _≤_, _<_}
+use Prim.Native.Nat.{ℕ, zero, suc, _+_, _≤_, _<_}
 use native.Mathlib.Nat.{zero-add}
 use native.Mathlib.Omega.{arith}
-use borrow.Author.Tests.{leb-true, ltb-true, ltb-false, ne-eqb}
+use borrow.Author.Tests.{leb-true, ltb-true, ne-eqb}
 use lib.Dec.{leb, ltb, eqb}
 use lib.ListN.{length, getD, List·getD-eq-default}
 use Rattle.whole.specs.Lists.{upFrom}
 use Rattle.whole.proofs.Lists.{agree, upFrom-at}
 use Rattle.arc.specs.Zones.{Row, table, hasZone, rowIn, tableRow, isPolar, from, to, rowAt, noRow}
+use Rattle.arc.specs.Steps.{cells, cellAt}
 
 module _ (i : ℕ) (h : i < 9) where
   -- a column of the table as a function of the row's place
@@ -65,17 +66,17 @@ neither n s zone f = rw (ne-eqb zone n (λ e. f (inl e)), ne-eqb zone s (λ e. f
 pub past-last : (i : ℕ) → 9 ≤ i → rowAt i ≡ noRow
 past-last i h = List·getD-eq-default table noRow h
 
--- a column's most, which no row has to pass
-most : (f : Row → ℕ) (m : ℕ) → f noRow ≤ m → map (λ (r : Row). leb (f r) m) table ≡ map (λ (n : ℕ). true) (upFrom 0 9) → (i : ℕ) → f (rowAt i) ≤ m
-most f m h e i = go (ltb i 9) refl
-  where
-    go : (t : Bool) → ltb i 9 ≡ t → f (rowAt i) ≤ m
-    go true k = leb-true (f (rowAt i)) m (column i (ltb-true i 9 k) (λ (r : Row). leb (f r) m) (λ (n : ℕ). true) 0 e)
-    go false k = omega (arith, ap f (past-last i (ltb-false i 9 k)))
+-- no cell is above 782
+small : List ℕ → Bool
+small [] = true
+small (x ∷ l) = leb x 782 && small l
 
--- a limit is 90° at most
-pub from-most : (i : ℕ) → rowAt i .equatorward ≤ 90
-from-most = most (λ (r : Row). r .equatorward) 90 (omega arith) refl
+small-at : (l : List ℕ) → small l ≡ true → (k : ℕ) → getD l k 0 ≤ 782
+unfolding small
+small-at [] e k = omega arith
+small-at (x ∷ l) e zero = leb-true x 782 (and-eq-true-iff (leb x 782) (small l) .0 e .0)
+small-at (x ∷ l) e (suc k) = small-at l (and-eq-true-iff (leb x 782) (small l) .0 e .1) k
 
-pub to-most : (i : ℕ) → rowAt i .poleward ≤ 90
-to-most = most (λ (r : Row). r .poleward) 90 (omega arith) refl
+pub cell-most : (i : ℕ) → i < 9 → (k : ℕ) → cellAt i k ≤ 782
+unfolding small
+cell-most i h = small-at (cells (rowAt i)) (column i h (λ (r : Row). small (cells r)) (λ (n : ℕ). true) 0 refl)

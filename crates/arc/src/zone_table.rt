@@ -1,7 +1,7 @@
 // The zone table, row by row as 01 prints it, and what a row has (001, Tables 3-1 and 3-5).
 use crate::Circle;
 ghost use mathlib.Core.Path.{_≡_};
-ghost use Prim.Native.Nat.{_<_};
+ghost use Prim.Native.Nat.{_<_, _≤_};
 ghost use Rattle.arc.specs.Zones.{from, to, rowAt};
 ghost use Rattle.arc.specs.Steps.{cellAt};
 
@@ -32,7 +32,7 @@ pub const UNIT: usize = 4;
 // What stands in a column of the row at a place, 0 to 8; 0 past them.
 fn cell(row: u64, column: usize) -> u64
     requires { ⌜ column < 5 ⌝ }
-    ensures { λ r. ⌜ r ≡ cellAt row column ⌝ }
+    ensures { λ r. ⌜ r ≡ cellAt row column ⌝ ∗ ⌜ r ≤ 782 ⌝ }
 {
     if 9 <= row {
         return 0;

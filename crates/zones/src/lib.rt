@@ -47,7 +47,10 @@ fn row_holding(size: u64) -> u64
     ensures { λ r. ⌜ r + 1 ≡ rowHolding size .northern ⌝ }
 {
     let mut row = 0;
-    while !holds(row, size) {
+    while row < 9 {
+        if holds(row, size) {
+            break;
+        }
         row += 1;
     }
     row
@@ -122,7 +125,7 @@ fn cover_from(b: u64, first: u64, row: usize, size: u64) -> CoverAnswer
     }
 }
 
-// The zones that cover a latitude at scale 1:S, the basic zone first, then equatorward. Refuses 1, 4.
+// The zones that cover a latitude at scale 1:S, the basic zone first, then equatorward; the row at place i has the zones 1 + i and 10 + i. Refuses 1, 4.
 pub fn cover(scale: u64, lat: i64) -> CoverAnswer
     ensures { λ r. ⌜ r ≡ coverOf scale lat ⌝ }
 {
