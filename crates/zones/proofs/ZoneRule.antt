@@ -1,13 +1,13 @@
 -- The table's rows are the printed ones; one alone holds a size up to 90°, and a row's two zones differ. Assumes nothing.
-use mathlib.Core.Path.{_≡_, refl, sym, ap, _∙_}
-use mathlib.Core.Bool.{Bool, true, false, cond, false≢true}
-use mathlib.Core.Logic.{_⊎_, inl, inr, ⊎-elim}
+use mathlib.Core.Path.{_≡_, refl, sym, ap, _∙_, subst, subst⁻¹}
+use mathlib.Core.Bool.{Bool, true, false, cond}
+use mathlib.Core.Logic.{_⊎_, _↔_, inl, inr, ⊎-elim}
 use Prim.Native.Nat.{ℕ, _<_, _≤_}
 use native.Mathlib.Omega.{arith}
 use borrow.Author.Tests.{ltb-true, ltb-false, eq-eqb, eqb-true}
-use lib.Dec.{ltb}
-use lib.IntN.{pos, natAbs}
-use lib.Signed.{ltZ}
+use lib.Dec.{T, ltb}
+use lib.IntN.{ℤ, pos, natAbs}
+use lib.Signed.{ltZ, _<ℤ_, ltZ-yes}
 use Rattle.whole.proofs.Held.{outsides}
 use Rattle.arc.specs.Zones.{quarter, to, rowAt}
 use Rattle.arc.proofs.Table.{northern-at, southern-at, last-at}
@@ -35,15 +35,18 @@ module _ (size : ℕ) where
       only size j h (w .0) (⊎-elim inl (λ k. inr (eqb-true j 8 (sym (last-at j h) ∙ eq-eqb (rowAt j .poleward) 90 (k .0)))) (w .1))
 
 -- the southern zone on one side alone
-sides : (t : Bool) (n s : ℕ) → (n ≡ s → ⊥) → let z = cond t s n in ((z ≡ n) ⊎ (z ≡ s)) × (t ≡ true → z ≡ s) × (z ≡ s → t ≡ true)
-sides true n s d = (inr refl, λ e. refl, λ e. refl)
-sides false n s d = (inl refl, λ e. absurd (false≢true e), λ e. absurd (d e))
+sides : (lat : ℤ) (t : Bool) → ltZ lat (pos 0) ≡ t → (n s : ℕ) → (n ≡ s → ⊥)
+    → let z = cond t s n in ((z ≡ n) ⊎ (z ≡ s)) × ((z ≡ s) ↔ (lat <ℤ pos 0))
+sides lat true k n s d = (inr refl, ((λ e. ltZ-yes (subst⁻¹ T k tt)), λ h. refl))
+sides lat false k n s d = (inl refl, ((λ e. absurd (d e)), λ h. absurd (subst T k (h .lt))))
 
 pub zone-rule : ZoneRule
 zone-rule lat e =
     let p = place (natAbs lat) in
     let r = rowAt (p .at) in
-    let w = sides (ltZ lat (pos 0)) (r .northern) (r .southern) (λ k. omega (arith, northern-at (p .at) (p .in-list), southern-at (p .at) (p .in-list))) in (
+    let w =
+    sides lat (ltZ lat (pos 0)) refl (r .northern) (r .southern)
+    (λ k. omega (arith, northern-at (p .at) (p .in-list), southern-at (p .at) (p .in-list))) in (
       zoneOn lat r,
       rw e (ap ZoneAnswer.Zone (ap (zoneOn lat) (p .is))),
       record {
@@ -52,7 +55,6 @@ zone-rule lat e =
         holds = there (natAbs lat) (outsides quarter lat .0 e);
         alone = alone (natAbs lat);
         of-row = w .0;
-        below = w .1;
-        only-below = w .2;
+        southern-below = w .1;
       },
     )

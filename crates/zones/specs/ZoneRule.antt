@@ -4,12 +4,12 @@
 --     Found lat zone     one row of the nine holds the latitude's size, the zone is that row's, and it is the southern one exactly below 0
 --     ZoneRule           so it is for the zone answered, for every latitude in range
 use mathlib.Core.Path.{_≡_}
-use mathlib.Core.Bool.{true, false}
-use mathlib.Core.Logic.{_⊎_}
+use mathlib.Core.Bool.{false}
+use mathlib.Core.Logic.{_⊎_, _↔_}
 use Prim.Native.Nat.{ℕ, _≤_, _<_}
 use lib.ListN.{getD}
 use lib.IntN.{ℤ, pos, natAbs}
-use lib.Signed.{ltZ}
+use lib.Signed.{_<ℤ_}
 use Rattle.whole.specs.Whole.{outside}
 use Rattle.arc.specs.Zones.{quarter, Row, from, to, noRow}
 use Rattle.arc.specs.AsPrinted.{printedRows}
@@ -29,8 +29,7 @@ pub record Found (lat : ℤ) (zone : ℕ) : Type 0 where
   pub holds : Holds (printedAt at) (natAbs lat)
   pub alone : (j : ℕ) → j < 9 → Holds (printedAt j) (natAbs lat) → j ≡ at
   pub of-row : (zone ≡ printedAt at .northern) ⊎ (zone ≡ printedAt at .southern)
-  pub below : ltZ lat (pos 0) ≡ true → zone ≡ printedAt at .southern
-  pub only-below : zone ≡ printedAt at .southern → ltZ lat (pos 0) ≡ true
+  pub southern-below : (zone ≡ printedAt at .southern) ↔ (lat <ℤ pos 0)
 
 abbrev pub ZoneRule : Type 0
 ZoneRule = (lat : ℤ) → outside quarter lat ≡ false → (zone : ℕ) × (basicZoneOf lat ≡ ZoneAnswer.Zone zone) × Found lat zone
