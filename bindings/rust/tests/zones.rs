@@ -1,18 +1,35 @@
-//! Spacing, basic zone, cover and rectangle, compared with the rule.
+//! Spacing, basic zone, cover and rectangle, compared with the rule; the rows of the zone table.
 
 mod rule;
 mod support;
 
+use fordcask::Refusal;
 use support::angles::{any_latitude, latitudes};
 use support::make::{around, scale, BAD_SCALES, BAD_ZONES, SCALES};
 use support::{seeded, Ask};
+
+const DEGREE: i64 = 360_000;
+const POLE: i64 = 90 * DEGREE;
+
+/// The northern zone, the southern zone, from degree, to degree (02, E5; 01's table).
+const ROWS: [(u64, u64, i64, i64); 9] = [
+    (1, 10, 0, 32),
+    (2, 11, 32, 48),
+    (3, 12, 48, 56),
+    (4, 13, 56, 64),
+    (5, 14, 64, 68),
+    (6, 15, 68, 72),
+    (7, 16, 72, 76),
+    (8, 17, 76, 80),
+    (9, 18, 80, 90),
+];
 
 /// Where the cover of each zone ends at a scale, both hemispheres, with neighbours.
 fn cover_ends(scale: u64) -> Vec<i64> {
     let b = rule::constant_at(782, scale);
     let reach = (1024 * rule::H / b) as i64;
     let mut all = Vec::new();
-    for (_, to, _) in rule::LIMITS {
+    for (_, (_, to), _) in rule::LIMITS {
         for lat in [360_000 * to as i64 + reach, 360_000 * to as i64 + reach + 1] {
             all.extend([lat, -lat]);
         }
@@ -51,6 +68,57 @@ fn basic_zone() {
         let _ = ask.basic_zone(any_latitude(&mut random));
     }
     ask.met("basic_zone", &[0, 4]);
+}
+
+/// Each limit, north and south, and each whole degree, with neighbours in range (02, E5).
+fn row_latitudes() -> Vec<i64> {
+    let mut all: Vec<i64> = (-90..=90).map(|degree| degree * DEGREE).collect();
+    for (_, _, from, to) in ROWS {
+        for limit in [from * DEGREE, to * DEGREE] {
+            all.extend([limit, -limit]);
+        }
+    }
+    let mut all = around(&all);
+    all.retain(|lat| (-POLE..=POLE).contains(lat));
+    all
+}
+
+/// One row holds the size, the zone is that row's, the southern one exactly below 0 (02, E5).
+fn in_its_row(lat: i64) -> u64 {
+    let size = lat.abs();
+    let mut holding = Vec::new();
+    for (north, south, from, to) in ROWS {
+        let pole = to == 90 && size == POLE;
+        if (from * DEGREE <= size && size < to * DEGREE) || pole {
+            holding.push((north, south));
+        }
+    }
+    assert_eq!(holding.len(), 1, "rows holding {lat}: {holding:?}");
+    let (north, south) = holding[0];
+    let zone = fordcask::basic_zone(lat).expect("a latitude in range");
+    assert!(zone == north || zone == south, "zone {zone} of {lat}, row {north}, {south}");
+    assert_eq!(zone == south, lat < 0, "zone {zone} of {lat}, southern exactly below 0");
+    zone
+}
+
+/// What E5 asks to be proved, on the library's answers (02, E5).
+#[test]
+fn zone_rows() {
+    let mut random = seeded("zone_rows");
+    let mut asked = row_latitudes();
+    for lat in [POLE, POLE - 1, 1, 0, -1, 1 - POLE, -POLE] {
+        assert!(asked.contains(&lat), "{lat} is asked");
+    }
+    asked.extend((0..200_000).map(|_| random.between(-POLE, POLE)));
+    let mut zones: Vec<u64> = asked.iter().map(|lat| in_its_row(*lat)).collect();
+    zones.sort_unstable();
+    zones.dedup();
+    assert_eq!(zones, Vec::from_iter(1..=18), "every zone is met");
+    println!("cases zone_rows {}", asked.len());
+    for lat in [POLE + 1, -POLE - 1, i64::MIN, i64::MAX] {
+        let refused = Err(Refusal { number: 4, at: 0 });
+        assert_eq!(fordcask::basic_zone(lat), refused, "latitude {lat}");
+    }
 }
 
 #[test]

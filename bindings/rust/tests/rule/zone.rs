@@ -1,4 +1,4 @@
-//! (01, "Units and the zone table")
+//! (01, "Units and the zone table"; 02, E5)
 
 use super::{refuse, Answer, H, LAT_END};
 use fordcask::Spacing;
@@ -6,22 +6,30 @@ use fordcask::Spacing;
 const DEGREE: i128 = 360_000;
 const B_UNIT: i128 = 782;
 
-/// From degree, to degree, A / 512 at 1:1,000,000, for zones 1..9 and again for 10..18.
-pub const LIMITS: [(i128, i128, i128); 9] = [
-    (0, 32, 722),
-    (32, 48, 591),
-    (48, 56, 480),
-    (56, 64, 389),
-    (64, 68, 319),
-    (68, 72, 268),
-    (72, 76, 215),
-    (76, 80, 161),
-    (80, 90, 782),
+/// The northern and the southern zone, from and to degree, A / 512 (02, E5).
+pub type Row = ((u64, u64), (i128, i128), i128);
+
+/// The one table, as 01 prints it (02, E5).
+pub const LIMITS: [Row; 9] = [
+    ((1, 10), (0, 32), 722),
+    ((2, 11), (32, 48), 591),
+    ((3, 12), (48, 56), 480),
+    ((4, 13), (56, 64), 389),
+    ((5, 14), (64, 68), 319),
+    ((6, 15), (68, 72), 268),
+    ((7, 16), (72, 76), 215),
+    ((8, 17), (76, 80), 161),
+    ((9, 18), (80, 90), 782),
 ];
 
+/// The limits and the unit of the row that names a zone (01, "Units and the zone table").
 fn limits(zone: u64) -> (i128, i128, i128) {
-    let (from, to, unit) = LIMITS[(zone as usize - 1) % 9];
-    (from * DEGREE, to * DEGREE, unit)
+    for ((north, south), (from, to), unit) in LIMITS {
+        if zone == north || zone == south {
+            return (from * DEGREE, to * DEGREE, unit);
+        }
+    }
+    panic!("no row names zone {zone}");
 }
 
 fn is_polar(zone: u64) -> bool {
@@ -72,15 +80,27 @@ fn same_hemisphere(zone: u64, lat: i128) -> bool {
     (zone <= 9) == (lat >= 0)
 }
 
-/// A limit belongs to the poleward zone; the pole belongs to the polar zone.
-fn is_basic(zone: u64, lat: i128) -> bool {
-    let (from, to, _) = limits(zone);
-    same_hemisphere(zone, lat) && from <= lat.abs() && (lat.abs() < to || is_polar(zone))
+/// A limit belongs to the poleward row, 90 degrees to the last (02, E5).
+fn row_holds((from, to): (i128, i128), size: i128) -> bool {
+    let pole = to == 90 && size == 90 * DEGREE;
+    (from * DEGREE <= size && size < to * DEGREE) || pole
+}
+
+/// The zone of the one row that holds the latitude's size, the southern one below 0 (02, E5).
+fn walk(lat: i128) -> u64 {
+    let mut found = None;
+    for ((north, south), degrees, _) in LIMITS {
+        if row_holds(degrees, lat.abs()) {
+            assert_eq!(found, None, "one row for {lat}");
+            found = Some(if lat < 0 { south } else { north });
+        }
+    }
+    found.expect("a row for each latitude in range")
 }
 
 /// Whether a zone covers a latitude: its basic zone, or within 1024 rows poleward (001, 3.3.3).
 pub fn covers(scale: u64, zone: u64, lat: i128) -> bool {
-    if is_basic(zone, lat) {
+    if zone == walk(lat) {
         return true;
     }
     let (_, poleward, _) = limits(zone);
@@ -96,9 +116,7 @@ pub fn basic_zone(lat: i64) -> Answer<u64> {
     if !lat_good(lat) {
         return refuse(4, 0);
     }
-    let zones: Vec<u64> = (1..=18).filter(|z| is_basic(*z, lat as i128)).collect();
-    assert_eq!(zones.len(), 1, "one basic zone for {lat}");
-    Ok(zones[0])
+    Ok(walk(lat as i128))
 }
 
 /// Cover: 1, 4. Equatorward is downward in number, on both sides of the Equator.

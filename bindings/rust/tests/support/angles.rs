@@ -8,7 +8,7 @@ use crate::rule;
 /// Each zone limit, both poles and both ends of i64, with neighbours.
 pub fn latitudes() -> Vec<i64> {
     let mut all = SIGNED_ENDS.to_vec();
-    for (from, to, _) in rule::LIMITS {
+    for (_, (from, to), _) in rule::LIMITS {
         for degree in [from as i64, to as i64] {
             all.extend([360_000 * degree, -360_000 * degree]);
         }
