@@ -1,5 +1,5 @@
--- The table by a row's place in it, 0 to 8: each column of the table is one equation that computes; and a zone number against
--- the two zones of a row. Assumes nothing.
+-- The table by a row's place in it, 0 to 8: each column of the table is one equation that computes, and so is the most that a cell has; and a zone number
+-- against the two zones of a row. Assumes nothing.
 use mathlib.Core.Path.{_≡_, refl, sym, ap, _∙_}
 use mathlib.Core.Bool.{Bool, true, false, cond, _&&_, _||_, and-eq-true-iff}
 use mathlib.Core.List.{List, [], _∷_, map}

@@ -1,4 +1,4 @@
--- What only the code needs: a row of the table by its columns. The laws that tie this to the table are in proofs/Table.antt. Definitions only.
+-- What only the code needs: a row of the table by its columns and its limits. Definitions only.
 --     cells r            a row's cells in the order of the table's columns
 --     cellAt i k         the cell in column k of the row at place i
 --     limitsOf r         a row's two limits, in hundredths of an arc-second

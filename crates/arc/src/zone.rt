@@ -3,9 +3,9 @@ use crate::Circle;
 use crate::ConstantAnswer;
 use crate::refused;
 use crate::zone_table::FROM;
+use crate::zone_table::SPACING_UNIT;
 use crate::zone_table::TABLE;
 use crate::zone_table::TO;
-use crate::zone_table::UNIT;
 ghost use mathlib.Core.Path.{_≡_};
 ghost use Rattle.arc.specs.Zones.{rowAt};
 ghost use Rattle.arc.specs.Spacing.{spacingAt, rowUnit, columnsOf, SpacingUnit};
@@ -32,7 +32,7 @@ impl Zone1 {
 
     pub const POLEWARD: u64 = TABLE[0][TO] * Circle::DEGREE;
 
-    pub const UNIT: u64 = TABLE[0][UNIT];
+    pub const UNIT: u64 = TABLE[0][SPACING_UNIT];
 
     fn spacing(scale: u64) -> u64
         ensures { λ r. ⌜ r ≡ spacingAt 722 scale ⌝ }
@@ -49,7 +49,7 @@ impl Zone2 {
 
     pub const POLEWARD: u64 = TABLE[1][TO] * Circle::DEGREE;
 
-    pub const UNIT: u64 = TABLE[1][UNIT];
+    pub const UNIT: u64 = TABLE[1][SPACING_UNIT];
 
     fn spacing(scale: u64) -> u64
         ensures { λ r. ⌜ r ≡ spacingAt 591 scale ⌝ }
@@ -66,7 +66,7 @@ impl Zone3 {
 
     pub const POLEWARD: u64 = TABLE[2][TO] * Circle::DEGREE;
 
-    pub const UNIT: u64 = TABLE[2][UNIT];
+    pub const UNIT: u64 = TABLE[2][SPACING_UNIT];
 
     fn spacing(scale: u64) -> u64
         ensures { λ r. ⌜ r ≡ spacingAt 480 scale ⌝ }
@@ -83,7 +83,7 @@ impl Zone4 {
 
     pub const POLEWARD: u64 = TABLE[3][TO] * Circle::DEGREE;
 
-    pub const UNIT: u64 = TABLE[3][UNIT];
+    pub const UNIT: u64 = TABLE[3][SPACING_UNIT];
 
     fn spacing(scale: u64) -> u64
         ensures { λ r. ⌜ r ≡ spacingAt 389 scale ⌝ }
@@ -100,7 +100,7 @@ impl Zone5 {
 
     pub const POLEWARD: u64 = TABLE[4][TO] * Circle::DEGREE;
 
-    pub const UNIT: u64 = TABLE[4][UNIT];
+    pub const UNIT: u64 = TABLE[4][SPACING_UNIT];
 
     fn spacing(scale: u64) -> u64
         ensures { λ r. ⌜ r ≡ spacingAt 319 scale ⌝ }
@@ -117,7 +117,7 @@ impl Zone6 {
 
     pub const POLEWARD: u64 = TABLE[5][TO] * Circle::DEGREE;
 
-    pub const UNIT: u64 = TABLE[5][UNIT];
+    pub const UNIT: u64 = TABLE[5][SPACING_UNIT];
 
     fn spacing(scale: u64) -> u64
         ensures { λ r. ⌜ r ≡ spacingAt 268 scale ⌝ }
@@ -134,7 +134,7 @@ impl Zone7 {
 
     pub const POLEWARD: u64 = TABLE[6][TO] * Circle::DEGREE;
 
-    pub const UNIT: u64 = TABLE[6][UNIT];
+    pub const UNIT: u64 = TABLE[6][SPACING_UNIT];
 
     fn spacing(scale: u64) -> u64
         ensures { λ r. ⌜ r ≡ spacingAt 215 scale ⌝ }
@@ -151,7 +151,7 @@ impl Zone8 {
 
     pub const POLEWARD: u64 = TABLE[7][TO] * Circle::DEGREE;
 
-    pub const UNIT: u64 = TABLE[7][UNIT];
+    pub const UNIT: u64 = TABLE[7][SPACING_UNIT];
 
     fn spacing(scale: u64) -> u64
         ensures { λ r. ⌜ r ≡ spacingAt 161 scale ⌝ }
@@ -168,7 +168,7 @@ impl Zone9 {
 
     pub const POLEWARD: u64 = TABLE[8][TO] * Circle::DEGREE;
 
-    pub const UNIT: u64 = TABLE[8][UNIT];
+    pub const UNIT: u64 = TABLE[8][SPACING_UNIT];
 
     fn spacing(scale: u64) -> u64
         ensures { λ r. ⌜ r ≡ spacingAt 782 scale ⌝ }
@@ -188,7 +188,7 @@ fn spacing_of(unit: u64, scale: u64) -> u64
     512 * ((unit * 1_000_000 - 1) / scale + 1)
 }
 
-// The limits that the zones of the row at a place, 0 to 8, carry as constants of their own kind; 0 past them (01, "Units and the zone table").
+// The limits that the zones of the row at a place, 0 to 8, carry; 0 past them. Called by no one: its promise ties these constants to the table (02, E5).
 fn carried(row: u64) -> [u64; 2]
     ensures { λ r. ⌜ r ≡ limitsOf (rowAt row) ⌝ }
 {

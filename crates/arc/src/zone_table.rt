@@ -5,7 +5,7 @@ ghost use Prim.Native.Nat.{_<_, _≤_};
 ghost use Rattle.arc.specs.Zones.{from, to, rowAt};
 ghost use Rattle.arc.specs.Steps.{cellAt};
 
-// The northern zone, the southern zone, degrees from, degrees to, A / 512.
+// The northern zone, the southern zone, degrees from, degrees to, A / 512 (01, "Units and the zone table"; 02, E5).
 pub const TABLE: [[u64; 5]; 9] = [
     [1, 10, 0, 32, 722],
     [2, 11, 32, 48, 591],
@@ -27,7 +27,7 @@ pub const FROM: usize = 2;
 
 pub const TO: usize = 3;
 
-pub const UNIT: usize = 4;
+pub const SPACING_UNIT: usize = 4;
 
 // What stands in a column of the row at a place, 0 to 8; 0 past them.
 fn cell(row: u64, column: usize) -> u64

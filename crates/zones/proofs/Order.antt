@@ -43,7 +43,7 @@ only size j h low high = let p = place size in go (ltb j (p .at)) (ltb (p .at) j
         ⊎-elim (λ x. absurd (omega (arith, to-from (p .at) j k h))) (λ x. absurd (omega arith)) (p .high)
     go false false e f = omega (arith, ltb-false j (place size .at) e, ltb-false (place size .at) j f)
 
--- the same as a test
+-- as a test: that row holds it
 pub holds-there : (size : ℕ) → holdsSize (rowAt (place size .at)) size ≡ true
 holds-there size =
     let p = place size in
@@ -51,6 +51,7 @@ holds-there size =
     rw (le-leb (from r) size (p .low), last-at (p .at) (p .in-list))
     (⊎-elim (λ h. rw (lt-ltb size (to r) h)) (λ h. rw (eq-eqb (p .at) 8 (omega arith), or-true (ltb size (to r)))) (p .high))
 
+-- and no other
 pub holds-only : (size j : ℕ) → j < 9 → holdsSize (rowAt j) size ≡ true → j ≡ place size .at
 holds-only size j h e =
     let r = rowAt j in

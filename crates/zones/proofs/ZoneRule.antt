@@ -26,9 +26,9 @@ module _ (size : ℕ) where
   there h = let p = place size in (p .low, ⊎-elim inl (λ e. last (omega arith) (ltb size quarter) refl) (p .high))
     where
       last : place size .at ≡ 8 → (t : Bool) → ltb size quarter ≡ t
-          → (size < to (printedAt (place size .at))) ⊎ ((printedAt (place size .at) .poleward ≡ 90) × (size ≡ to (printedAt (place size .at))))
+          → (size < to (printedAt (place size .at))) ⊎ ((printedAt (place size .at) .poleward ≡ 90) × (size ≡ quarter))
       last e true k = inl (omega (arith, ltb-true size quarter k, ninety (place size .at) e))
-      last e false k = inr (ap (λ (i : ℕ). rowAt i .poleward) e, omega (arith, ltb-false size quarter k, ninety (place size .at) e))
+      last e false k = inr (ap (λ (i : ℕ). rowAt i .poleward) e, omega (arith, ltb-false size quarter k))
 
   alone : (j : ℕ) → j < 9 → Holds (printedAt j) size → j ≡ place size .at
   alone j h w =
@@ -41,18 +41,18 @@ sides lat true k n s d = (inr refl, ((λ e. ltZ-yes (subst⁻¹ T k tt)), λ h. 
 sides lat false k n s d = (inl refl, ((λ e. absurd (d e)), λ h. absurd (subst T k (h .lt))))
 
 pub zone-rule : ZoneRule
-zone-rule lat e =
+zone-rule lat h =
     let p = place (natAbs lat) in
     let r = rowAt (p .at) in
     let w =
     sides lat (ltZ lat (pos 0)) refl (r .northern) (r .southern)
     (λ k. omega (arith, northern-at (p .at) (p .in-list), southern-at (p .at) (p .in-list))) in (
       zoneOn lat r,
-      rw e (ap ZoneAnswer.Zone (ap (zoneOn lat) (p .is))),
+      rw (outsides quarter lat .1 h) (ap ZoneAnswer.Zone (ap (zoneOn lat) (p .is))),
       record {
         at = p .at;
         of-nine = p .in-list;
-        holds = there (natAbs lat) (outsides quarter lat .0 e);
+        holds = there (natAbs lat) h;
         alone = alone (natAbs lat);
         of-row = w .0;
         southern-below = w .1;

@@ -56,7 +56,7 @@ fn row_holding(size: u64) -> u64
     row
 }
 
-// A latitude by the row that holds its size: the row's southern zone below 0, else its northern zone.
+// A latitude by the row that holds its size: the row's southern zone below 0, else its northern zone (02, E5).
 fn locate(lat: i64) -> Located
     ensures { λ r. ⌜ r ≡ locatedOf lat ⌝ }
 {
@@ -100,7 +100,7 @@ fn no_cover(r: Refusal) -> CoverAnswer
     }
 }
 
-// The zones from row `row` equatorward that cover a size which that row holds.
+// The zones from row `row` equatorward that cover a size which that row holds; the row at place j has the zone `first` + j.
 fn cover_from(b: u64, first: u64, row: usize, size: u64) -> CoverAnswer
     requires { ⌜ Rowed b first row size ⌝ }
     ensures { λ a. ⌜ a ≡ acceptedCover (coverFrom b first row size) ⌝ }
@@ -125,7 +125,7 @@ fn cover_from(b: u64, first: u64, row: usize, size: u64) -> CoverAnswer
     }
 }
 
-// The zones that cover a latitude at scale 1:S, the basic zone first, then equatorward; the row at place i has the zones 1 + i and 10 + i. Refuses 1, 4.
+// The zones that cover a latitude at scale 1:S, the basic zone first, then equatorward. Refuses 1, 4.
 pub fn cover(scale: u64, lat: i64) -> CoverAnswer
     ensures { λ r. ⌜ r ≡ coverOf scale lat ⌝ }
 {
