@@ -1,19 +1,19 @@
 -- The table by a row's place in it, 0 to 8: each column of the table is one equation that computes, and so is the most that a cell has; and a zone number
 -- against the two zones of a row. Assumes nothing.
 use mathlib.Core.Path.{_≡_, refl, sym, ap, _∙_}
-use mathlib.Core.Bool.{Bool, true, false, cond, _&&_, _||_, and-eq-true-iff}
+use mathlib.Core.Bool.{Bool, true, false, cond, _&&_, _||_, and-eq-true-iff, false≢true}
 use mathlib.Core.List.{List, [], _∷_, map}
 use mathlib.Core.Logic.{_⊎_, inl, inr, ⊎-elim}
 use mathlib.Core.Option.{some}
 use Prim.Native.Nat.{ℕ, zero, suc, _+_, _≤_, _<_}
 use native.Mathlib.Nat.{zero-add}
 use native.Mathlib.Omega.{arith}
-use borrow.Author.Tests.{leb-true, ltb-true, ne-eqb}
+use borrow.Author.Tests.{leb-true, ltb-true, eqb-true, ne-eqb}
 use lib.Dec.{leb, ltb, eqb}
 use lib.ListN.{length, getD, List·getD-eq-default}
 use Rattle.whole.specs.Lists.{upFrom}
 use Rattle.whole.proofs.Lists.{agree, upFrom-at}
-use Rattle.arc.specs.Zones.{Row, table, hasZone, rowIn, tableRow, isPolar, from, to, rowAt, noRow}
+use Rattle.arc.specs.Zones.{quarter, Row, table, hasZone, rowIn, tableRow, isPolar, from, to, rowAt, noRow}
 use Rattle.arc.specs.Steps.{cells, cellAt}
 
 module _ (i : ℕ) (h : i < 9) where
@@ -42,8 +42,8 @@ module _ (i : ℕ) (h : i < 9) where
   pub from-to : from (rowAt i) < to (rowAt i)
   from-to = ltb-true (from (rowAt i)) (to (rowAt i)) (column (λ (r : Row). ltb (from r) (to r)) (λ (n : ℕ). true) 0 refl)
 
-  pub to-least : 1 < to (rowAt i)
-  to-least = ltb-true 1 (to (rowAt i)) (column (λ (r : Row). ltb 1 (to r)) (λ (n : ℕ). true) 0 refl)
+  pub to-most : to (rowAt i) ≤ quarter
+  to-most = leb-true (to (rowAt i)) quarter (column (λ (r : Row). leb (to r) quarter) (λ (n : ℕ). true) 0 refl)
 
   -- a zone of the row, on either side of the Equator
   pub zone-row : (zone : ℕ) → (zone ≡ 1 + i) ⊎ (zone ≡ 10 + i) → tableRow zone ≡ some (rowAt i)
@@ -58,6 +58,38 @@ found-at (q ∷ rs) zone r e = go (hasZone q zone) e (λ k. found-at rs zone r k
         → (j : ℕ) × (j < length (q ∷ rs)) × (getD (q ∷ rs) j noRow ≡ r)
     go true p k = (0, omega arith, cc)
     go false p k = let w = k p in (suc (w .0), omega (arith, w .1), w .2)
+
+-- a row that is found has the zone
+found-has : (rs : List Row) (zone : ℕ) (r : Row) → rowIn rs zone ≡ some r → hasZone r zone ≡ true
+found-has [] zone r e = let z : _≡_ {A = ℕ} 0 1 = cc in absurd (omega arith)
+found-has (q ∷ rs) zone r e = go (hasZone q zone) refl e (λ k. found-has rs zone r k)
+  where
+    go : (t : Bool) → hasZone q zone ≡ t → cond t (some q) (rowIn rs zone) ≡ some r → (rowIn rs zone ≡ some r → hasZone r zone ≡ true) → hasZone r zone ≡ true
+    go true k p f = let g : q ≡ r = cc in rw g at k
+    go false k p f = f p
+
+-- a zone of the table by its row's place
+pub record Placed (zone : ℕ) (r : Row) : Type 0 where
+  pub at : ℕ
+  pub in-table : at < 9
+  pub is-row : rowAt at ≡ r
+  pub is-zone : (zone ≡ 1 + at) ⊎ (zone ≡ 10 + at)
+
+pub placed : (zone : ℕ) (r : Row) → tableRow zone ≡ some r → Placed zone r
+placed zone r e =
+    let w = found-at table zone r e in
+    record {
+      at = w .0;
+      in-table = w .1;
+      is-row = w .2;
+      is-zone = go (eqb zone (r .northern)) (eqb zone (r .southern)) refl refl (found-has table zone r e) (w .0) (w .1) (w .2);
+    }
+  where
+    go : (n s : Bool) → eqb zone (r .northern) ≡ n → eqb zone (r .southern) ≡ s → n || s ≡ true → (j : ℕ) → j < 9 → rowAt j ≡ r
+        → (zone ≡ 1 + j) ⊎ (zone ≡ 10 + j)
+    go true s p q t j h k = inl (eqb-true zone (r .northern) p ∙ sym (ap (λ (x : Row). x .northern) k) ∙ northern-at j h)
+    go false true p q t j h k = inr (eqb-true zone (r .southern) q ∙ sym (ap (λ (x : Row). x .southern) k) ∙ southern-at j h)
+    go false false p q t j h k = absurd (false≢true t)
 
 pub neither : (n s zone : ℕ) → ((zone ≡ n) ⊎ (zone ≡ s) → ⊥) → eqb zone n || eqb zone s ≡ false
 neither n s zone f = rw (ne-eqb zone n (λ e. f (inl e)), ne-eqb zone s (λ e. f (inr e)))

@@ -1,215 +1,192 @@
--- A zone and a rectangle by sizes of latitude: on the zone's side of the Equator the rectangle is a stretch of sizes, low to high, and the
--- zone covers some latitude of it where its row starts no farther than high and reaches low. Assumes nothing.
+-- A zone and a rectangle by sizes of latitude: on the zone's side of the Equator the rectangle is a stretch of sizes, low to high, and the two share
+-- a stretch where the zone's row starts before high and reaches low. Assumes nothing.
 use mathlib.Core.Path.{_≡_, refl, sym, ap, _∙_}
-use mathlib.Core.Bool.{Bool, true, false, _&&_, _||_, and-eq-true-iff}
-use mathlib.Mathlib.Data.Bool.Basic.{eq-false-of-not-eq-true}
-use Prim.Native.Nat.{ℕ, zero, suc, _+_, _-_, _*_, _≤_, _<_}
-use native.Mathlib.Nat.{mul-le-mul-right}
+use mathlib.Core.Bool.{Bool, true, false, cond, _||_, and-eq-true-iff}
+use Prim.Native.Nat.{ℕ, _+_, _-_, _*_, _≤_, _<_}
+use native.Mathlib.Nat.{add-mul, mul-le-mul-right, mul-lt-mul-of-pos-right, lt-of-mul-lt-mul-right}
 use native.Mathlib.Omega.{arith}
-use borrow.Author.Tests.{ltb-true, ltb-false, lt-ltb, le-ltb, le-leb, leb-true}
-use lib.Dec.{leb, ltb}
-use lib.IntN.{ℤ, pos, negsuc, _-ℤ_}
-use lib.Signed.{_≤ℤ_}
-use Rattle.whole.proofs.Signed.{is-nat, is-difference, is-le, le-is}
+use borrow.Author.Tests.{ltb-true, ltb-false, lt-ltb, eq-eqb, ne-eqb}
+use lib.Dec.{ltb}
+use lib.IntN.{ℤ, pos, negℤ, _-ℤ_, _*ℤ_}
+use lib.Signed.{ltZ}
+use Rattle.whole.proofs.Signed.{Is, is-nat, is-neg, is-mul, is-lt, lt-is, is-difference}
 use Rattle.arc.specs.Zones.{circle, quarter, isPolar, Row, from, to, rowAt}
-use Rattle.zones.specs.Cover.{covers}
-use Rattle.zones.specs.Steps.{reaches}
-use Rattle.arc.proofs.Table.{from-to, to-least}
-use Rattle.zones.proofs.Covering.{covers-is, own-side}
-use Rattle.rectangle.specs.Rectangle.{coversSome, Covered}
-use Rattle.rectangle.specs.Steps.{meets, Sides}
-use Rattle.rectangle.proofs.Some.{somes}
+use Rattle.arc.proofs.Table.{southern-at, row-north, row-south, from-to, to-most}
+use Rattle.zones.specs.Steps.{reaches, Rows}
+use Rattle.rectangle.specs.Stretch.{polewardEnd, Stretch, zoneStretch, sheetStretch, larger, smaller, sharesHeight, sharesIn, shares}
+use Rattle.rectangle.specs.Steps.{sharesRow, Sides}
+use Rattle.rectangle.proofs.Ends.{Crossed, crossed, shared}
 
 same : (x y : Bool) → (x ≡ true → y ≡ true) → (y ≡ true → x ≡ true) → x ≡ y
 same true y f g = sym (f refl)
 same false true f g = g refl
 same false false f g = refl
 
--- a size that a row covers
-abbrev In : ℕ → ℕ → ℕ → Type 0
-In b j s = leb (from (rowAt j)) s && reaches b (rowAt j) s ≡ true
+-- the stretch of a northern zone and of a southern one
+abbrev pub northern : ℕ → Row → Stretch
+northern b r = record { southEnd = pos (from r * b); northEnd = pos (polewardEnd b r) }
+
+abbrev pub southern : ℕ → Row → Stretch
+southern b r = record { southEnd = negℤ (pos (polewardEnd b r)); northEnd = negℤ (pos (from r * b)) }
 
 module _ (b j : ℕ) (h : j < 9) where
-  -- what reaches a size reaches every smaller one
-  nearer : (low s : ℕ) → low ≤ s → reaches b (rowAt j) s ≡ true → reaches b (rowAt j) low ≡ true
-  nearer low s l e = go (ltb low (to r)) (isPolar (r .northern)) refl e
-    where
-      r : Row
-      r = rowAt j
+  pub stretch-north : zoneStretch b (1 + j) (rowAt j) ≡ northern b (rowAt j)
+  stretch-north =
+      ap (λ (t : Bool). cond t (southern b (rowAt j)) (northern b (rowAt j)))
+      (ne-eqb (1 + j) (rowAt j .southern) (λ e. omega (arith, southern-at j h)))
 
-      go : (x p : Bool) → ltb low (to (rowAt j)) ≡ x → (ltb s (to (rowAt j)) || p) || ltb ((s - to (rowAt j)) * b) (1024 * circle) ≡ true
-          → (x || p) || ltb ((low - to (rowAt j)) * b) (1024 * circle) ≡ true
-      go true p q t = refl
-      go false true q t = refl
-      go false false q t =
-          let u : ltb ((s - to (rowAt j)) * b) (1024 * circle) ≡ true =
-          rw (le-ltb s (to (rowAt j)) (omega (arith, ltb-false low (to (rowAt j)) q))) at t in
-          let m : (low - to (rowAt j)) * b ≤ (s - to (rowAt j)) * b = mul-le-mul-right b (omega arith) in
-          lt-ltb ((low - to (rowAt j)) * b) (1024 * circle) (omega (arith, ltb-true ((s - to (rowAt j)) * b) (1024 * circle) u))
+  pub stretch-south : zoneStretch b (10 + j) (rowAt j) ≡ southern b (rowAt j)
+  stretch-south =
+      ap (λ (t : Bool). cond t (southern b (rowAt j)) (northern b (rowAt j))) (eq-eqb (10 + j) (rowAt j .southern) (sym (southern-at j h)))
 
-  -- the row meets the stretch at some size of it, e being 0 or 1
-  met : (e low high : ℕ) → e ≤ 1 → e ≤ high → low ≤ high → meets b (rowAt j) low high ≡ true
-      → (s : ℕ) × (e ≤ s) × (low ≤ s) × (s ≤ high) × In b j s
-  unfolding meets
-  met e low high e1 eh lh t =
-      let w = and-eq-true-iff (leb (from (rowAt j)) high) (reaches b (rowAt j) low) .0 t in
-      go (ltb low (from (rowAt j))) refl (leb-true (from (rowAt j)) high (w .0)) (w .1)
-    where
-      near : (s : ℕ) → from (rowAt j) ≤ s → reaches b (rowAt j) s ≡ true → In b j s
-      near s f r = rw (le-leb (from (rowAt j)) s f, r)
+  -- a rectangle from a − c to d − e on the zone's side, not empty and not beyond the pole
+  module _ (g : Rows b) (a c d e : ℕ) (o : a + e < d + c) (m : d ≤ e + quarter) where
+    -- the row starts before the rectangle ends, and ends after it starts
+    pub record Ends : Type 0 where
+      pub starts : from (rowAt j) * b + e * b < d * b
+      pub reach : a * b < polewardEnd b (rowAt j) + c * b
 
-      early : (s : ℕ) → s < to (rowAt j) → reaches b (rowAt j) s ≡ true
-      early s k = rw (lt-ltb s (to (rowAt j)) k)
+    abbrev start : ℕ
+    start = from (rowAt j) * b
 
-      go : (x : Bool) → ltb low (from (rowAt j)) ≡ x → from (rowAt j) ≤ high → reaches b (rowAt j) low ≡ true
-          → (s : ℕ) × (e ≤ s) × (low ≤ s) × (s ≤ high) × In b j s
-      go true p f r = (
-        from (rowAt j),
-        omega (arith, ltb-true low (from (rowAt j)) p),
-        omega (arith, ltb-true low (from (rowAt j)) p),
-        f,
-        near (from (rowAt j)) (omega arith) (early (from (rowAt j)) (from-to j h)),
-      )
-      go false p f r = at-low (ltb low e) refl (ltb-false low (from (rowAt j)) p) r
-        where
-          at-low : (x : Bool) → ltb low e ≡ x → from (rowAt j) ≤ low → reaches b (rowAt j) low ≡ true
-              → (s : ℕ) × (e ≤ s) × (low ≤ s) × (s ≤ high) × In b j s
-          at-low true q k r = (
-            1,
-            e1,
-            omega (arith, ltb-true low e q),
-            omega (arith, ltb-true low e q),
-            near 1 (omega (arith, ltb-true low e q)) (early 1 (to-least j h)),
-          )
-          at-low false q k r = (low, ltb-false low e q, omega arith, lh, near low k r)
+    abbrev end : ℕ
+    end = polewardEnd b (rowAt j)
 
-  unmet : (low high s : ℕ) → low ≤ s → s ≤ high → In b j s → meets b (rowAt j) low high ≡ true
-  unfolding meets
-  unmet low high s l k t =
-      let w = and-eq-true-iff (leb (from (rowAt j)) s) (reaches b (rowAt j) s) .0 t in
-      rw (le-leb (from (rowAt j)) high (omega (arith, leb-true (from (rowAt j)) s (w .0))), nearer low s l (w .1))
+    some : 0 < b
+    some = omega (arith, g .least)
 
-  -- a latitude on the zone's side, and on the other
-  north-in : (s : ℕ) → covers b (pos s) (1 + j) ≡ leb (from (rowAt j)) s && reaches b (rowAt j) s
-  north-in s = rw (le-ltb s 0 (omega arith)) at (covers-is b j h (pos s))
-
-  south-in : (n : ℕ) → covers b (negsuc n) (10 + j) ≡ leb (from (rowAt j)) (suc n) && reaches b (rowAt j) (suc n)
-  south-in n = covers-is b j h (negsuc n)
-
-  not-north : (n : ℕ) → covers b (negsuc n) (1 + j) ≡ false
-  not-north n = eq-false-of-not-eq-true (λ e. let w = own-side b (negsuc n) (1 + j) e in let z : 1 + j ≡ 10 + w .0 = w .2 in omega arith)
-
-  not-south : (s : ℕ) → covers b (pos s) (10 + j) ≡ false
-  not-south s =
-      eq-false-of-not-eq-true (λ e.
-      let w = own-side b (pos s) (10 + j) e in
-      let z : 10 + j ≡ 1 + w .0 = rw (le-ltb s 0 (omega arith)) at (w .2) in omega (arith, w .1))
-
-  -- the rectangle, its edges counted from the South Pole
-  module _ (S N : ℕ) (o : S ≤ N) where
-    abbrev south : ℤ
-    south = pos S -ℤ pos quarter
-
-    abbrev north : ℤ
-    north = pos N -ℤ pos quarter
-
-    order : south ≤ℤ north
-    order = is-le (pos S -ℤ pos quarter) (pos N -ℤ pos quarter) S quarter N quarter (is-difference S quarter) (is-difference N quarter) (omega arith)
-
-    low-pos : (s : ℕ) → south ≤ℤ pos s → S ≤ s + quarter
-    low-pos s p = omega (arith, le-is (pos S -ℤ pos quarter) (pos s) S quarter s 0 (is-difference S quarter) (is-nat s) p)
-
-    high-pos : (s : ℕ) → pos s ≤ℤ north → s + quarter ≤ N
-    high-pos s p = omega (arith, le-is (pos s) (pos N -ℤ pos quarter) s 0 N quarter (is-nat s) (is-difference N quarter) p)
-
-    low-neg : (n : ℕ) → south ≤ℤ negsuc n → S + suc n ≤ quarter
-    low-neg n p = omega (arith, le-is (pos S -ℤ pos quarter) (negsuc n) S quarter 0 (suc n) (is-difference S quarter) (omega arith) p)
-
-    high-neg : (n : ℕ) → negsuc n ≤ℤ north → quarter ≤ N + suc n
-    high-neg n p = omega (arith, le-is (negsuc n) (pos N -ℤ pos quarter) 0 (suc n) N quarter (omega arith) (is-difference N quarter) p)
-
-    -- the northern zone of the row, and the southern
-    north-size : Covered b south north (1 + j) → (s : ℕ) × (S ≤ s + quarter) × (s + quarter ≤ N) × In b j s
-    north-size w = go (w .lat) (w .above) (w .below) (w .in-zone)
+    from-ends : Ends → sharesRow b (rowAt j) (a - c) (d - e) ≡ true
+    unfolding sharesRow
+    from-ends w =
+        let f : from (rowAt j) + e < d = lt-of-mul-lt-mul-right b (omega (arith, add-mul (from (rowAt j)) e b)) in
+        rw (lt-ltb (from (rowAt j)) (d - e) (omega arith))
+        (go (ltb (a - c) (to (rowAt j))) (isPolar (rowAt j .northern)) refl refl (w .reach))
       where
-        go : (lat : ℤ) → south ≤ℤ lat → lat ≤ℤ north → covers b lat (1 + j) ≡ true
-            → (s : ℕ) × (S ≤ s + quarter) × (s + quarter ≤ N) × In b j s
-        go (pos s) p q e = (s, low-pos s p, high-pos s q, sym (north-in s) ∙ e)
-        go (negsuc n) p q e = let x : false ≡ true = sym (not-north n) ∙ e in let z : _≡_ {A = ℕ} 0 1 = cc in absurd (omega arith)
+        go : (t p : Bool) → ltb (a - c) (to (rowAt j)) ≡ t → isPolar (rowAt j .northern) ≡ p
+            → a * b < cond p (quarter * b) (to (rowAt j) * b + 1024 * circle) + c * b
+            → (t || p) || ltb ((a - c - to (rowAt j)) * b) (1024 * circle) ≡ true
+        go true p q k l = refl
+        go false true q k l = refl
+        go false false q k l =
+            let f : to (rowAt j) ≤ a - c = ltb-false (a - c) (to (rowAt j)) q in
+            let s : a * b ≡ (c + to (rowAt j)) * b + (a - c - to (rowAt j)) * b =
+            ap (λ (n : ℕ). n * b) (omega (arith, from-to j h)) ∙ add-mul (c + to (rowAt j)) (a - c - to (rowAt j)) b in
+            lt-ltb ((a - c - to (rowAt j)) * b) (1024 * circle) (omega (arith, add-mul c (to (rowAt j)) b))
 
-    south-size : Covered b south north (10 + j) → (n : ℕ) × (S + suc n ≤ quarter) × (quarter ≤ N + suc n) × In b j (suc n)
-    south-size w = go (w .lat) (w .above) (w .below) (w .in-zone)
+    to-ends : sharesRow b (rowAt j) (a - c) (d - e) ≡ true → Ends
+    unfolding sharesRow
+    to-ends t =
+        let w = and-eq-true-iff (ltb (from (rowAt j)) (d - e)) (reaches b (rowAt j) (a - c)) .0 t in
+        let f : from (rowAt j) + e < d = omega (arith, ltb-true (from (rowAt j)) (d - e) (w .0)) in
+        record {
+          starts = omega (arith, mul-lt-mul-of-pos-right f some, add-mul (from (rowAt j)) e b);
+          reach = go (ltb (a - c) (to (rowAt j))) (isPolar (rowAt j .northern)) refl refl (w .1);
+        }
       where
-        go : (lat : ℤ) → south ≤ℤ lat → lat ≤ℤ north → covers b lat (10 + j) ≡ true
-            → (n : ℕ) × (S + suc n ≤ quarter) × (quarter ≤ N + suc n) × In b j (suc n)
-        go (pos s) p q e = let x : false ≡ true = sym (not-south s) ∙ e in let z : _≡_ {A = ℕ} 0 1 = cc in absurd (omega arith)
-        go (negsuc n) p q e = (n, low-neg n p, high-neg n q, sym (south-in n) ∙ e)
+        -- a is below c and the limit
+        sooner : (k : ℕ) → a < k + c → a * b < k * b + c * b
+        sooner k l = omega (arith, mul-lt-mul-of-pos-right l some, add-mul k c b)
 
-    -- and back from a size to a latitude of the rectangle
-    north-lat : (s : ℕ) → S ≤ s + quarter → s + quarter ≤ N → In b j s → Covered b south north (1 + j)
-    north-lat s p q t =
-        record {
-          lat = pos s;
-          above = is-le (pos S -ℤ pos quarter) (pos s) S quarter s 0 (is-difference S quarter) (is-nat s) (omega arith);
-          below = is-le (pos s) (pos N -ℤ pos quarter) s 0 N quarter (is-nat s) (is-difference N quarter) (omega arith);
-          in-zone = north-in s ∙ t;
-        }
+        go : (t p : Bool) → ltb (a - c) (to (rowAt j)) ≡ t → isPolar (rowAt j .northern) ≡ p
+            → (t || p) || ltb ((a - c - to (rowAt j)) * b) (1024 * circle) ≡ true
+            → a * b < cond p (quarter * b) (to (rowAt j) * b + 1024 * circle) + c * b
+        go t true q k l = sooner quarter (omega arith)
+        go true false q k l = omega (arith, sooner (to (rowAt j)) (omega (arith, ltb-true (a - c) (to (rowAt j)) q)))
+        go false false q k l =
+            let s : a * b ≤ (c + to (rowAt j) + (a - c - to (rowAt j))) * b = mul-le-mul-right b (omega arith) in
+            omega (
+              arith,
+              add-mul (c + to (rowAt j)) (a - c - to (rowAt j)) b,
+              add-mul c (to (rowAt j)) b,
+              ltb-true ((a - c - to (rowAt j)) * b) (1024 * circle) l,
+            )
 
-    south-lat : (s : ℕ) → 1 ≤ s → S + s ≤ quarter → quarter ≤ N + s → In b j s → Covered b south north (10 + j)
-    south-lat zero i p q t = absurd (omega arith)
-    south-lat (suc n) i p q t =
-        record {
-          lat = negsuc n;
-          above = is-le (pos S -ℤ pos quarter) (negsuc n) S quarter 0 (suc n) (is-difference S quarter) (omega arith) (omega arith);
-          below = is-le (negsuc n) (pos N -ℤ pos quarter) 0 (suc n) N quarter (omega arith) (is-difference N quarter) (omega arith);
-          in-zone = south-in n ∙ t;
-        }
+    -- what is always so: the row ends after it starts, and the rectangle does
+    row-height : start < end
+    row-height = go (isPolar (rowAt j .northern))
+      where
+        go : (p : Bool) → from (rowAt j) * b < cond p (quarter * b) (to (rowAt j) * b + 1024 * circle)
+        go true = mul-lt-mul-of-pos-right (omega (arith, from-to j h, to-most j h)) some
+        go false = omega (arith, mul-lt-mul-of-pos-right (from-to j h) some)
 
-    north-is : quarter ≤ N → coversSome b south north (1 + j) ≡ meets b (rowAt j) (S - quarter) (N - quarter)
-    north-is k =
-        same (coversSome b south north (1 + j)) (meets b (rowAt j) (S - quarter) (N - quarter))
-        (λ t. let w = north-size (somes b south north (1 + j) order .0 t) in
-        unmet (S - quarter) (N - quarter) (w .0) (omega (arith, w .1)) (omega (arith, w .2)) (w .3))
-        (λ t. let w = met 0 (S - quarter) (N - quarter) (omega arith) (omega arith) (omega arith) t in
-        somes b south north (1 + j) order .1 (north-lat (w .0) (omega (arith, w .2)) (omega (arith, w .3)) (w .4)))
+    height : a * b + e * b < d * b + c * b
+    height = omega (arith, mul-lt-mul-of-pos-right o some, add-mul a e b, add-mul d c b)
 
-    north-none : N < quarter → coversSome b south north (1 + j) ≡ false
-    north-none k = eq-false-of-not-eq-true (λ t. let w = north-size (somes b south north (1 + j) order .0 t) in omega (arith, w .2))
+    -- two stretches that cross where the row and the rectangle do
+    told : (x u y v : ℤ) → (Crossed x u y v → Ends) → (Ends → Crossed x u y v)
+        → ltZ (larger x y) (smaller u v) ≡ sharesRow b (rowAt j) (a - c) (d - e)
+    told x u y v f k =
+        same (ltZ (larger x y) (smaller u v)) (sharesRow b (rowAt j) (a - c) (d - e)) (λ t. from-ends (f (crossed x u y v t)))
+        (λ t. shared x u y v (k (to-ends t)))
 
-    south-is : S < quarter → coversSome b south north (10 + j) ≡ meets b (rowAt j) (quarter - N) (quarter - S)
-    south-is k =
-        same (coversSome b south north (10 + j)) (meets b (rowAt j) (quarter - N) (quarter - S))
-        (λ t. let w = south-size (somes b south north (10 + j) order .0 t) in
-        unmet (quarter - N) (quarter - S) (suc (w .0)) (omega (arith, w .2)) (omega (arith, w .1)) (w .3))
-        (λ t. let w = met 1 (quarter - N) (quarter - S) (omega arith) (omega arith) (omega arith) t in
-        somes b south north (10 + j) order .1 (south-lat (w .0) (w .1) (omega (arith, w .3)) (omega (arith, w .2)) (w .4)))
+    module _ (south north : ℤ) where
+      abbrev y : ℤ
+      y = south *ℤ pos b
 
-    south-none : quarter ≤ S → coversSome b south north (10 + j) ≡ false
-    south-none k = eq-false-of-not-eq-true (λ t. let w = south-size (somes b south north (10 + j) order .0 t) in omega (arith, w .1))
+      abbrev v : ℤ
+      v = north *ℤ pos b
 
--- by the zone's number, as `covers_some` is asked
+      pub on-north : Is south a c → Is north d e → shares b south north (1 + j) ≡ sharesRow b (rowAt j) (a - c) (d - e)
+      unfolding shares
+      on-north p q =
+          let f = is-nat start in
+          let t = is-nat end in
+          let i = is-mul south b a c p in
+          let k = is-mul north b d e q in
+          ap (sharesIn b south north (1 + j)) (row-north j h)
+          ∙ ap (λ (z : Stretch). sharesHeight z (sheetStretch b south north)) stretch-north
+          ∙ told (pos start) (pos end) y v
+          (λ w.
+          record {
+            starts = omega (arith, lt-is (pos start) v start 0 (d * b) (e * b) f k (w .xv));
+            reach = omega (arith, lt-is y (pos end) (a * b) (c * b) end 0 i t (w .yu));
+          })
+          (λ w.
+          record {
+            xu = is-lt (pos start) (pos end) start 0 end 0 f t (omega (arith, row-height));
+            xv = is-lt (pos start) v start 0 (d * b) (e * b) f k (omega (arith, w .starts));
+            yu = is-lt y (pos end) (a * b) (c * b) end 0 i t (omega (arith, w .reach));
+            yv = is-lt y v (a * b) (c * b) (d * b) (e * b) i k (omega (arith, height));
+          })
+
+      pub on-south : Is south e d → Is north c a → shares b south north (10 + j) ≡ sharesRow b (rowAt j) (a - c) (d - e)
+      unfolding shares
+      on-south p q =
+          let f = is-neg (pos start) start 0 (is-nat start) in
+          let t = is-neg (pos end) end 0 (is-nat end) in
+          let i = is-mul south b e d p in
+          let k = is-mul north b c a q in
+          ap (sharesIn b south north (10 + j)) (row-south j h)
+          ∙ ap (λ (z : Stretch). sharesHeight z (sheetStretch b south north)) stretch-south
+          ∙ told (negℤ (pos end)) (negℤ (pos start)) y v
+          (λ w.
+          record {
+            starts = omega (arith, lt-is y (negℤ (pos start)) (e * b) (d * b) 0 start i f (w .yu));
+            reach = omega (arith, lt-is (negℤ (pos end)) v 0 end (c * b) (a * b) t k (w .xv));
+          })
+          (λ w.
+          record {
+            xu = is-lt (negℤ (pos end)) (negℤ (pos start)) 0 end 0 start t f (omega (arith, row-height));
+            xv = is-lt (negℤ (pos end)) v 0 end (c * b) (a * b) t k (omega (arith, w .reach));
+            yu = is-lt y (negℤ (pos start)) (e * b) (d * b) 0 start i f (omega (arith, w .starts));
+            yv = is-lt y v (e * b) (d * b) (c * b) (a * b) i k (omega (arith, height));
+          })
+
+-- by the zone's number, the rectangle's edges counted from the South Pole, as `zone_shares` is asked
 module _ (b zone S N : ℕ) (g : Sides b zone S N) where
-  abbrev some : Bool
-  some = coversSome b (pos S -ℤ pos quarter) (pos N -ℤ pos quarter) zone
+  abbrev listed : ℕ → Bool
+  listed = shares b (pos S -ℤ pos quarter) (pos N -ℤ pos quarter)
 
-  by-one : zone ≡ 1 + (zone - 1)
-  by-one = omega (arith, g .some-zone)
+  pub in-north : zone ≤ 9 → listed zone ≡ sharesRow b (rowAt (zone - 1)) (S - quarter) (N - quarter)
+  in-north h =
+      let e : zone ≡ 1 + (zone - 1) = omega (arith, g .some-zone) in
+      ap listed e
+      ∙ on-north b (zone - 1) (omega arith) (g .rows) S quarter N quarter (omega (arith, g .order)) (omega (arith, g .pole))
+      (pos S -ℤ pos quarter) (pos N -ℤ pos quarter) (is-difference S quarter) (is-difference N quarter)
 
-  by-ten : 9 < zone → zone ≡ 10 + (zone - 10)
-  by-ten h = omega arith
-
-  pub in-north : zone ≤ 9 → quarter ≤ N → some ≡ meets b (rowAt (zone - 1)) (S - quarter) (N - quarter)
-  in-north h k =
-      ap (coversSome b (pos S -ℤ pos quarter) (pos N -ℤ pos quarter)) by-one ∙ north-is b (zone - 1) (omega (arith, g .some-zone)) S N (g .order) k
-
-  pub off-north : zone ≤ 9 → N < quarter → some ≡ false
-  off-north h k =
-      ap (coversSome b (pos S -ℤ pos quarter) (pos N -ℤ pos quarter)) by-one ∙ north-none b (zone - 1) (omega (arith, g .some-zone)) S N (g .order) k
-
-  pub in-south : 9 < zone → S < quarter → some ≡ meets b (rowAt (zone - 10)) (quarter - N) (quarter - S)
-  in-south h k =
-      ap (coversSome b (pos S -ℤ pos quarter) (pos N -ℤ pos quarter)) (by-ten h) ∙ south-is b (zone - 10) (omega (arith, g .last-zone)) S N (g .order) k
-
-  pub off-south : 9 < zone → quarter ≤ S → some ≡ false
-  off-south h k =
-      ap (coversSome b (pos S -ℤ pos quarter) (pos N -ℤ pos quarter)) (by-ten h) ∙ south-none b (zone - 10) (omega (arith, g .last-zone)) S N (g .order) k
+  pub in-south : 9 < zone → listed zone ≡ sharesRow b (rowAt (zone - 10)) (quarter - N) (quarter - S)
+  in-south h =
+      let e : zone ≡ 10 + (zone - 10) = omega arith in
+      ap listed e
+      ∙ on-south b (zone - 10) (omega (arith, g .last-zone)) (g .rows) quarter N quarter S (omega (arith, g .order)) (omega arith)
+      (pos S -ℤ pos quarter) (pos N -ℤ pos quarter) (is-difference S quarter) (is-difference N quarter)

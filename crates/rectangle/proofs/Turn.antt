@@ -9,11 +9,12 @@ use lib.IntN.{pos, _-ℤ_}
 use Rattle.arc.specs.Zones.{quarter}
 use Rattle.whole.specs.Lists.{upFrom}
 use Rattle.whole.proofs.Lists.{Sofar, taken, passed}
-use Rattle.rectangle.specs.Rectangle.{coversSome, rectangleZones}
+use Rattle.rectangle.specs.Stretch.{shares}
+use Rattle.rectangle.specs.Rectangle.{rectangleZones}
 
 module _ (b S N : ℕ) where
   abbrev f : ℕ → Bool
-  f = coversSome b (pos S -ℤ pos quarter) (pos N -ℤ pos quarter)
+  f = shares b (pos S -ℤ pos quarter) (pos N -ℤ pos quarter)
 
   abbrev all : List ℕ
   all = rectangleZones b (pos S -ℤ pos quarter) (pos N -ℤ pos quarter)

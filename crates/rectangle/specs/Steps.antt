@@ -1,20 +1,20 @@
 -- What only the code needs: how it asks of a row and a stretch of sizes of latitude. The law that ties it to the rectangle is in proofs/.
 -- Definitions only.
---     meets b r low high     the row covers some size from low to high
---     Sides                  what `covers_some` is handed
-use Prim.Native.Nat.{ℕ, _≤_}
+--     sharesRow b r low high     the row shares a stretch of more than zero height with the sizes from low to high, low being below high
+--     Sides                      what `zone_shares` is handed
+use Prim.Native.Nat.{ℕ, _≤_, _<_}
 use mathlib.Core.Bool.{Bool, _&&_}
-use lib.Dec.{leb}
+use lib.Dec.{ltb}
 use Rattle.arc.specs.Zones.{half, Row, from}
 use Rattle.zones.specs.Steps.{reaches, Rows}
 
-unfoldable pub meets : ℕ → Row → ℕ → ℕ → Bool
-meets b r low high = leb (from r) high && reaches b r low
+unfoldable pub sharesRow : ℕ → Row → ℕ → ℕ → Bool
+sharesRow b r low high = ltb (from r) high && reaches b r low
 
 -- a zone, and a rectangle whose edges are counted from the South Pole
 pub record Sides (b zone south north : ℕ) : Type 0 where
   pub rows : Rows b
   pub some-zone : 1 ≤ zone
   pub last-zone : zone ≤ 18
-  pub order : south ≤ north
+  pub order : south < north
   pub pole : north ≤ half

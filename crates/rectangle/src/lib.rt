@@ -1,4 +1,4 @@
-// The zones that cover some latitude of a rectangle (001, 3.3.3).
+// The zones that share a stretch of latitude with a rectangle (02, E3; 001, 3.3.3).
 use arc::Circle;
 use arc::ConstantAnswer;
 use arc::Overlap;
@@ -10,8 +10,9 @@ ghost use Prim.Native.Nat.{_-_, _<_, _≤_};
 ghost use lib.IntN.{pos, _-ℤ_};
 ghost use Rattle.arc.specs.Zones.{half, quarter, rowAt};
 ghost use Rattle.zones.specs.Steps.{Rows};
-ghost use Rattle.rectangle.specs.Rectangle.{coversSome, rectangleZones, acceptedRectangle, refusedRectangle, rectangleAt, rectangleOf};
-ghost use Rattle.rectangle.specs.Steps.{meets, Sides};
+ghost use Rattle.rectangle.specs.Stretch.{shares};
+ghost use Rattle.rectangle.specs.Rectangle.{rectangleZones, acceptedRectangle, refusedRectangle, rectangleAt, rectangleOf};
+ghost use Rattle.rectangle.specs.Steps.{sharesRow, Sides};
 
 // The zones of a rectangle: the first `length` slots, the others 0.
 pub struct RectangleAnswer {
@@ -41,14 +42,14 @@ fn less(a: u64, b: u64) -> u64
     a - b
 }
 
-// Whether a row covers some size of latitude from low to high.
-fn row_meets(b: u64, row: u64, low: u64, high: u64) -> bool
+// Whether a row shares a stretch with the sizes of latitude from low to high, low being below high.
+fn row_shares(b: u64, row: u64, low: u64, high: u64) -> bool
     requires { ⌜ Rows b ⌝ ∗ ⌜ row < 9 ⌝ ∗ ⌜ low ≤ half ⌝ }
-    ensures { λ r. ⌜ r ≡ meets b (rowAt row) low high ⌝ }
+    ensures { λ r. ⌜ r ≡ sharesRow b (rowAt row) low high ⌝ }
 {
     let from = arc::equatorward(row);
     let to = arc::poleward(row);
-    if high < from {
+    if high <= from {
         return false;
     }
     if (low < to) | (row == 8) {
@@ -57,43 +58,37 @@ fn row_meets(b: u64, row: u64, low: u64, high: u64) -> bool
     less(low, to) * b < Overlap::ANGLE
 }
 
-// Whether a zone covers some latitude of a rectangle whose edges are counted from the South Pole.
-fn covers_some(b: u64, zone: u64, south: u64, north: u64) -> bool
+// Whether a zone shares a stretch with a rectangle whose edges are counted from the South Pole: with its part on the zone's side of the Equator.
+fn zone_shares(b: u64, zone: u64, south: u64, north: u64) -> bool
     requires { ⌜ Sides b zone south north ⌝ }
-    ensures { λ r. ⌜ r ≡ coversSome b (pos south -ℤ pos quarter) (pos north -ℤ pos quarter) zone ⌝ }
+    ensures { λ r. ⌜ r ≡ shares b (pos south -ℤ pos quarter) (pos north -ℤ pos quarter) zone ⌝ }
 {
     if zone <= 9 {
-        if north < Circle::QUARTER {
-            return false;
-        }
-        return row_meets(
+        return row_shares(
             b,
             zone - 1,
             less(south, Circle::QUARTER),
-            north - Circle::QUARTER,
+            less(north, Circle::QUARTER),
         );
     }
-    if Circle::QUARTER <= south {
-        return false;
-    }
-    row_meets(
+    row_shares(
         b,
         zone - 10,
         less(Circle::QUARTER, north),
-        Circle::QUARTER - south,
+        less(Circle::QUARTER, south),
     )
 }
 
 // The list, the edges counted from the South Pole.
 fn zones_of(b: u64, south: u64, north: u64) -> RectangleAnswer
-    requires { ⌜ Rows b ⌝ ∗ ⌜ south ≤ north ⌝ ∗ ⌜ north ≤ half ⌝ }
+    requires { ⌜ Rows b ⌝ ∗ ⌜ south < north ⌝ ∗ ⌜ north ≤ half ⌝ }
     ensures { λ a. ⌜ a ≡ acceptedRectangle (rectangleZones b (pos south -ℤ pos quarter) (pos north -ℤ pos quarter)) ⌝ }
 {
     let mut zones = [0u64; 18];
     let mut length = 0;
     let mut zone = 1;
     while zone < 19 {
-        if covers_some(b, zone, south, north) {
+        if zone_shares(b, zone, south, north) {
             zones[length] = zone;
             length += 1;
         }
@@ -117,13 +112,13 @@ fn rectangle_at(b: u64, south: i64, north: i64) -> RectangleAnswer
     let Counted::From(n) = whole::count_from(north, Circle::LATITUDE) else {
         return no_rectangle(arc::refused(4));
     };
-    if n < s {
+    if n <= s {
         return no_rectangle(arc::refused(16));
     }
     zones_of(b, s, n)
 }
 
-// The zones covering some latitude from south to north, in ascending number, at scale 1:S. Refuses 1, south 4, north 4, 16.
+// The zones that share a stretch of latitude with the rectangle from south to north, in ascending number, at scale 1:S. Refuses 1, south 4, north 4, 16.
 pub fn rectangle(scale: u64, south: i64, north: i64) -> RectangleAnswer
     ensures { λ r. ⌜ r ≡ rectangleOf scale south north ⌝ }
 {

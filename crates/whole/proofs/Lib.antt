@@ -1,4 +1,5 @@
 pub mod Signed
+pub mod Fractions
 pub mod Near
 pub mod Held
 pub mod Machine

@@ -44,6 +44,13 @@ occurs-down a (suc n) k h = go (eqb n k) refl (λ l. occurs-down a n k l)
     go true e f = rw (eq-eqb (a + n) (a + k) (omega (arith, eqb-true n k e)))
     go false e f = rw (f (omega (arith, eqb-false n k e))) (or-true (eqb (a + n) (a + k)))
 
+pub occurs-up : (a n k : ℕ) → k < n → occurs (a + k) (upFrom a n) ≡ true
+occurs-up a zero k h = absurd (omega arith)
+occurs-up a (suc n) zero h = rw (eq-eqb a (a + 0) (omega arith))
+occurs-up a (suc n) (suc k) h =
+    let e : a + suc k ≡ a + 1 + k = omega arith in
+    rw (ap (λ (z : ℕ). occurs z (upFrom (a + 1) n)) e ∙ occurs-up (a + 1) n k (omega arith)) (or-true (eqb a (a + suc k)))
+
 -- ---- slots: what has been taken so far, and what those of the rest will add
 
 -- the slots hold `so`, n of them, and `so` with those of the rest is the whole

@@ -132,6 +132,14 @@ is-ltZ (negsuc m) (negsuc n) a b c d p q = go (ltb n m) refl
 pub is-lt : (x y : ℤ) (a b c d : ℕ) → Is x a b → Is y c d → a + d < c + b → x <ℤ y
 is-lt x y a b c d p q h = record { lt = subst T (sym (is-ltZ x y a b c d p q ∙ lt-ltb (a + d) (c + b) h)) tt }
 
+pub lt-is : (x y : ℤ) (a b c d : ℕ) → Is x a b → Is y c d → x <ℤ y → a + d < c + b
+lt-is x y a b c d p q h = ltb→lt (a + d) (c + b) (subst T (is-ltZ x y a b c d p q) (h .lt))
+
+pub below-at-most : (x y : ℤ) → x <ℤ y → x ≤ℤ y
+below-at-most x y h =
+    is-le x y (over x) (under x) (over y) (under y) (is-parts x) (is-parts y)
+    (omega (arith, lt-is x y (over x) (under x) (over y) (under y) (is-parts x) (is-parts y) h))
+
 -- ---- division: a floor commutes with a whole shift
 
 pub is-floor : (x : ℤ) (d a k : ℕ) → 0 < d → Is x a (k * d) → Is (floorDiv x d) (a / d) k

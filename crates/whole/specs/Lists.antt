@@ -6,7 +6,6 @@
 --     padded k l         l, and 0 in each slot after it, up to k slots
 --     each n f           f 0, f 1, .., f (n − 1), one after the other
 --     over xs l          l with xs written over its start
---     someFrom f z n     f holds of one of z, z + 1, .., z + n − 1
 --     firstFrom s f z n  the first of z, s z, s (s z), .., n of them, of which f holds; s goes to the next
 use Prim.Native.Nat.{ℕ, zero, suc, _+_, _-_}
 use mathlib.Core.Bool.{Bool, false, cond, _||_}
@@ -14,7 +13,6 @@ use mathlib.Core.List.{List, [], _∷_, _++_}
 use mathlib.Core.Option.{Option, some, none}
 use lib.Dec.{eqb}
 use lib.ListN.{length, replicate, drop}
-use lib.IntN.{ℤ, sucℤ}
 
 abbrev pub occurs : ℕ → List ℕ → Bool
 occurs z [] = false
@@ -41,10 +39,6 @@ each (suc n) f = each n f ++ f n
 
 abbrev pub over : {A : Type 0} → List A → List A → List A
 over xs l = xs ++ drop (length xs) l
-
-unfoldable pub someFrom : (ℤ → Bool) → ℤ → ℕ → Bool
-someFrom f z zero = false
-someFrom f z (suc n) = f z || someFrom f (sucℤ z) n
 
 unfoldable pub firstFrom : {A : Type 0} → (A → A) → (A → Bool) → A → ℕ → Option A
 firstFrom s f z zero = none

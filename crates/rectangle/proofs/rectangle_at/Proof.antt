@@ -35,7 +35,7 @@ returns-3 : tie.Need-returns-3
 returns-3 c =
     let p = south-in (c .before .before .before .before .before .before .before) in
     let q = north-in (c .before .before .before) in
-    rw (p .test, q .test, counted-lt quarter q p (c .before .before .if1 .taken))
+    rw (p .test, q .test, counted-le quarter p q (c .before .before .if1 .taken))
     (c .no-rectangle3 .ensures ∙ ap refusedRectangle (c .before .refused3 .ensures))
 
 zones-of-requires : tie.Need-zones-of-requires
@@ -45,7 +45,7 @@ returns-4 : tie.Need-returns-4
 returns-4 c = let s = c .before .before .before .before .before .before .before .before .before .before in
     let p = south-in (c .before .before .before .before .before .before) in
     let q = north-in (c .before .before) in
-    rw (p .test, q .test, counted-le quarter q p (c .before .if1 .left))
+    rw (p .test, q .test, counted-lt quarter p q (c .before .if1 .left))
     (c .zones-of .ensures ∙ ap₂ (λ (x y : ℤ). acceptedRectangle (rectangleZones (s .args .b) x y)) (p .same) (q .same))
 
 pub rectangle-at-spec : {M : Type 1} → statement M

@@ -4,7 +4,8 @@ use mathlib.Core.Logic.{⊎-elim}
 use Rattle.arc.specs.declared.Verdict.{Verdict}
 use Rattle.whole.specs.Lists.{upFrom}
 use Rattle.whole.proofs.Lists.{Sofar, finished}
-use Rattle.rectangle.specs.Rectangle.{coversSome, rectangleZones}
+use Rattle.rectangle.specs.Stretch.{shares}
+use Rattle.rectangle.specs.Rectangle.{rectangleZones}
 use Rattle.rectangle.proofs.Turn.{begun, took, left-out}
 use Prim.Native.Nat.{_-_, _≤_, _<_}
 use native.Mathlib.Omega.{arith}
@@ -16,7 +17,7 @@ use Rattle.rectangle.proofs.zones_of.Tie as tie
 abbrev Inv-loop : tie.InvT-loop
 Inv-loop b south north zones₀ length₀ zone₀ zones length zone =
     (1 ≤ zone) × (zone ≤ 19) × (length < zone)
-    × Sofar (coversSome b (pos south -ℤ pos quarter) (pos north -ℤ pos quarter)) 18
+    × Sofar (shares b (pos south -ℤ pos quarter) (pos north -ℤ pos quarter)) 18
     (rectangleZones b (pos south -ℤ pos quarter) (pos north -ℤ pos quarter)) (upFrom zone (19 - zone)) zones length
 
 abbrev μ-loop : tie.MeasureT-loop
@@ -25,8 +26,8 @@ abbrev μ-loop : tie.MeasureT-loop
 loop-holds : tie.Need-loop-holds Inv-loop μ-loop
 loop-holds c = (omega arith, omega arith, omega arith, begun (c .args .b) (c .args .south) (c .args .north))
 
-covers-some-requires : tie.Need-covers-some-requires Inv-loop μ-loop
-covers-some-requires c κs = let s = c .before .before in
+zone-shares-requires : tie.Need-zone-shares-requires Inv-loop μ-loop
+zone-shares-requires c κs = let s = c .before .before in
     record { rows = s .pre .0; some-zone = c .before .loop .inv .0; last-zone = omega arith; order = s .pre .1 .0; pole = s .pre .1 .1 }
 
 mul-zones : tie.Need-mul-zones Inv-loop μ-loop
@@ -49,7 +50,7 @@ loop-again c =
     let a = c .before .before .before .before .args in
     let l = c .before .before .before .loop in
     let i = l .inv in
-    let e = c .before .covers-some .ensures in
+    let e = c .before .zone-shares .ensures in
     ⊎-elim
     (λ w. rw (w .1, w .2) (
       omega arith,
@@ -80,7 +81,7 @@ zones-of-spec =
     Inv-loop
     μ-loop
     loop-holds
-    covers-some-requires
+    zone-shares-requires
     mul-zones
     array-write-zones
     add-length
