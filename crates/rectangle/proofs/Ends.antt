@@ -6,7 +6,7 @@ use native.Mathlib.Omega.{arith}
 use borrow.Author.Tests.{ltb-true, ltb-false, lt-ltb}
 use lib.IntN.{ℤ}
 use lib.Signed.{ltZ, _≤ℤ_, _<ℤ_}
-use Rattle.whole.proofs.Signed.{over, under, is-parts, is-ltZ, is-lt, lt-is, is-le}
+use Rattle.whole.proofs.Signed.{over, under, is-parts, is-ltZ, lt-parts, parts-lt, parts-le}
 use Rattle.rectangle.specs.Stretch.{larger, smaller}
 
 -- a test and an order of whole numbers by their parts
@@ -16,16 +16,9 @@ tested x y e = ltb-true (over x + under y) (over y + under x) (sym (is-ltZ x y (
 passed : (x y : ℤ) → ltZ x y ≡ false → over y + under x ≤ over x + under y
 passed x y e = ltb-false (over x + under y) (over y + under x) (sym (is-ltZ x y (over x) (under x) (over y) (under y) (is-parts x) (is-parts y)) ∙ e)
 
-below : (x y : ℤ) → over x + under y < over y + under x → x <ℤ y
-below x y h = is-lt x y (over x) (under x) (over y) (under y) (is-parts x) (is-parts y) h
-
-at-most : (x y : ℤ) → over x + under y ≤ over y + under x → x ≤ℤ y
-at-most x y h = is-le x y (over x) (under x) (over y) (under y) (is-parts x) (is-parts y) h
-
 test : (x y : ℤ) → x <ℤ y → ltZ x y ≡ true
 test x y h =
-    is-ltZ x y (over x) (under x) (over y) (under y) (is-parts x) (is-parts y)
-    ∙ lt-ltb (over x + under y) (over y + under x) (lt-is x y (over x) (under x) (over y) (under y) (is-parts x) (is-parts y) h)
+    is-ltZ x y (over x) (under x) (over y) (under y) (is-parts x) (is-parts y) ∙ lt-ltb (over x + under y) (over y + under x) (lt-parts x y h)
 
 -- no south end is above the larger, and no north end below the smaller
 no-larger : (x y : ℤ) → (over x + under (larger x y) ≤ over (larger x y) + under x) × (over y + under (larger x y) ≤ over (larger x y) + under y)
@@ -57,7 +50,7 @@ module _ (x u y v : ℤ) where
       let l = no-larger x y in
       let s = no-smaller u v in
       let t = tested (larger x y) (smaller u v) e in
-      record { xu = below x u (omega arith); xv = below x v (omega arith); yu = below y u (omega arith); yv = below y v (omega arith) }
+      record { xu = parts-lt x u (omega arith); xv = parts-lt x v (omega arith); yu = parts-lt y u (omega arith); yv = parts-lt y v (omega arith) }
 
   module _ (c : Crossed x u y v) where
     pub shared : ltZ (larger x y) (smaller u v) ≡ true
@@ -74,5 +67,5 @@ module _ (x u y v : ℤ) where
     common = go (ltZ x y) refl
       where
         go : (t : Bool) → ltZ x y ≡ t → (w : ℤ) × (x ≤ℤ w) × (y ≤ℤ w) × (w <ℤ u) × (w <ℤ v)
-        go true e = (y, at-most x y (omega (arith, tested x y e)), at-most y y (omega arith), c .yu, c .yv)
-        go false e = (x, at-most x x (omega arith), at-most y x (passed x y e), c .xu, c .xv)
+        go true e = (y, parts-le x y (omega (arith, tested x y e)), parts-le y y (omega arith), c .yu, c .yv)
+        go false e = (x, parts-le x x (omega arith), parts-le y x (passed x y e), c .xu, c .xv)

@@ -10,8 +10,8 @@ use native.Mathlib.Omega.{arith}
 use lib.IntN.{ℤ, pos, _+ℤ_, _*ℤ_}
 use lib.Signed.{_≤ℤ_, _<ℤ_, ≤ℤ-refl}
 use Rattle.whole.specs.Lists.{occurs, upFrom}
-use Rattle.whole.proofs.Signed.{Is, over, under, is-parts, is-nat, is-add, is-mul, is-lmul, is-le, le-is, is-lt, lt-is, below-at-most}
-use Rattle.whole.proofs.Fractions.{le-lt, lt-le}
+use Rattle.whole.proofs.Signed.{Is, over, under, is-parts, is-nat, is-add, is-mul, is-lmul, is-le, le-is, is-lt, lt-is, is-times, le-parts, lt-parts, parts-lt, below-at-most}
+use Rattle.whole.proofs.Fractions.{lt-products, le-lt, lt-le}
 use Rattle.whole.proofs.Lists.{occurs-those, occurs-up}
 use Rattle.arc.specs.Zones.{Row, tableRow}
 use Rattle.arc.specs.Spacing.{rowUnit, spacingAt}
@@ -35,9 +35,6 @@ module _ {b zone : ℕ} {south north : ℤ} (w : Shared b south north zone) wher
   at-high = w .all-between (w .high) not-above (≤ℤ-refl _)
 
 module _ (b : ℕ) (i : 0 < b) where
-  times : (z : ℤ) (k : ℕ) → Is (z *ℤ pos k) (over z * k) (under z * k)
-  times z k = is-mul z k (over z) (under z) (is-parts z)
-
   -- (3 w + t) / 3 B
   third : ℤ → ℕ → Point
   third w t = record { numerator = pos 3 *ℤ w +ℤ pos t; denominator = 3 * b; some = omega arith }
@@ -61,18 +58,18 @@ module _ (b : ℕ) (i : 0 < b) where
   -- an end not above w is below w + 1/3, and one above w is above w + 2/3
   above-end : (x w : ℤ) → x ≤ℤ w → (x *ℤ pos (3 * b)) <ℤ ((pos 3 *ℤ w +ℤ pos 1) *ℤ pos b)
   above-end x w l =
-      let k = le-is x w (over x) (under x) (over w) (under w) (is-parts x) (is-parts w) l in
+      let k = le-parts x w l in
       let m : (3 * over x + (3 * under w + 0)) * b < (3 * over w + 1 + 3 * under x) * b = mul-lt-mul-of-pos-right (omega arith) i in
       is-lt (x *ℤ pos (3 * b)) ((pos 3 *ℤ w +ℤ pos 1) *ℤ pos b) (over x * (3 * b)) (under x * (3 * b)) ((3 * over w + 1) * b) ((3 * under w + 0) * b)
-      (times x (3 * b)) (third-is w 1 b)
+      (is-times x (3 * b)) (third-is w 1 b)
       (omega (arith, three (over x), three (under x), add-mul (3 * over x) (3 * under w + 0) b, add-mul (3 * over w + 1) (3 * under x) b))
 
   below-end : (w u : ℤ) → w <ℤ u → ((pos 3 *ℤ w +ℤ pos 2) *ℤ pos b) <ℤ (u *ℤ pos (3 * b))
   below-end w u l =
-      let k = lt-is w u (over w) (under w) (over u) (under u) (is-parts w) (is-parts u) l in
+      let k = lt-parts w u l in
       let m : (3 * over w + 2 + 3 * under u) * b < (3 * over u + (3 * under w + 0)) * b = mul-lt-mul-of-pos-right (omega arith) i in
       is-lt ((pos 3 *ℤ w +ℤ pos 2) *ℤ pos b) (u *ℤ pos (3 * b)) ((3 * over w + 2) * b) ((3 * under w + 0) * b) (over u * (3 * b)) (under u * (3 * b))
-      (third-is w 2 b) (times u (3 * b))
+      (third-is w 2 b) (is-times u (3 * b))
       (omega (arith, three (over u), three (under u), add-mul (3 * over w + 2) (3 * under u) b, add-mul (3 * over u) (3 * under w + 0) b))
 
   -- the ends x and u have all between the two thirds strictly between them
@@ -90,9 +87,8 @@ module _ (b : ℕ) (i : 0 < b) where
   across x u low high k l m =
       let f = le-lt x (low .numerator) (high .numerator) b (low .denominator) (high .denominator) i k l in
       let g = lt-le x (high .numerator) u b (high .denominator) b i f m in
-      let n = lt-is (x *ℤ pos b) (u *ℤ pos b) (over x * b) (under x * b) (over u * b) (under u * b) (times x b) (times u b) g in
-      is-lt x u (over x) (under x) (over u) (under u) (is-parts x) (is-parts u)
-      (lt-of-mul-lt-mul-right b (omega (arith, add-mul (over x) (under u) b, add-mul (over u) (under x) b)))
+      parts-lt x u
+      (lt-of-mul-lt-mul-right b (omega (arith, lt-products x u b b g, add-mul (over x) (under u) b, add-mul (over u) (under x) b)))
 
   -- a point of the rectangle against its stretch: y d against z, times B; y = y₁ − y₂, z = z₁ − z₂
   up : (y₁ y₂ z₁ z₂ d : ℕ) → y₁ * d + z₂ ≤ z₁ + y₂ * d → y₁ * b * d + z₂ * b ≤ z₁ * b + y₂ * b * d
@@ -111,27 +107,27 @@ module _ (b : ℕ) (i : 0 < b) where
     d = p .denominator
 
     edge : (y : ℤ) → Is (y *ℤ pos b *ℤ pos d) (over y * b * d) (under y * b * d)
-    edge y = is-mul (y *ℤ pos b) d (over y * b) (under y * b) (times y b)
+    edge y = is-mul (y *ℤ pos b) d (over y * b) (under y * b) (is-times y b)
 
     in-rectangle : Between b (sheetStretch b south north) p → InRectangle south north p
     in-rectangle w = (
-      is-le (south *ℤ pos d) z (over south * d) (under south * d) (over z) (under z) (times south d) (is-parts z)
+      is-le (south *ℤ pos d) z (over south * d) (under south * d) (over z) (under z) (is-times south d) (is-parts z)
           (let k = down (over south) (under south) (over z) (under z) d
-          (lt-is (south *ℤ pos b *ℤ pos d) (z *ℤ pos b) (over south * b * d) (under south * b * d) (over z * b) (under z * b) (edge south) (times z b) (w .0)) in
+          (lt-is (south *ℤ pos b *ℤ pos d) (z *ℤ pos b) (over south * b * d) (under south * b * d) (over z * b) (under z * b) (edge south) (is-times z b) (w .0)) in
           omega arith),
-      is-le z (north *ℤ pos d) (over z) (under z) (over north * d) (under north * d) (is-parts z) (times north d)
-          (let k = lt-is (z *ℤ pos b) (north *ℤ pos b *ℤ pos d) (over z * b) (under z * b) (over north * b * d) (under north * b * d) (times z b) (edge north)
+      is-le z (north *ℤ pos d) (over z) (under z) (over north * d) (under north * d) (is-parts z) (is-times north d)
+          (let k = lt-is (z *ℤ pos b) (north *ℤ pos b *ℤ pos d) (over z * b) (under z * b) (over north * b * d) (under north * b * d) (is-times z b) (edge north)
           (w .1) in
           omega (arith, down (under north) (over north) (under z) (over z) d (omega arith))),
     )
 
     not-beyond : InRectangle south north p → NotBeyond b (sheetStretch b south north) p
     not-beyond w = (
-      is-le (south *ℤ pos b *ℤ pos d) (z *ℤ pos b) (over south * b * d) (under south * b * d) (over z * b) (under z * b) (edge south) (times z b)
+      is-le (south *ℤ pos b *ℤ pos d) (z *ℤ pos b) (over south * b * d) (under south * b * d) (over z * b) (under z * b) (edge south) (is-times z b)
           (up (over south) (under south) (over z) (under z) d
-          (le-is (south *ℤ pos d) z (over south * d) (under south * d) (over z) (under z) (times south d) (is-parts z) (w .0))),
-      is-le (z *ℤ pos b) (north *ℤ pos b *ℤ pos d) (over z * b) (under z * b) (over north * b * d) (under north * b * d) (times z b) (edge north)
-          (let k = le-is z (north *ℤ pos d) (over z) (under z) (over north * d) (under north * d) (is-parts z) (times north d) (w .1) in
+          (le-is (south *ℤ pos d) z (over south * d) (under south * d) (over z) (under z) (is-times south d) (is-parts z) (w .0))),
+      is-le (z *ℤ pos b) (north *ℤ pos b *ℤ pos d) (over z * b) (under z * b) (over north * b * d) (under north * b * d) (is-times z b) (edge north)
+          (let k = le-is z (north *ℤ pos d) (over z) (under z) (over north * d) (under north * d) (is-parts z) (is-times north d) (w .1) in
           omega (arith, up (under north) (over north) (under z) (over z) d (omega arith))),
     )
 

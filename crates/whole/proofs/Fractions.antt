@@ -4,7 +4,7 @@ use native.Mathlib.Nat.{add-mul, mul-right-comm, mul-le-mul-right, mul-lt-mul-of
 use native.Mathlib.Omega.{arith}
 use lib.IntN.{ℤ, pos, _*ℤ_}
 use lib.Signed.{_≤ℤ_, _<ℤ_}
-use Rattle.whole.proofs.Signed.{Is, over, under, is-parts, is-mul, is-lt, le-is, lt-is}
+use Rattle.whole.proofs.Signed.{over, under, is-lt, le-is, lt-is, is-times}
 
 -- x = x₁ − x₂, and so on
 step : (x₁ x₂ y₁ y₂ z₁ z₂ f g h : ℕ) → 0 < f → x₁ * g + y₂ * f ≤ y₁ * f + x₂ * g → y₁ * h + z₂ * g < z₁ * g + y₂ * h
@@ -29,20 +29,25 @@ step x₁ x₂ y₁ y₂ z₁ z₂ f g h i p q =
       mul-right-comm z₂ f g,
     ))
 
-module _ (x y z : ℤ) (f g h : ℕ) where
-  times : (w : ℤ) (k : ℕ) → Is (w *ℤ pos k) (over w * k) (under w * k)
-  times w k = is-mul w k (over w) (under w) (is-parts w)
+-- x f against y g, by the parts of x and y
+module _ (x y : ℤ) (f g : ℕ) where
+  pub le-products : (x *ℤ pos f) ≤ℤ (y *ℤ pos g) → over x * f + under y * g ≤ over y * g + under x * f
+  le-products = le-is (x *ℤ pos f) (y *ℤ pos g) (over x * f) (under x * f) (over y * g) (under y * g) (is-times x f) (is-times y g)
 
+  pub lt-products : (x *ℤ pos f) <ℤ (y *ℤ pos g) → over x * f + under y * g < over y * g + under x * f
+  lt-products = lt-is (x *ℤ pos f) (y *ℤ pos g) (over x * f) (under x * f) (over y * g) (under y * g) (is-times x f) (is-times y g)
+
+  products-lt : over x * f + under y * g < over y * g + under x * f → (x *ℤ pos f) <ℤ (y *ℤ pos g)
+  products-lt = is-lt (x *ℤ pos f) (y *ℤ pos g) (over x * f) (under x * f) (over y * g) (under y * g) (is-times x f) (is-times y g)
+
+module _ (x y z : ℤ) (f g h : ℕ) where
   pub le-lt : 0 < f → (x *ℤ pos g) ≤ℤ (y *ℤ pos f) → (y *ℤ pos h) <ℤ (z *ℤ pos g) → (x *ℤ pos h) <ℤ (z *ℤ pos f)
   le-lt i p q =
-      is-lt (x *ℤ pos h) (z *ℤ pos f) (over x * h) (under x * h) (over z * f) (under z * f) (times x h) (times z f)
-      (step (over x) (under x) (over y) (under y) (over z) (under z) f g h i
-      (le-is (x *ℤ pos g) (y *ℤ pos f) (over x * g) (under x * g) (over y * f) (under y * f) (times x g) (times y f) p)
-      (lt-is (y *ℤ pos h) (z *ℤ pos g) (over y * h) (under y * h) (over z * g) (under z * g) (times y h) (times z g) q))
+      products-lt x z h f
+      (step (over x) (under x) (over y) (under y) (over z) (under z) f g h i (le-products x y g f p) (lt-products y z h g q))
 
   pub lt-le : 0 < h → (x *ℤ pos g) <ℤ (y *ℤ pos f) → (y *ℤ pos h) ≤ℤ (z *ℤ pos g) → (x *ℤ pos h) <ℤ (z *ℤ pos f)
   lt-le i p q =
-      let a = lt-is (x *ℤ pos g) (y *ℤ pos f) (over x * g) (under x * g) (over y * f) (under y * f) (times x g) (times y f) p in
-      let c = le-is (y *ℤ pos h) (z *ℤ pos g) (over y * h) (under y * h) (over z * g) (under z * g) (times y h) (times z g) q in
-      is-lt (x *ℤ pos h) (z *ℤ pos f) (over x * h) (under x * h) (over z * f) (under z * f) (times x h) (times z f)
-      (omega (arith, step (under z) (over z) (under y) (over y) (under x) (over x) h g f i (omega arith) (omega arith)))
+      let a = lt-products x y g f p in
+      let c = le-products y z h g q in
+      products-lt x z h f (omega (arith, step (under z) (over z) (under y) (over y) (under x) (over x) h g f i (omega arith) (omega arith)))

@@ -9,7 +9,7 @@ use lib.IntN.{ℤ, pos, negℤ, natAbs, _+ℤ_, _-ℤ_, _*ℤ_}
 use lib.Signed.{_≤ℤ_}
 use Rattle.whole.specs.Whole.{floorDiv, nearest, near, ceilDiv, modulo, Greatest, Smallest, FloorIs, CeilIs, Near, NearestIs}
 use Rattle.whole.specs.Whole.{Modulo, ModuloIs, OutsideIs}
-use Rattle.whole.proofs.Signed.{Is, over, under, is-parts, is-same, is-equal, is-nat, is-neg, is-add, is-minus, is-mul, is-lmul}
+use Rattle.whole.proofs.Signed.{Is, over, under, is-parts, is-same, is-equal, is-nat, is-neg, is-add, is-minus, is-mul, is-lmul, is-times}
 use Rattle.whole.proofs.Signed.{is-le, le-is, is-lt, is-floor, is-ceil, is-modulo, is-outside}
 use Rattle.whole.proofs.Near.{near-low, near-high, is-nearest}
 
@@ -25,10 +25,6 @@ module _ (x : ℤ) (d : ℕ) (h : 0 < d) where
   unfolding k a
   written = is-same x (over x) (under x) (over x + under x * d - under x) (under x * d) (is-parts x) (omega (arith, le-mul-of-pos-right (under x) h))
 
-  -- j d as a difference over the same k
-  times : (j : ℤ) → Is (j *ℤ pos d) (over j * d) (under j * d)
-  times j = is-mul j d (over j) (under j) (is-parts j)
-
   pub floor-is : Greatest (λ j. (j *ℤ pos d) ≤ℤ x) (floorDiv x d)
   floor-is =
       record {
@@ -36,7 +32,7 @@ module _ (x : ℤ) (d : ℕ) (h : 0 < d) where
             is-le (floorDiv x d *ℤ pos d) x (a / d * d) (k * d) a (k * d) (is-mul (floorDiv x d) d (a / d) k (is-floor x d a k h written)) written
             (omega (arith, div-add-mod' a d));
         most = λ j p.
-            let q : over j * d + k * d ≤ a + under j * d = le-is (j *ℤ pos d) x (over j * d) (under j * d) a (k * d) (times j) written p in
+            let q : over j * d + k * d ≤ a + under j * d = le-is (j *ℤ pos d) x (over j * d) (under j * d) a (k * d) (is-times j d) written p in
             let r : over j + k < a / d + under j + 1 =
             lt-of-mul-lt-mul-right d
             (omega (arith, div-add-mod' a d, mod-lt a h, add-mul (over j) k d, add-mul (a / d + under j) 1 d, add-mul (a / d) (under j) d)) in
@@ -53,7 +49,7 @@ module _ (x : ℤ) (d : ℕ) (h : 0 < d) where
             is-le x (ceilDiv x d *ℤ pos d) a (k * d) (q * d) (k * d) written (is-mul (ceilDiv x d) d q k e)
             (omega (arith, mod-lt (a + (d - 1)) h));
         least = λ j p.
-            let r : a + under j * d ≤ over j * d + k * d = le-is x (j *ℤ pos d) a (k * d) (over j * d) (under j * d) written (times j) p in
+            let r : a + under j * d ≤ over j * d + k * d = le-is x (j *ℤ pos d) a (k * d) (over j * d) (under j * d) written (is-times j d) p in
             let t : q + under j < over j + k + 1 =
             lt-of-mul-lt-mul-right d (omega (arith, add-mul q (under j) d, add-mul (over j + k) 1 d, add-mul (over j) k d)) in
             is-le (ceilDiv x d) j q k (over j) (under j) e (is-parts j) (omega arith);

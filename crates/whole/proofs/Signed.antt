@@ -135,10 +135,26 @@ is-lt x y a b c d p q h = record { lt = subst T (sym (is-ltZ x y a b c d p q ∙
 pub lt-is : (x y : ℤ) (a b c d : ℕ) → Is x a b → Is y c d → x <ℤ y → a + d < c + b
 lt-is x y a b c d p q h = ltb→lt (a + d) (c + b) (subst T (is-ltZ x y a b c d p q) (h .lt))
 
-pub below-at-most : (x y : ℤ) → x <ℤ y → x ≤ℤ y
-below-at-most x y h =
-    is-le x y (over x) (under x) (over y) (under y) (is-parts x) (is-parts y)
-    (omega (arith, lt-is x y (over x) (under x) (over y) (under y) (is-parts x) (is-parts y) h))
+-- ---- a whole number by its own two parts
+
+pub is-times : (z : ℤ) (k : ℕ) → Is (z *ℤ pos k) (over z * k) (under z * k)
+is-times z k = is-mul z k (over z) (under z) (is-parts z)
+
+module _ (x y : ℤ) where
+  pub le-parts : x ≤ℤ y → over x + under y ≤ over y + under x
+  le-parts = le-is x y (over x) (under x) (over y) (under y) (is-parts x) (is-parts y)
+
+  pub parts-le : over x + under y ≤ over y + under x → x ≤ℤ y
+  parts-le = is-le x y (over x) (under x) (over y) (under y) (is-parts x) (is-parts y)
+
+  pub lt-parts : x <ℤ y → over x + under y < over y + under x
+  lt-parts = lt-is x y (over x) (under x) (over y) (under y) (is-parts x) (is-parts y)
+
+  pub parts-lt : over x + under y < over y + under x → x <ℤ y
+  parts-lt = is-lt x y (over x) (under x) (over y) (under y) (is-parts x) (is-parts y)
+
+  pub below-at-most : x <ℤ y → x ≤ℤ y
+  below-at-most h = parts-le (omega (arith, lt-parts h))
 
 -- ---- division: a floor commutes with a whole shift
 
