@@ -10,7 +10,8 @@ use native.Mathlib.Omega.{arith}
 use lib.IntN.{ℤ, pos, _+ℤ_, _*ℤ_}
 use lib.Signed.{_≤ℤ_, _<ℤ_, ≤ℤ-refl}
 use Rattle.whole.specs.Lists.{occurs, upFrom}
-use Rattle.whole.proofs.Signed.{Is, over, under, is-parts, is-nat, is-add, is-mul, is-lmul, is-le, le-is, is-lt, lt-is, is-times, le-parts, lt-parts, parts-lt, below-at-most}
+use Rattle.whole.proofs.Signed.{Is, over, under, is-parts, is-nat, is-add, is-mul, is-lmul, is-le, le-is, is-lt, lt-is, is-times}
+use Rattle.whole.proofs.Signed.{le-parts, lt-parts, parts-lt, below-at-most}
 use Rattle.whole.proofs.Fractions.{lt-products, le-lt, lt-le}
 use Rattle.whole.proofs.Lists.{occurs-those, occurs-up}
 use Rattle.arc.specs.Zones.{Row, tableRow}
@@ -19,7 +20,7 @@ use Rattle.arc.proofs.Table.{placed}
 use Rattle.zones.proofs.Covering.{scale-rows}
 use Rattle.rectangle.specs.Stretch.{Stretch, zoneStretch, sheetStretch, sharesHeight, sharesIn, shares}
 use Rattle.rectangle.specs.Rectangle.{rectangleZones}
-use Rattle.rectangle.specs.Points.{Point, AtMost, Below, InRectangle, CoversPoint, Between, NotBeyond, Shared, SharesIs, RectangleListed}
+use Rattle.rectangle.specs.Points.{Point, AtMost, Below, InRectangle, CoversPoint, Between, Shared, SharesIs, RectangleListed}
 use Rattle.rectangle.proofs.Ends.{crossed, shared, common}
 use Rattle.rectangle.proofs.Stretch.{stretches}
 
@@ -99,37 +100,40 @@ module _ (b : ℕ) (i : 0 < b) where
   down y₁ y₂ z₁ z₂ d k =
       lt-of-mul-lt-mul-right b (omega (arith, add-mul (y₁ * d) z₂ b, add-mul z₁ (y₂ * d) b, mul-right-comm y₁ d b, mul-right-comm y₂ d b))
 
-  module _ (south north : ℤ) (p : Point) where
+  module _ (y : ℤ) (p : Point) where
     abbrev z : ℤ
     z = p .numerator
 
     abbrev d : ℕ
     d = p .denominator
 
-    edge : (y : ℤ) → Is (y *ℤ pos b *ℤ pos d) (over y * b * d) (under y * b * d)
-    edge y = is-mul (y *ℤ pos b) d (over y * b) (under y * b) (is-times y b)
+    -- an edge y of the rectangle, times B
+    edge : Is (y *ℤ pos b *ℤ pos d) (over y * b * d) (under y * b * d)
+    edge = is-mul (y *ℤ pos b) d (over y * b) (under y * b) (is-times y b)
 
-    in-rectangle : Between b (sheetStretch b south north) p → InRectangle south north p
-    in-rectangle w = (
-      is-le (south *ℤ pos d) z (over south * d) (under south * d) (over z) (under z) (is-times south d) (is-parts z)
-          (let k = down (over south) (under south) (over z) (under z) d
-          (lt-is (south *ℤ pos b *ℤ pos d) (z *ℤ pos b) (over south * b * d) (under south * b * d) (over z * b) (under z * b) (edge south) (is-times z b) (w .0)) in
-          omega arith),
-      is-le z (north *ℤ pos d) (over z) (under z) (over north * d) (under north * d) (is-parts z) (is-times north d)
-          (let k = lt-is (z *ℤ pos b) (north *ℤ pos b *ℤ pos d) (over z * b) (under z * b) (over north * b * d) (under north * b * d) (is-times z b) (edge north)
-          (w .1) in
-          omega (arith, down (under north) (over north) (under z) (over z) d (omega arith))),
-    )
+    south-in : (y *ℤ pos b *ℤ pos d) <ℤ (z *ℤ pos b) → (y *ℤ pos d) ≤ℤ z
+    south-in k =
+        let l = lt-is (y *ℤ pos b *ℤ pos d) (z *ℤ pos b) (over y * b * d) (under y * b * d) (over z * b) (under z * b) edge (is-times z b) k in
+        is-le (y *ℤ pos d) z (over y * d) (under y * d) (over z) (under z) (is-times y d) (is-parts z)
+        (omega (arith, down (over y) (under y) (over z) (under z) d (omega arith)))
 
-    not-beyond : InRectangle south north p → NotBeyond b (sheetStretch b south north) p
-    not-beyond w = (
-      is-le (south *ℤ pos b *ℤ pos d) (z *ℤ pos b) (over south * b * d) (under south * b * d) (over z * b) (under z * b) (edge south) (is-times z b)
-          (up (over south) (under south) (over z) (under z) d
-          (le-is (south *ℤ pos d) z (over south * d) (under south * d) (over z) (under z) (is-times south d) (is-parts z) (w .0))),
-      is-le (z *ℤ pos b) (north *ℤ pos b *ℤ pos d) (over z * b) (under z * b) (over north * b * d) (under north * b * d) (is-times z b) (edge north)
-          (let k = le-is z (north *ℤ pos d) (over z) (under z) (over north * d) (under north * d) (is-parts z) (is-times north d) (w .1) in
-          omega (arith, up (under north) (over north) (under z) (over z) d (omega arith))),
-    )
+    north-in : (z *ℤ pos b) <ℤ (y *ℤ pos b *ℤ pos d) → z ≤ℤ (y *ℤ pos d)
+    north-in k =
+        let l = lt-is (z *ℤ pos b) (y *ℤ pos b *ℤ pos d) (over z * b) (under z * b) (over y * b * d) (under y * b * d) (is-times z b) edge k in
+        is-le z (y *ℤ pos d) (over z) (under z) (over y * d) (under y * d) (is-parts z) (is-times y d)
+        (omega (arith, down (under y) (over y) (under z) (over z) d (omega arith)))
+
+    south-out : (y *ℤ pos d) ≤ℤ z → (y *ℤ pos b *ℤ pos d) ≤ℤ (z *ℤ pos b)
+    south-out k =
+        let l = le-is (y *ℤ pos d) z (over y * d) (under y * d) (over z) (under z) (is-times y d) (is-parts z) k in
+        is-le (y *ℤ pos b *ℤ pos d) (z *ℤ pos b) (over y * b * d) (under y * b * d) (over z * b) (under z * b) edge (is-times z b)
+        (up (over y) (under y) (over z) (under z) d l)
+
+    north-out : z ≤ℤ (y *ℤ pos d) → (z *ℤ pos b) ≤ℤ (y *ℤ pos b *ℤ pos d)
+    north-out k =
+        let l = le-is z (y *ℤ pos d) (over z) (under z) (over y * d) (under y * d) (is-parts z) (is-times y d) k in
+        is-le (z *ℤ pos b) (y *ℤ pos b *ℤ pos d) (over z * b) (under z * b) (over y * b * d) (under y * b * d) (is-times z b) edge
+        (omega (arith, up (under y) (over y) (under z) (over z) d (omega arith)))
 
   -- the zone's stretch against the rectangle's
   module _ (south north : ℤ) (zone : ℕ) (r : Row) (t : tableRow zone ≡ some r) where
@@ -150,7 +154,7 @@ module _ (b : ℕ) (i : 0 < b) where
           high = third (c .0) 2;
           different = thirds-apart (c .0);
           all-between = λ p f g. (
-            in-rectangle south north p (thirds-between y v (c .0) (c .2) (c .4) p f g),
+            let k = thirds-between y v (c .0) (c .2) (c .4) p f g in (south-in south p (k .0), north-in north p (k .1)),
             stretches b i zone r t p .0 (thirds-between (q .southEnd) (q .northEnd) (c .0) (c .1) (c .3) p f g),
           );
         }
@@ -159,14 +163,14 @@ module _ (b : ℕ) (i : 0 < b) where
     apart w =
         let m = stretches b i zone r t (w .low) .1 (at-low w .1) in
         let n = stretches b i zone r t (w .high) .1 (at-high w .1) in
-        let k = not-beyond south north (w .low) (at-low w .0) in
-        let l = not-beyond south north (w .high) (at-high w .0) in
+        let k = south-out south (w .low) (at-low w .0 .0) in
+        let l = north-out north (w .high) (at-high w .0 .1) in
         shared (q .southEnd) (q .northEnd) y v
         (record {
           xu = across (q .southEnd) (q .northEnd) (w .low) (w .high) (m .0) (w .different) (n .1);
-          xv = across (q .southEnd) v (w .low) (w .high) (m .0) (w .different) (l .1);
-          yu = across y (q .northEnd) (w .low) (w .high) (k .0) (w .different) (n .1);
-          yv = across y v (w .low) (w .high) (k .0) (w .different) (l .1);
+          xv = across (q .southEnd) v (w .low) (w .high) (m .0) (w .different) l;
+          yu = across y (q .northEnd) (w .low) (w .high) k (w .different) (n .1);
+          yv = across y v (w .low) (w .high) k (w .different) l;
         })
 
 pub sharing : SharesIs

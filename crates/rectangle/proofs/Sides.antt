@@ -42,7 +42,7 @@ module _ (b j : ℕ) (h : j < 9) where
   -- a rectangle from a − c to d − e on the zone's side, not empty and not beyond the pole
   module _ (g : Rows b) (a c d e : ℕ) (o : a + e < d + c) (m : d ≤ e + quarter) where
     -- the row starts before the rectangle ends, and ends after it starts
-    pub record Ends : Type 0 where
+    pub record Meets : Type 0 where
       pub starts : from (rowAt j) * b + e * b < d * b
       pub reach : a * b < polewardEnd b (rowAt j) + c * b
 
@@ -55,9 +55,9 @@ module _ (b j : ℕ) (h : j < 9) where
     some : 0 < b
     some = omega (arith, g .least)
 
-    from-ends : Ends → sharesRow b (rowAt j) (a - c) (d - e) ≡ true
+    meets-shares : Meets → sharesRow b (rowAt j) (a - c) (d - e) ≡ true
     unfolding sharesRow
-    from-ends w =
+    meets-shares w =
         let f : from (rowAt j) + e < d = lt-of-mul-lt-mul-right b (omega (arith, add-mul (from (rowAt j)) e b)) in
         rw (lt-ltb (from (rowAt j)) (d - e) (omega arith))
         (go (ltb (a - c) (to (rowAt j))) (isPolar (rowAt j .northern)) refl refl (w .reach))
@@ -73,9 +73,9 @@ module _ (b j : ℕ) (h : j < 9) where
             ap (λ (n : ℕ). n * b) (omega (arith, from-to j h)) ∙ add-mul (c + to (rowAt j)) (a - c - to (rowAt j)) b in
             lt-ltb ((a - c - to (rowAt j)) * b) (1024 * circle) (omega (arith, add-mul c (to (rowAt j)) b))
 
-    to-ends : sharesRow b (rowAt j) (a - c) (d - e) ≡ true → Ends
+    shares-meets : sharesRow b (rowAt j) (a - c) (d - e) ≡ true → Meets
     unfolding sharesRow
-    to-ends t =
+    shares-meets t =
         let w = and-eq-true-iff (ltb (from (rowAt j)) (d - e)) (reaches b (rowAt j) (a - c)) .0 t in
         let f : from (rowAt j) + e < d = omega (arith, ltb-true (from (rowAt j)) (d - e) (w .0)) in
         record {
@@ -113,11 +113,11 @@ module _ (b j : ℕ) (h : j < 9) where
     height = omega (arith, mul-lt-mul-of-pos-right o some, add-mul a e b, add-mul d c b)
 
     -- two stretches that cross where the row and the rectangle do
-    told : (x u y v : ℤ) → (Crossed x u y v → Ends) → (Ends → Crossed x u y v)
+    told : (x u y v : ℤ) → (Crossed x u y v → Meets) → (Meets → Crossed x u y v)
         → ltZ (larger x y) (smaller u v) ≡ sharesRow b (rowAt j) (a - c) (d - e)
     told x u y v f k =
-        same (ltZ (larger x y) (smaller u v)) (sharesRow b (rowAt j) (a - c) (d - e)) (λ t. from-ends (f (crossed x u y v t)))
-        (λ t. shared x u y v (k (to-ends t)))
+        same (ltZ (larger x y) (smaller u v)) (sharesRow b (rowAt j) (a - c) (d - e)) (λ t. meets-shares (f (crossed x u y v t)))
+        (λ t. shared x u y v (k (shares-meets t)))
 
     module _ (south north : ℤ) where
       abbrev y : ℤ
