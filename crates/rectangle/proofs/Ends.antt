@@ -5,9 +5,9 @@ use Prim.Native.Nat.{_+_, _≤_, _<_}
 use native.Mathlib.Omega.{arith}
 use borrow.Author.Tests.{ltb-true, ltb-false, lt-ltb}
 use lib.IntN.{ℤ}
-use lib.Signed.{ltZ, _≤ℤ_, _<ℤ_}
+use lib.Signed.{ltZ, _≤ℤ_, _<ℤ_, ≤ℤ-refl}
 use Rattle.whole.proofs.Signed.{over, under, is-parts, is-ltZ, lt-parts, parts-lt, parts-le}
-use Rattle.rectangle.specs.Stretch.{larger, smaller}
+use Rattle.rectangle.specs.Stretch.{Stretch, larger, smaller, sharesHeight}
 
 -- a test and an order of whole numbers by their parts
 tested : (x y : ℤ) → ltZ x y ≡ true → over x + under y < over y + under x
@@ -37,35 +37,43 @@ no-smaller u v = go (ltZ u v) refl
     go true e = (omega arith, omega (arith, tested u v e))
     go false e = (passed u v e, omega arith)
 
--- the south ends x and y, the north ends u and v
-pub record Crossed (x u y v : ℤ) : Type 0 where
-  pub xu : x <ℤ u
-  pub xv : x <ℤ v
-  pub yu : y <ℤ u
-  pub yv : y <ℤ v
+-- each south end below each north end
+pub record Crossed (p q : Stretch) : Type 0 where
+  pub own : p .southEnd <ℤ p .northEnd
+  pub across : p .southEnd <ℤ q .northEnd
+  pub back : q .southEnd <ℤ p .northEnd
+  pub other : q .southEnd <ℤ q .northEnd
 
-module _ (x u y v : ℤ) where
-  pub crossed : ltZ (larger x y) (smaller u v) ≡ true → Crossed x u y v
+module _ (p q : Stretch) where
+  pub crossed : sharesHeight p q ≡ true → Crossed p q
   crossed e =
-      let l = no-larger x y in
-      let s = no-smaller u v in
-      let t = tested (larger x y) (smaller u v) e in
-      record { xu = parts-lt x u (omega arith); xv = parts-lt x v (omega arith); yu = parts-lt y u (omega arith); yv = parts-lt y v (omega arith) }
+      let l = no-larger (p .southEnd) (q .southEnd) in
+      let s = no-smaller (p .northEnd) (q .northEnd) in
+      let t = tested (larger (p .southEnd) (q .southEnd)) (smaller (p .northEnd) (q .northEnd)) e in
+      record {
+        own = parts-lt (p .southEnd) (p .northEnd) (omega arith);
+        across = parts-lt (p .southEnd) (q .northEnd) (omega arith);
+        back = parts-lt (q .southEnd) (p .northEnd) (omega arith);
+        other = parts-lt (q .southEnd) (q .northEnd) (omega arith);
+      }
 
-  module _ (c : Crossed x u y v) where
-    pub shared : ltZ (larger x y) (smaller u v) ≡ true
-    shared = go (ltZ x y) (ltZ u v)
+  module _ (c : Crossed p q) where
+    pub shared : sharesHeight p q ≡ true
+    shared = go (ltZ (p .southEnd) (q .southEnd)) (ltZ (p .northEnd) (q .northEnd))
       where
-        go : (s t : Bool) → ltZ (cond s y x) (cond t u v) ≡ true
-        go true true = test y u (c .yu)
-        go true false = test y v (c .yv)
-        go false true = test x u (c .xu)
-        go false false = test x v (c .xv)
+        go : (s t : Bool) → ltZ (cond s (q .southEnd) (p .southEnd)) (cond t (p .northEnd) (q .northEnd)) ≡ true
+        go true true = test (q .southEnd) (p .northEnd) (c .back)
+        go true false = test (q .southEnd) (q .northEnd) (c .other)
+        go false true = test (p .southEnd) (p .northEnd) (c .own)
+        go false false = test (p .southEnd) (q .northEnd) (c .across)
 
-    -- from the larger south end the north ends are still above
-    pub common : (w : ℤ) × (x ≤ℤ w) × (y ≤ℤ w) × (w <ℤ u) × (w <ℤ v)
-    common = go (ltZ x y) refl
+    -- the larger south end is not below either, and below both north ends
+    pub common : (w : ℤ) × (p .southEnd ≤ℤ w) × (q .southEnd ≤ℤ w) × (w <ℤ p .northEnd) × (w <ℤ q .northEnd)
+    common = go (ltZ (p .southEnd) (q .southEnd)) refl
       where
-        go : (t : Bool) → ltZ x y ≡ t → (w : ℤ) × (x ≤ℤ w) × (y ≤ℤ w) × (w <ℤ u) × (w <ℤ v)
-        go true e = (y, parts-le x y (omega (arith, tested x y e)), parts-le y y (omega arith), c .yu, c .yv)
-        go false e = (x, parts-le x x (omega arith), parts-le y x (passed x y e), c .xu, c .xv)
+        go : (t : Bool) → ltZ (p .southEnd) (q .southEnd) ≡ t
+            → (w : ℤ) × (p .southEnd ≤ℤ w) × (q .southEnd ≤ℤ w) × (w <ℤ p .northEnd) × (w <ℤ q .northEnd)
+        go true e =
+            (q .southEnd, parts-le (p .southEnd) (q .southEnd) (omega (arith, tested (p .southEnd) (q .southEnd) e)), ≤ℤ-refl (q .southEnd), c .back, c .other)
+        go false e =
+            (p .southEnd, ≤ℤ-refl (p .southEnd), parts-le (q .southEnd) (p .southEnd) (passed (p .southEnd) (q .southEnd) e), c .own, c .across)

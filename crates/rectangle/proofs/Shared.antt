@@ -83,9 +83,9 @@ module _ (b : ℕ) (i : 0 < b) where
   )
 
   -- a south end not beyond a point is below a north end not beyond a point farther north
-  across : (x u : ℤ) (low high : Point) → (x *ℤ pos (low .denominator)) ≤ℤ (low .numerator *ℤ pos b) → Below low high
+  ends-apart : (x u : ℤ) (low high : Point) → (x *ℤ pos (low .denominator)) ≤ℤ (low .numerator *ℤ pos b) → Below low high
       → (high .numerator *ℤ pos b) ≤ℤ (u *ℤ pos (high .denominator)) → x <ℤ u
-  across x u low high k l m =
+  ends-apart x u low high k l m =
       let f = le-lt x (low .numerator) (high .numerator) b (low .denominator) (high .denominator) i k l in
       let g = lt-le x (high .numerator) u b (high .denominator) b i f m in
       parts-lt x u
@@ -137,40 +137,37 @@ module _ (b : ℕ) (i : 0 < b) where
 
   -- the zone's stretch against the rectangle's
   module _ (south north : ℤ) (zone : ℕ) (r : Row) (t : tableRow zone ≡ some r) where
-    abbrev q : Stretch
-    q = zoneStretch b zone r
+    abbrev own : Stretch
+    own = zoneStretch b zone r
 
-    abbrev y : ℤ
-    y = south *ℤ pos b
+    abbrev sheet : Stretch
+    sheet = sheetStretch b south north
 
-    abbrev v : ℤ
-    v = north *ℤ pos b
-
-    points : sharesHeight q (sheetStretch b south north) ≡ true → Shared b south north zone
+    points : sharesHeight own sheet ≡ true → Shared b south north zone
     points e =
-        let c = common (q .southEnd) (q .northEnd) y v (crossed (q .southEnd) (q .northEnd) y v e) in
+        let c = common own sheet (crossed own sheet e) in
         record {
           low = third (c .0) 1;
           high = third (c .0) 2;
           different = thirds-apart (c .0);
           all-between = λ p f g. (
-            let k = thirds-between y v (c .0) (c .2) (c .4) p f g in (south-in south p (k .0), north-in north p (k .1)),
-            stretches b i zone r t p .0 (thirds-between (q .southEnd) (q .northEnd) (c .0) (c .1) (c .3) p f g),
+            let k = thirds-between (sheet .southEnd) (sheet .northEnd) (c .0) (c .2) (c .4) p f g in (south-in south p (k .0), north-in north p (k .1)),
+            stretches b i zone r t p .0 (thirds-between (own .southEnd) (own .northEnd) (c .0) (c .1) (c .3) p f g),
           );
         }
 
-    apart : Shared b south north zone → sharesHeight q (sheetStretch b south north) ≡ true
+    apart : Shared b south north zone → sharesHeight own sheet ≡ true
     apart w =
         let m = stretches b i zone r t (w .low) .1 (at-low w .1) in
         let n = stretches b i zone r t (w .high) .1 (at-high w .1) in
         let k = south-out south (w .low) (at-low w .0 .0) in
         let l = north-out north (w .high) (at-high w .0 .1) in
-        shared (q .southEnd) (q .northEnd) y v
+        shared own sheet
         (record {
-          xu = across (q .southEnd) (q .northEnd) (w .low) (w .high) (m .0) (w .different) (n .1);
-          xv = across (q .southEnd) v (w .low) (w .high) (m .0) (w .different) l;
-          yu = across y (q .northEnd) (w .low) (w .high) k (w .different) (n .1);
-          yv = across y v (w .low) (w .high) k (w .different) l;
+          own = ends-apart (own .southEnd) (own .northEnd) (w .low) (w .high) (m .0) (w .different) (n .1);
+          across = ends-apart (own .southEnd) (sheet .northEnd) (w .low) (w .high) (m .0) (w .different) l;
+          back = ends-apart (sheet .southEnd) (own .northEnd) (w .low) (w .high) k (w .different) (n .1);
+          other = ends-apart (sheet .southEnd) (sheet .northEnd) (w .low) (w .high) k (w .different) l;
         })
 
 pub sharing : SharesIs

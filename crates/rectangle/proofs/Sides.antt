@@ -8,12 +8,11 @@ use native.Mathlib.Omega.{arith}
 use borrow.Author.Tests.{ltb-true, ltb-false, lt-ltb, eq-eqb, ne-eqb}
 use lib.Dec.{ltb}
 use lib.IntN.{ℤ, pos, negℤ, _-ℤ_, _*ℤ_}
-use lib.Signed.{ltZ}
 use Rattle.whole.proofs.Signed.{Is, is-nat, is-neg, is-mul, is-lt, lt-is, is-difference}
 use Rattle.arc.specs.Zones.{circle, quarter, isPolar, Row, from, to, rowAt}
 use Rattle.arc.proofs.Table.{southern-at, row-north, row-south, from-to, to-most}
 use Rattle.zones.specs.Steps.{reaches, Rows}
-use Rattle.rectangle.specs.Stretch.{polewardEnd, Stretch, zoneStretch, sheetStretch, larger, smaller, sharesHeight, sharesIn, shares}
+use Rattle.rectangle.specs.Stretch.{polewardEnd, Stretch, zoneStretch, sheetStretch, sharesHeight, sharesIn, shares}
 use Rattle.rectangle.specs.Steps.{sharesRow, Sides}
 use Rattle.rectangle.proofs.Ends.{Crossed, crossed, shared}
 
@@ -113,11 +112,10 @@ module _ (b j : ℕ) (h : j < 9) where
     height = omega (arith, mul-lt-mul-of-pos-right o some, add-mul a e b, add-mul d c b)
 
     -- two stretches that cross where the row and the rectangle do
-    told : (x u y v : ℤ) → (Crossed x u y v → Meets) → (Meets → Crossed x u y v)
-        → ltZ (larger x y) (smaller u v) ≡ sharesRow b (rowAt j) (a - c) (d - e)
-    told x u y v f k =
-        same (ltZ (larger x y) (smaller u v)) (sharesRow b (rowAt j) (a - c) (d - e)) (λ t. meets-shares (f (crossed x u y v t)))
-        (λ t. shared x u y v (k (shares-meets t)))
+    told : (p q : Stretch) → (Crossed p q → Meets) → (Meets → Crossed p q) → sharesHeight p q ≡ sharesRow b (rowAt j) (a - c) (d - e)
+    told p q f k =
+        same (sharesHeight p q) (sharesRow b (rowAt j) (a - c) (d - e)) (λ t. meets-shares (f (crossed p q t)))
+        (λ t. shared p q (k (shares-meets t)))
 
     module _ (south north : ℤ) where
       abbrev y : ℤ
@@ -135,18 +133,18 @@ module _ (b j : ℕ) (h : j < 9) where
           let k = is-mul north b d e q in
           ap (sharesIn b south north (1 + j)) (row-north j h)
           ∙ ap (λ (z : Stretch). sharesHeight z (sheetStretch b south north)) stretch-north
-          ∙ told (pos start) (pos end) y v
+          ∙ told (northern b (rowAt j)) (sheetStretch b south north)
           (λ w.
           record {
-            starts = omega (arith, lt-is (pos start) v start 0 (d * b) (e * b) f k (w .xv));
-            reach = omega (arith, lt-is y (pos end) (a * b) (c * b) end 0 i t (w .yu));
+            starts = omega (arith, lt-is (pos start) v start 0 (d * b) (e * b) f k (w .across));
+            reach = omega (arith, lt-is y (pos end) (a * b) (c * b) end 0 i t (w .back));
           })
           (λ w.
           record {
-            xu = is-lt (pos start) (pos end) start 0 end 0 f t (omega (arith, row-height));
-            xv = is-lt (pos start) v start 0 (d * b) (e * b) f k (omega (arith, w .starts));
-            yu = is-lt y (pos end) (a * b) (c * b) end 0 i t (omega (arith, w .reach));
-            yv = is-lt y v (a * b) (c * b) (d * b) (e * b) i k (omega (arith, height));
+            own = is-lt (pos start) (pos end) start 0 end 0 f t (omega (arith, row-height));
+            across = is-lt (pos start) v start 0 (d * b) (e * b) f k (omega (arith, w .starts));
+            back = is-lt y (pos end) (a * b) (c * b) end 0 i t (omega (arith, w .reach));
+            other = is-lt y v (a * b) (c * b) (d * b) (e * b) i k (omega (arith, height));
           })
 
       pub on-south : Is south e d → Is north c a → shares b south north (10 + j) ≡ sharesRow b (rowAt j) (a - c) (d - e)
@@ -158,18 +156,18 @@ module _ (b j : ℕ) (h : j < 9) where
           let k = is-mul north b c a q in
           ap (sharesIn b south north (10 + j)) (row-south j h)
           ∙ ap (λ (z : Stretch). sharesHeight z (sheetStretch b south north)) stretch-south
-          ∙ told (negℤ (pos end)) (negℤ (pos start)) y v
+          ∙ told (southern b (rowAt j)) (sheetStretch b south north)
           (λ w.
           record {
-            starts = omega (arith, lt-is y (negℤ (pos start)) (e * b) (d * b) 0 start i f (w .yu));
-            reach = omega (arith, lt-is (negℤ (pos end)) v 0 end (c * b) (a * b) t k (w .xv));
+            starts = omega (arith, lt-is y (negℤ (pos start)) (e * b) (d * b) 0 start i f (w .back));
+            reach = omega (arith, lt-is (negℤ (pos end)) v 0 end (c * b) (a * b) t k (w .across));
           })
           (λ w.
           record {
-            xu = is-lt (negℤ (pos end)) (negℤ (pos start)) 0 end 0 start t f (omega (arith, row-height));
-            xv = is-lt (negℤ (pos end)) v 0 end (c * b) (a * b) t k (omega (arith, w .reach));
-            yu = is-lt y (negℤ (pos start)) (e * b) (d * b) 0 start i f (omega (arith, w .starts));
-            yv = is-lt y v (e * b) (d * b) (c * b) (a * b) i k (omega (arith, height));
+            own = is-lt (negℤ (pos end)) (negℤ (pos start)) 0 end 0 start t f (omega (arith, row-height));
+            across = is-lt (negℤ (pos end)) v 0 end (c * b) (a * b) t k (omega (arith, w .reach));
+            back = is-lt y (negℤ (pos start)) (e * b) (d * b) 0 start i f (omega (arith, w .starts));
+            other = is-lt y v (e * b) (d * b) (c * b) (a * b) i k (omega (arith, height));
           })
 
 -- by the zone's number, the rectangle's edges counted from the South Pole, as `zone_shares` is asked
