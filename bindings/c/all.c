@@ -262,8 +262,11 @@ static void zones(void)
     cover(20000001, 0);
     cover(1000000, -32400001);
     rectangle(1000000, -1, 0);
+    rectangle(1000000, 0, 1);
+    rectangle(1000000, 10800000, 11520000);
     rectangle(1000000, -32400000, 32400000);
     rectangle(1000000, 1, 0);
+    rectangle(1000000, 0, 0);
     align(1, 4143222, -897506);
     align(1, 0, 64800000);
     align(9, 0, 0);

@@ -53,7 +53,7 @@
      13   pixel in padding
      14   tile not stored
      15   index entry above the count, repeated, or a stored tile never named
-     16   south edge above north edge
+     16   south edge not below north edge
 
    The place is the subfield's offset in the card for 7 and 8. For 15 it is
    the entry, counted from 0, or the index length where a stored tile is never
@@ -227,9 +227,11 @@ struct fordcask_zone fordcask_basic_zone(int64_t lat);
    -32400000..32400000. Refuses 1, 4. */
 struct fordcask_cover fordcask_cover(uint64_t scale, int64_t lat);
 
-/* The zones covering some latitude from south to north, both included, in
-   ascending number. scale 5000..20000000; south and north in hundredths of an
-   arc-second, latitude -32400000..32400000, south not above north.
+/* The zones that share a stretch of latitude of more than zero height with
+   the rectangle from south to north, in ascending number; latitude is a
+   continuous line, and a zone's overlap belongs to it. scale 5000..20000000;
+   south and north in hundredths of an arc-second, latitude
+   -32400000..32400000, south below north.
    Refuses 1, 4 (south), 4 (north), 16. */
 struct fordcask_rectangle fordcask_rectangle(uint64_t scale, int64_t south,
                                              int64_t north);

@@ -31,7 +31,7 @@ impl Refusal {
             13 => "the pixel is in the padding",
             14 => "the tile is not stored",
             15 => "an index entry is above the count or repeated, or a stored tile is never named",
-            16 => "the south edge is above the north edge",
+            16 => "the south edge is not below the north edge",
             _ => "unknown refusal",
         }
     }

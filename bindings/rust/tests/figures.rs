@@ -1,10 +1,11 @@
-//! The figures of document 01, "Figures on both sides of each edge", and some more of its edges,
-//! worked out from its rules. Each test names those that are not printed there.
+//! The figures of document 01, "Figures on both sides of each edge", those of E3 of 02, and some
+//! more edges, worked out from their rules. Each test names those that are not printed there.
 
 use fordcask::{align, basic_zone, cover, offset, rectangle, spacing};
 use fordcask::{Position, Refusal, Spacing};
 
 const REFUSED_1: Refusal = Refusal { number: 1, at: 0 };
+const REFUSED_16: Refusal = Refusal { number: 16, at: 0 };
 
 #[test]
 fn spacing_figures() {
@@ -39,9 +40,39 @@ fn zone_figures() {
         let found = cover(scale, lat).expect("a cover");
         assert_eq!(found.as_slice(), zones, "1:{scale} latitude {lat}");
     }
-    // not printed in 01: no rectangle is
-    let both = rectangle(1_000_000, -1, 0).expect("a rectangle");
-    assert_eq!(both.as_slice(), [1, 10]);
+}
+
+#[test]
+fn rectangle_figures() {
+    let lists: [(u64, i64, i64, &[u64]); 16] = [
+        // 30 to 32 degrees north; from 32 degrees going north
+        (1_000_000, 10_800_000, 11_520_000, &[1]),
+        (1_000_000, 11_520_000, 11_880_000, &[1, 2]),
+        // not printed in 02: the same in the south
+        (1_000_000, -11_520_000, -10_800_000, &[10]),
+        (1_000_000, -11_880_000, -11_520_000, &[10, 11]),
+        // not printed: the Equator
+        (1_000_000, -1, 0, &[10]),
+        (1_000_000, 0, 1, &[1]),
+        (1_000_000, -1, 1, &[1, 10]),
+        // not printed: both sides of an overlap's end, inside a hundredth and on one
+        (1_000_000, 11_851_457, 11_851_458, &[1, 2]),
+        (1_000_000, 11_851_458, 11_851_459, &[2]),
+        (20_000_000, 17_999_999, 18_000_000, &[1, 2, 3]),
+        (20_000_000, 18_000_000, 18_000_001, &[2, 3]),
+        (20_000_000, -18_000_000, -17_999_999, &[10, 11, 12]),
+        (20_000_000, -18_000_001, -18_000_000, &[11, 12]),
+        // not printed: the poles
+        (1_000_000, 32_399_999, 32_400_000, &[9]),
+        (20_000_000, 32_399_999, 32_400_000, &[6, 7, 8, 9]),
+        (20_000_000, -32_400_000, -32_399_999, &[15, 16, 17, 18]),
+    ];
+    for (scale, south, north, zones) in lists {
+        let found = rectangle(scale, south, north).expect("a rectangle");
+        assert_eq!(found.as_slice(), zones, "1:{scale} from {south} to {north}");
+    }
+    assert_eq!(rectangle(1_000_000, 11_520_000, 11_520_000), Err(REFUSED_16));
+    assert_eq!(rectangle(1_000_000, 11_520_000, 11_519_999), Err(REFUSED_16));
 }
 
 #[test]

@@ -36,9 +36,9 @@ fn refused_values() {
     assert_eq!(zone, raw::Zone { number: 4, at: 0, zone: 0 });
     let cover = raw::fordcask_cover(1_000_000, i64::MAX);
     assert_eq!(cover, raw::Cover { number: 4, at: 0, length: 0, zones: [0; 6] });
-    let rectangle = raw::fordcask_rectangle(1_000_000, 1, 0);
     let none = raw::Rectangle { number: 16, at: 0, length: 0, zones: [0; 18] };
-    assert_eq!(rectangle, none);
+    assert_eq!(raw::fordcask_rectangle(1_000_000, 1, 0), none);
+    assert_eq!(raw::fordcask_rectangle(1_000_000, 0, 0), none);
     let origin = raw::fordcask_align(1_000_000, 9, 0, 0);
     assert_eq!(origin, raw::Origin { number: 3, at: 0, n: 0, m: 0, pso: 0, lso: 0 });
     let offset = raw::fordcask_offset(0, 64_800_001, 0, 0);
@@ -101,8 +101,8 @@ fn unused_slots() {
     let mut random = seeded("unused_slots");
     for _ in 0..20_000 {
         let scale = scale(&mut random);
-        let south = random.between(-32_400_000, 32_400_000);
-        let north = random.between(south, 32_400_000);
+        let south = random.between(-32_400_000, 32_399_999);
+        let north = random.between(south + 1, 32_400_000);
         let cover = raw::fordcask_cover(scale, south);
         let mut slots = rule::cover(scale, south).expect("a cover");
         assert_eq!(cover.length, slots.len() as u64);

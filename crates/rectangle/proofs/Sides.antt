@@ -21,6 +21,13 @@ same true y f g = sym (f refl)
 same false true f g = g refl
 same false false f g = refl
 
+-- where a row's stretch ends, times B
+pub end-polar : (b : ℕ) (r : Row) → isPolar (r .northern) ≡ true → polewardEnd b r ≡ quarter * b
+end-polar b r e = rw e
+
+pub end-other : (b : ℕ) (r : Row) → isPolar (r .northern) ≡ false → polewardEnd b r ≡ to r * b + 1024 * circle
+end-other b r e = rw e
+
 -- the stretch of a northern zone and of a southern one
 abbrev pub northern : ℕ → Row → Stretch
 northern b r = record { southEnd = pos (from r * b); northEnd = pos (polewardEnd b r) }
@@ -61,8 +68,7 @@ module _ (b j : ℕ) (h : j < 9) where
         rw (lt-ltb (from (rowAt j)) (d - e) (omega arith))
         (go (ltb (a - c) (to (rowAt j))) (isPolar (rowAt j .northern)) refl refl (w .reach))
       where
-        go : (t p : Bool) → ltb (a - c) (to (rowAt j)) ≡ t → isPolar (rowAt j .northern) ≡ p
-            → a * b < cond p (quarter * b) (to (rowAt j) * b + 1024 * circle) + c * b
+        go : (t p : Bool) → ltb (a - c) (to (rowAt j)) ≡ t → isPolar (rowAt j .northern) ≡ p → a * b < end + c * b
             → (t || p) || ltb ((a - c - to (rowAt j)) * b) (1024 * circle) ≡ true
         go true p q k l = refl
         go false true q k l = refl
@@ -70,7 +76,7 @@ module _ (b j : ℕ) (h : j < 9) where
             let f : to (rowAt j) ≤ a - c = ltb-false (a - c) (to (rowAt j)) q in
             let s : a * b ≡ (c + to (rowAt j)) * b + (a - c - to (rowAt j)) * b =
             ap (λ (n : ℕ). n * b) (omega (arith, from-to j h)) ∙ add-mul (c + to (rowAt j)) (a - c - to (rowAt j)) b in
-            lt-ltb ((a - c - to (rowAt j)) * b) (1024 * circle) (omega (arith, add-mul c (to (rowAt j)) b))
+            lt-ltb ((a - c - to (rowAt j)) * b) (1024 * circle) (omega (arith, add-mul c (to (rowAt j)) b, end-other b (rowAt j) k))
 
     shares-meets : sharesRow b (rowAt j) (a - c) (d - e) ≡ true → Meets
     unfolding sharesRow
@@ -88,9 +94,9 @@ module _ (b j : ℕ) (h : j < 9) where
 
         go : (t p : Bool) → ltb (a - c) (to (rowAt j)) ≡ t → isPolar (rowAt j .northern) ≡ p
             → (t || p) || ltb ((a - c - to (rowAt j)) * b) (1024 * circle) ≡ true
-            → a * b < cond p (quarter * b) (to (rowAt j) * b + 1024 * circle) + c * b
-        go t true q k l = sooner quarter (omega arith)
-        go true false q k l = omega (arith, sooner (to (rowAt j)) (omega (arith, ltb-true (a - c) (to (rowAt j)) q)))
+            → a * b < end + c * b
+        go t true q k l = omega (arith, sooner quarter (omega arith), end-polar b (rowAt j) k)
+        go true false q k l = omega (arith, sooner (to (rowAt j)) (omega (arith, ltb-true (a - c) (to (rowAt j)) q)), end-other b (rowAt j) k)
         go false false q k l =
             let s : a * b ≤ (c + to (rowAt j) + (a - c - to (rowAt j))) * b = mul-le-mul-right b (omega arith) in
             omega (
@@ -98,15 +104,19 @@ module _ (b j : ℕ) (h : j < 9) where
               add-mul (c + to (rowAt j)) (a - c - to (rowAt j)) b,
               add-mul c (to (rowAt j)) b,
               ltb-true ((a - c - to (rowAt j)) * b) (1024 * circle) l,
+              end-other b (rowAt j) k,
             )
 
     -- what is always so: the row ends after it starts, and the rectangle does
     row-height : start < end
-    row-height = go (isPolar (rowAt j .northern))
+    row-height = go (isPolar (rowAt j .northern)) refl
       where
-        go : (p : Bool) → from (rowAt j) * b < cond p (quarter * b) (to (rowAt j) * b + 1024 * circle)
-        go true = mul-lt-mul-of-pos-right (omega (arith, from-to j h, to-most j h)) some
-        go false = omega (arith, mul-lt-mul-of-pos-right (from-to j h) some)
+        most : start < quarter * b
+        most = mul-lt-mul-of-pos-right (omega (arith, from-to j h, to-most j h)) some
+
+        go : (p : Bool) → isPolar (rowAt j .northern) ≡ p → start < end
+        go true k = omega (arith, most, end-polar b (rowAt j) k)
+        go false k = omega (arith, mul-lt-mul-of-pos-right (from-to j h) some, end-other b (rowAt j) k)
 
     height : a * b + e * b < d * b + c * b
     height = omega (arith, mul-lt-mul-of-pos-right o some, add-mul a e b, add-mul d c b)

@@ -1,7 +1,7 @@
 -- A zone's stretch is what it covers, and at a whole hundredth that is 01's cover: of a size of latitude as a fraction, once over the row; then the
 -- zones of a hemisphere by the sign. Assumes nothing.
 use mathlib.Core.Path.{_≡_, refl, sym, ap, _∙_}
-use mathlib.Core.Bool.{Bool, true, false, cond}
+use mathlib.Core.Bool.{Bool, true, false}
 use mathlib.Core.Logic.{_⊎_, inl, inr, ⊎-elim}
 use mathlib.Core.Option.{some}
 use Prim.Native.Nat.{ℕ, suc, _+_, _-_, _*_, _≤_, _<_}
@@ -15,7 +15,7 @@ use Rattle.arc.specs.Zones.{circle, quarter, isPolar, Row, tableRow, from, to, 
 use Rattle.arc.proofs.Table.{northern-at, southern-at, row-north, row-south, polar-at, last-at, from-to, to-most, placed}
 use Rattle.rectangle.specs.Stretch.{polewardEnd, zoneStretch}
 use Rattle.rectangle.specs.Points.{Point, HoldsPoint, OverlapsPoint, CoversPoint, Between, NotBeyond, StretchIs}
-use Rattle.rectangle.proofs.Sides.{northern, southern, stretch-north, stretch-south}
+use Rattle.rectangle.proofs.Sides.{end-polar, end-other, northern, southern, stretch-north, stretch-south}
 
 module _ (b j : ℕ) (i : 0 < b) (h : j < 9) where
   abbrev r : Row
@@ -29,24 +29,34 @@ module _ (b j : ℕ) (i : 0 < b) (h : j < 9) where
     abbrev d : ℕ
     d = p .denominator
 
+    -- the end of the row's stretch, times the denominator
+    at-pole : isPolar (r .northern) ≡ true → polewardEnd b r * d ≡ quarter * d * b
+    at-pole f = ap (λ (k : ℕ). k * d) (end-polar b r f) ∙ mul-right-comm quarter b d
+
+    past-limit : isPolar (r .northern) ≡ false → polewardEnd b r * d ≡ to r * d * b + 1024 * circle * d
+    past-limit f =
+        ap (λ (k : ℕ). k * d) (end-other b r f) ∙ add-mul (to r * b) (1024 * circle) d
+        ∙ ap (λ (k : ℕ). k + 1024 * circle * d) (mul-right-comm (to r) b d)
+
+    -- a size past the limit, times B
+    farther : to r * d ≤ size → size * b ≡ (size - to r * d) * b + to r * d * b
+    farther n = ap (λ (k : ℕ). k * b) (omega arith) ∙ add-mul (size - to r * d) (to r * d) b
+
     lies : from r * b * d < size * b → size * b < polewardEnd b r * d → HoldsPoint r p ⊎ OverlapsPoint b r p
-    lies k l = go (ltb size (to r * d)) (isPolar (r .northern)) refl refl l
+    lies k l = go (ltb size (to r * d)) (isPolar (r .northern)) refl refl
       where
         starts : from r * d ≤ size
         starts = let m : from r * d < size = lt-of-mul-lt-mul-right b (omega (arith, mul-right-comm (from r) d b)) in omega arith
 
-        go : (t q : Bool) → ltb size (to r * d) ≡ t → isPolar (r .northern) ≡ q
-            → size * b < cond q (quarter * b) (to r * b + 1024 * circle) * d → HoldsPoint r p ⊎ OverlapsPoint b r p
-        go true q e f m = inl (starts, inl (ltb-true size (to r * d) e))
-        go false true e f m =
-            let n : size < quarter * d = lt-of-mul-lt-mul-right b (omega (arith, mul-right-comm quarter d b)) in
+        go : (t q : Bool) → ltb size (to r * d) ≡ t → isPolar (r .northern) ≡ q → HoldsPoint r p ⊎ OverlapsPoint b r p
+        go true q e f = inl (starts, inl (ltb-true size (to r * d) e))
+        go false true e f =
+            let n : size < quarter * d = lt-of-mul-lt-mul-right b (omega (arith, l, at-pole f)) in
             let s : to r ≡ quarter = ap (λ (k : ℕ). k * 360000) (eqb-true (r .poleward) 90 (last-at j h ∙ sym (polar-at j h) ∙ f)) in
             absurd (omega (arith, ltb-false size (to r * d) e, ap (λ (k : ℕ). k * d) s))
-        go false false e f m =
+        go false false e f =
             let n : to r * d ≤ size = ltb-false size (to r * d) e in
-            let s : size * b ≡ (size - to r * d) * b + to r * d * b =
-            ap (λ (k : ℕ). k * b) (omega arith) ∙ add-mul (size - to r * d) (to r * d) b in
-            inr (f, n, omega (arith, add-mul (to r * b) (1024 * circle) d, mul-right-comm (to r) d b))
+            inr (f, n, omega (arith, l, farther n, past-limit f))
 
     within : HoldsPoint r p ⊎ OverlapsPoint b r p → (from r * b * d ≤ size * b) × (size * b ≤ polewardEnd b r * d)
     within w = (starts (⊎-elim (λ k. k .0) (λ k. omega (arith, k .1, limits)) w), ends w)
@@ -57,24 +67,17 @@ module _ (b j : ℕ) (i : 0 < b) (h : j < 9) where
         starts : from r * d ≤ size → from r * b * d ≤ size * b
         starts k = omega (arith, mul-le-mul-right b k, mul-right-comm (from r) d b)
 
-        -- a size before a limit
-        before : (n : ℕ) → n ≤ quarter → n ≤ to r → size ≤ n * d → size * b ≤ polewardEnd b r * d
-        before n m o k = go (isPolar (r .northern))
+        before : size ≤ to r * d → size * b ≤ polewardEnd b r * d
+        before k = go (isPolar (r .northern)) refl
           where
-            s : size * b ≤ n * d * b
-            s = mul-le-mul-right b k
-
-            go : (q : Bool) → size * b ≤ cond q (quarter * b) (to r * b + 1024 * circle) * d
-            go true = omega (arith, s, mul-right-comm n d b, mul-le-mul-right d (mul-le-mul-right b m))
-            go false = omega (arith, s, mul-right-comm n d b, mul-le-mul-right d (mul-le-mul-right b o), add-mul (to r * b) (1024 * circle) d)
+            go : (q : Bool) → isPolar (r .northern) ≡ q → size * b ≤ polewardEnd b r * d
+            go true f = omega (arith, mul-le-mul-right b k, mul-le-mul-right b (mul-le-mul-right d (to-most j h)), at-pole f)
+            go false f = omega (arith, mul-le-mul-right b k, past-limit f)
 
         ends : HoldsPoint r p ⊎ OverlapsPoint b r p → size * b ≤ polewardEnd b r * d
-        ends (inl (_, inl k)) = before (to r) (to-most j h) (omega arith) (omega arith)
-        ends (inl (_, inr k)) = before (to r) (to-most j h) (omega arith) (omega (arith, k .1, ap (λ (n : ℕ). n * 360000 * d) (k .0)))
-        ends (inr (f, n, k)) = rw f
-            (let s : size * b ≡ (size - to r * d) * b + to r * d * b =
-            ap (λ (k : ℕ). k * b) (omega arith) ∙ add-mul (size - to r * d) (to r * d) b in
-            omega (arith, add-mul (to r * b) (1024 * circle) d, mul-right-comm (to r) d b))
+        ends (inl (_, inl k)) = before (omega arith)
+        ends (inl (_, inr k)) = before (omega (arith, k .1, ap (λ (n : ℕ). n * 360000 * d) (k .0)))
+        ends (inr (f, n, k)) = omega (arith, farther n, past-limit f)
 
   -- a row of the zone is this row
   own-row : (zone : ℕ) → tableRow zone ≡ some r → (p : Point) (w : CoversPoint b zone p) → w .row ≡ r

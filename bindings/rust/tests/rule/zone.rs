@@ -1,4 +1,4 @@
-//! (01, "Units and the zone table"; 02, E5)
+//! (01, "Units and the zone table"; 02, E3 and E5)
 
 use super::{refuse, Answer, H, LAT_END};
 use fordcask::Spacing;
@@ -130,18 +130,21 @@ pub fn cover(scale: u64, lat: i64) -> Answer<Vec<u64>> {
     Ok(zones)
 }
 
-/// The latitude of the zone next to the Equator; what it covers runs unbroken from there.
-fn first_latitude(zone: u64) -> i128 {
-    let (from, _, _) = limits(zone);
-    match zone {
-        1..=9 => from,
-        10 => -1,
-        _ => -from,
+/// A zone with its overlap, which ends at P + 1024 H / B: south and north end, both times B.
+fn stretch(scale: u64, zone: u64) -> (i128, i128) {
+    let (from, poleward, _) = limits(zone);
+    let b = constant_at(B_UNIT, scale);
+    let overlap = if is_polar(zone) { 0 } else { 1024 * H };
+    let (near, far) = (from * b, poleward * b + overlap);
+    if zone <= 9 {
+        (near, far)
+    } else {
+        (-far, -near)
     }
 }
 
-/// Rectangles: 1, south 4, north 4, 16.
-/// A zone covers some latitude of it when it covers the one nearest to the zone's first.
+/// Rectangles: 1, south 4, north 4, 16, which is also given when south equals north (02, E3).
+/// A zone is listed when it and the rectangle share a stretch of more than zero height.
 pub fn rectangle(scale: u64, south: i64, north: i64) -> Answer<Vec<u64>> {
     if !scale_good(scale) {
         return refuse(1, 0);
@@ -149,10 +152,14 @@ pub fn rectangle(scale: u64, south: i64, north: i64) -> Answer<Vec<u64>> {
     if !lat_good(south) || !lat_good(north) {
         return refuse(4, 0);
     }
-    if south > north {
+    if south >= north {
         return refuse(16, 0);
     }
-    let (south, north) = (south as i128, north as i128);
-    let covered = |zone: &u64| covers(scale, *zone, first_latitude(*zone).clamp(south, north));
-    Ok((1..=18).filter(covered).collect())
+    let b = constant_at(B_UNIT, scale);
+    let (south, north) = (south as i128 * b, north as i128 * b);
+    let shares = |zone: &u64| {
+        let (low, high) = stretch(scale, *zone);
+        low.max(south) < high.min(north)
+    };
+    Ok((1..=18).filter(shares).collect())
 }

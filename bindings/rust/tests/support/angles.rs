@@ -16,6 +16,19 @@ pub fn latitudes() -> Vec<i64> {
     around(&all)
 }
 
+/// Where the cover of each zone ends at a scale, both hemispheres, with neighbours.
+pub fn cover_ends(scale: u64) -> Vec<i64> {
+    let b = rule::constant_at(782, scale);
+    let reach = (1024 * rule::H / b) as i64;
+    let mut all = Vec::new();
+    for (_, (_, to), _) in rule::LIMITS {
+        for lat in [360_000 * to as i64 + reach, 360_000 * to as i64 + reach + 1] {
+            all.extend([lat, -lat]);
+        }
+    }
+    around(&all)
+}
+
 /// Both ends of the range, half way, whole circles and both ends of i64, with neighbours.
 pub fn longitudes() -> Vec<i64> {
     let mut all = SIGNED_ENDS.to_vec();
