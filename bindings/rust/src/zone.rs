@@ -63,7 +63,8 @@ pub fn cover(scale: u64, lat: i64) -> Result<Cover, Refusal> {
     answer(given.number, given.at, value)
 }
 
-/// The zones that share more than an edge with the latitudes `south` to `north`. Refuses 1, 4, 16.
+/// The zones that share a stretch of latitude of more than zero height with `south` to `north`, a
+/// zone's overlap belonging to it; in ascending number. Refuses 1, 4, 16.
 pub fn rectangle(scale: u64, south: i64, north: i64) -> Result<Rectangle, Refusal> {
     let given = raw::fordcask_rectangle(scale, south, north);
     let value = Zones { zones: given.zones, length: given.length as usize };

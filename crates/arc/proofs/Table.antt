@@ -69,14 +69,14 @@ found-has (q ∷ rs) zone r e = go (hasZone q zone) refl e (λ k. found-has rs z
     go false k p f = f p
 
 -- a zone of the table by its row's place
-pub record Placed (zone : ℕ) (r : Row) : Type 0 where
+pub record ZoneAt (zone : ℕ) (r : Row) : Type 0 where
   pub at : ℕ
   pub in-table : at < 9
   pub is-row : rowAt at ≡ r
   pub is-zone : (zone ≡ 1 + at) ⊎ (zone ≡ 10 + at)
 
-pub placed : (zone : ℕ) (r : Row) → tableRow zone ≡ some r → Placed zone r
-placed zone r e =
+pub zone-at : (zone : ℕ) (r : Row) → tableRow zone ≡ some r → ZoneAt zone r
+zone-at zone r e =
     let w = found-at table zone r e in
     record {
       at = w .0;

@@ -41,7 +41,7 @@ module _ (b zone : ℕ) (lat : ℤ) (p : Point) (e : p .numerator ≡ lat *ℤ p
   size = ap natAbs e ∙ size-times lat d
 
   side : (r : Row) → zoneOn (p .numerator) r ≡ zoneOn lat r
-  side r = ap (λ (t : Bool). cond t (r .southern) (r .northern)) (ap (λ (z : ℤ). ltZ z (pos 0)) e ∙ side-times lat d (p .some))
+  side r = ap (λ (t : Bool). cond t (r .southern) (r .northern)) (ap (λ (z : ℤ). ltZ z (pos 0)) e ∙ side-times lat d (p .positive))
 
   -- how far it is past a limit
   past : (k : ℕ) → k ≤ natAbs lat → (natAbs lat * d - k * d) * b ≡ (natAbs lat - k) * b * d
@@ -52,13 +52,13 @@ module _ (b zone : ℕ) (lat : ℤ) (p : Point) (e : p .numerator ≡ lat *ℤ p
   module _ (r : Row) where
     holds : HoldsPoint r p → holdsSize r (natAbs lat) ≡ true
     holds w =
-        rw (le-leb (from r) (natAbs lat) (le-of-mul-le-mul-right (omega (arith, w .0, size)) (p .some)))
+        rw (le-leb (from r) (natAbs lat) (le-of-mul-le-mul-right (omega (arith, w .0, size)) (p .positive)))
         (⊎-elim (λ k. rw (lt-ltb (natAbs lat) (to r) (lt-of-mul-lt-mul-right d (omega (arith, size)))))
         (λ k. rw (eq-eqb (r .poleward) 90 (k .0)) (or-true (ltb (natAbs lat) (to r)))) (w .1))
 
     overlapped : OverlapsPoint b r p → overlaps b r (natAbs lat) ≡ true
     overlapped (f, k, l) =
-        let m : to r ≤ natAbs lat = le-of-mul-le-mul-right (omega (arith, size)) (p .some) in
+        let m : to r ≤ natAbs lat = le-of-mul-le-mul-right (omega (arith, size)) (p .positive) in
         rw (f, le-leb (to r) (natAbs lat) m)
         (lt-ltb ((natAbs lat - to r) * b) (1024 * circle)
         (lt-of-mul-lt-mul-right d (omega (arith, past (to r) m, ap (λ (n : ℕ). (n - to r * d) * b) size))))
@@ -72,7 +72,7 @@ module _ (b zone : ℕ) (lat : ℤ) (p : Point) (e : p .numerator ≡ lat *ℤ p
       where
         go : (t : Bool) → ltb (natAbs lat) (to r) ≡ t → t || eqb (r .poleward) 90 ≡ true
             → (natAbs (p .numerator) < to r * d) ⊎ ((r .poleward ≡ 90) × (natAbs (p .numerator) ≡ quarter * d))
-        go true k l = inl (omega (arith, size, mul-lt-mul-of-pos-right (ltb-true (natAbs lat) (to r) k) (p .some)))
+        go true k l = inl (omega (arith, size, mul-lt-mul-of-pos-right (ltb-true (natAbs lat) (to r) k) (p .positive)))
         go false k l =
             let f : r .poleward ≡ 90 = eqb-true (r .poleward) 90 l in
             inr (f, size ∙ ap (λ (n : ℕ). n * d) (omega (arith, ltb-false (natAbs lat) (to r) k)))
@@ -83,7 +83,7 @@ module _ (b zone : ℕ) (lat : ℤ) (p : Point) (e : p .numerator ≡ lat *ℤ p
         let v = and-eq-true-iff (leb (to r) (natAbs lat)) (ltb ((natAbs lat - to r) * b) (1024 * circle)) .0 (w .1) in
         let m : to r ≤ natAbs lat = leb-true (to r) (natAbs lat) (v .0) in
         let l : (natAbs lat - to r) * b * d < 1024 * circle * d =
-        mul-lt-mul-of-pos-right (ltb-true ((natAbs lat - to r) * b) (1024 * circle) (v .1)) (p .some) in (
+        mul-lt-mul-of-pos-right (ltb-true ((natAbs lat - to r) * b) (1024 * circle) (v .1)) (p .positive) in (
           not-true (isPolar (r .northern)) (w .0),
           omega (arith, size, mul-le-mul-right d m),
           omega (arith, past (to r) m, ap (λ (n : ℕ). (n - to r * d) * b) size),

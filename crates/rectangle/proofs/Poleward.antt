@@ -23,27 +23,26 @@ use Rattle.rectangle.specs.Points.{CoverPoleward}
 use Rattle.rectangle.proofs.Sides.{on-north, on-south}
 use Rattle.rectangle.proofs.Shared.{listed}
 
-module _ (b j : ℕ) (h : j < 9) (g : Rows b) (n m : ℕ) (o : n < m) (q : m ≤ quarter) where
-  -- of a row and two sizes, the second the larger
-  farther : leb (from (rowAt j)) n && reaches b (rowAt j) n ≡ true → sharesRow b (rowAt j) (n - 0) (m - 0) ≡ true
-  unfolding sharesRow
-  farther t =
-      let w = and-eq-true-iff (leb (from (rowAt j)) n) (reaches b (rowAt j) n) .0 t in
-      let k : ltb (from (rowAt j)) m ≡ true = lt-ltb (from (rowAt j)) m (omega (arith, leb-true (from (rowAt j)) n (w .0))) in
-      ap₂ (sharesRow b (rowAt j)) (sub-zero n) (sub-zero m) ∙ rw k (w .1)
+-- of a row and two sizes, the second the larger
+more : (b j n m : ℕ) → n < m → leb (from (rowAt j)) n && reaches b (rowAt j) n ≡ true → sharesRow b (rowAt j) (n - 0) (m - 0) ≡ true
+unfolding sharesRow
+more b j n m o t =
+    let w = and-eq-true-iff (leb (from (rowAt j)) n) (reaches b (rowAt j) n) .0 t in
+    let k : ltb (from (rowAt j)) m ≡ true = lt-ltb (from (rowAt j)) m (omega (arith, leb-true (from (rowAt j)) n (w .0))) in
+    ap₂ (sharesRow b (rowAt j)) (sub-zero n) (sub-zero m) ∙ rw k (w .1)
 
-  north : covers b (pos n) (1 + j) ≡ true → occurs (1 + j) (rectangleZones b (pos n) (pos m)) ≡ true
-  north t =
+module _ (b j : ℕ) (h : j < 9) (g : Rows b) (n m : ℕ) (o : n < m) where
+  north : m ≤ quarter → covers b (pos n) (1 + j) ≡ true → occurs (1 + j) (rectangleZones b (pos n) (pos m)) ≡ true
+  north q t =
       listed b (pos n) (pos m) (1 + j) (rowAt j) (row-north j h)
       (on-north b j h g n 0 m 0 (omega arith) (omega arith) (pos n) (pos m) (is-nat n) (is-nat m)
-      ∙ farther (sym (rw (le-ltb n 0 (omega arith)) at (covers-is b j h (pos n))) ∙ t))
+      ∙ more b j n m o (sym (rw (le-ltb n 0 (omega arith)) at (covers-is b j h (pos n))) ∙ t))
 
-module _ (b j : ℕ) (h : j < 9) (g : Rows b) (n m : ℕ) (o : n < m) (q : suc m ≤ quarter) where
-  south : covers b (negsuc n) (10 + j) ≡ true → occurs (10 + j) (rectangleZones b (negsuc m) (negsuc n)) ≡ true
-  south t =
+  south : suc m ≤ quarter → covers b (negsuc n) (10 + j) ≡ true → occurs (10 + j) (rectangleZones b (negsuc m) (negsuc n)) ≡ true
+  south q t =
       listed b (negsuc m) (negsuc n) (10 + j) (rowAt j) (row-south j h)
       (on-south b j h g (suc n) 0 (suc m) 0 (omega arith) (omega arith) (negsuc m) (negsuc n) (omega arith) (omega arith)
-      ∙ farther b j h g (suc n) (suc m) (omega arith) q (sym (covers-is b j h (negsuc n)) ∙ t))
+      ∙ more b j (suc n) (suc m) (omega arith) (sym (covers-is b j h (negsuc n)) ∙ t))
 
 either-way : (b zone : ℕ) → Rows b → (lat edge : ℤ) → natAbs edge ≤ quarter → (j : ℕ) → j < 9 → zone ≡ firstZone lat + j → covers b lat zone ≡ true
     → (pos 0 ≤ℤ lat → lat <ℤ edge → occurs zone (rectangleZones b lat edge) ≡ true)

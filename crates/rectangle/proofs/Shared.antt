@@ -16,9 +16,9 @@ use Rattle.whole.proofs.Fractions.{lt-products, le-lt, lt-le}
 use Rattle.whole.proofs.Lists.{occurs-those, occurs-up}
 use Rattle.arc.specs.Zones.{Row, tableRow}
 use Rattle.arc.specs.Spacing.{rowUnit, spacingAt}
-use Rattle.arc.proofs.Table.{placed}
+use Rattle.arc.proofs.Table.{zone-at}
 use Rattle.zones.proofs.Covering.{scale-rows}
-use Rattle.rectangle.specs.Stretch.{Stretch, zoneStretch, sheetStretch, sharesHeight, sharesIn, shares}
+use Rattle.rectangle.specs.Stretch.{Stretch, zoneStretch, rectangleStretch, sharesHeight, sharesIn, shares}
 use Rattle.rectangle.specs.Rectangle.{rectangleZones}
 use Rattle.rectangle.specs.Points.{Point, AtMost, Below, InRectangle, CoversPoint, Between, Shared, SharesIs, RectangleListed}
 use Rattle.rectangle.proofs.Ends.{crossed, shared, common}
@@ -38,7 +38,7 @@ module _ {b zone : ℕ} {south north : ℤ} (w : Shared b south north zone) wher
 module _ (b : ℕ) (i : 0 < b) where
   -- (3 w + t) / 3 B
   third : ℤ → ℕ → Point
-  third w t = record { numerator = pos 3 *ℤ w +ℤ pos t; denominator = 3 * b; some = omega arith }
+  third w t = record { numerator = pos 3 *ℤ w +ℤ pos t; denominator = 3 * b; positive = omega arith }
 
   third-is : (w : ℤ) (t k : ℕ) → Is ((pos 3 *ℤ w +ℤ pos t) *ℤ pos k) ((3 * over w + t) * k) ((3 * under w + 0) * k)
   third-is w t k =
@@ -78,8 +78,8 @@ module _ (b : ℕ) (i : 0 < b) where
       → Between b (record { southEnd = x; northEnd = u }) p
   unfolding third
   thirds-between x u w k l p f g = (
-    lt-le x (pos 3 *ℤ w +ℤ pos 1) (p .numerator) b (3 * b) (p .denominator) (p .some) (above-end x w k) f,
-    le-lt (p .numerator) (pos 3 *ℤ w +ℤ pos 2) u (p .denominator) (3 * b) b (p .some) g (below-end w u l),
+    lt-le x (pos 3 *ℤ w +ℤ pos 1) (p .numerator) b (3 * b) (p .denominator) (p .positive) (above-end x w k) f,
+    le-lt (p .numerator) (pos 3 *ℤ w +ℤ pos 2) u (p .denominator) (3 * b) b (p .positive) g (below-end w u l),
   )
 
   -- a south end not beyond a point is below a north end not beyond a point farther north
@@ -137,37 +137,37 @@ module _ (b : ℕ) (i : 0 < b) where
 
   -- the zone's stretch against the rectangle's
   module _ (south north : ℤ) (zone : ℕ) (r : Row) (t : tableRow zone ≡ some r) where
-    abbrev own : Stretch
-    own = zoneStretch b zone r
+    abbrev zone-ends : Stretch
+    zone-ends = zoneStretch b zone r
 
-    abbrev sheet : Stretch
-    sheet = sheetStretch b south north
+    abbrev edges : Stretch
+    edges = rectangleStretch b south north
 
-    points : sharesHeight own sheet ≡ true → Shared b south north zone
+    points : sharesHeight zone-ends edges ≡ true → Shared b south north zone
     points e =
-        let c = common own sheet (crossed own sheet e) in
+        let c = common zone-ends edges (crossed zone-ends edges e) in
         record {
           low = third (c .0) 1;
           high = third (c .0) 2;
           different = thirds-apart (c .0);
           all-between = λ p f g. (
-            let k = thirds-between (sheet .southEnd) (sheet .northEnd) (c .0) (c .2) (c .4) p f g in (south-in south p (k .0), north-in north p (k .1)),
-            stretches b i zone r t p .0 (thirds-between (own .southEnd) (own .northEnd) (c .0) (c .1) (c .3) p f g),
+            let k = thirds-between (edges .southEnd) (edges .northEnd) (c .0) (c .2) (c .4) p f g in (south-in south p (k .0), north-in north p (k .1)),
+            stretches b i zone r t p .0 (thirds-between (zone-ends .southEnd) (zone-ends .northEnd) (c .0) (c .1) (c .3) p f g),
           );
         }
 
-    apart : Shared b south north zone → sharesHeight own sheet ≡ true
+    apart : Shared b south north zone → sharesHeight zone-ends edges ≡ true
     apart w =
         let m = stretches b i zone r t (w .low) .1 (at-low w .1) in
         let n = stretches b i zone r t (w .high) .1 (at-high w .1) in
         let k = south-out south (w .low) (at-low w .0 .0) in
         let l = north-out north (w .high) (at-high w .0 .1) in
-        shared own sheet
+        shared zone-ends edges
         (record {
-          own = ends-apart (own .southEnd) (own .northEnd) (w .low) (w .high) (m .0) (w .different) (n .1);
-          across = ends-apart (own .southEnd) (sheet .northEnd) (w .low) (w .high) (m .0) (w .different) l;
-          back = ends-apart (sheet .southEnd) (own .northEnd) (w .low) (w .high) k (w .different) (n .1);
-          other = ends-apart (sheet .southEnd) (sheet .northEnd) (w .low) (w .high) k (w .different) l;
+          first = ends-apart (zone-ends .southEnd) (zone-ends .northEnd) (w .low) (w .high) (m .0) (w .different) (n .1);
+          across = ends-apart (zone-ends .southEnd) (edges .northEnd) (w .low) (w .high) (m .0) (w .different) l;
+          back = ends-apart (edges .southEnd) (zone-ends .northEnd) (w .low) (w .high) k (w .different) (n .1);
+          second = ends-apart (edges .southEnd) (edges .northEnd) (w .low) (w .high) k (w .different) l;
         })
 
 pub sharing : SharesIs
@@ -186,7 +186,7 @@ pub listed : (b : ℕ) (south north : ℤ) (zone : ℕ) (r : Row) → tableRow z
     → occurs zone (rectangleZones b south north) ≡ true
 unfolding rectangleZones
 listed b south north zone r t e =
-    let w = placed zone r t in
+    let w = zone-at zone r t in
     occurs-those (shares b south north) zone (upFrom 1 18)
     ∙ rw e (⊎-elim
     (λ f. ap (λ (z : ℕ). occurs z (upFrom 1 18)) f ∙ occurs-up 1 18 (w .at) (omega (arith, w .in-table)))

@@ -1,5 +1,5 @@
--- A zone and a rectangle by sizes of latitude: on the zone's side of the Equator the rectangle is a stretch of sizes, low to high, and the two share
--- a stretch where the zone's row starts before high and reaches low. Assumes nothing.
+-- A zone and a rectangle by sizes of latitude: on the zone's side of the Equator the rectangle is a stretch of sizes, low to high, both 0 where it lies
+-- on the other side, and the two share a stretch where the zone's row starts before high and reaches low. Assumes nothing.
 use mathlib.Core.Path.{_≡_, refl, sym, ap, _∙_}
 use mathlib.Core.Bool.{Bool, true, false, cond, _||_, and-eq-true-iff}
 use Prim.Native.Nat.{ℕ, _+_, _-_, _*_, _≤_, _<_}
@@ -12,7 +12,7 @@ use Rattle.whole.proofs.Signed.{Is, is-nat, is-neg, is-mul, is-lt, lt-is, is-di
 use Rattle.arc.specs.Zones.{circle, quarter, isPolar, Row, from, to, rowAt}
 use Rattle.arc.proofs.Table.{southern-at, row-north, row-south, from-to, to-most}
 use Rattle.zones.specs.Steps.{reaches, Rows}
-use Rattle.rectangle.specs.Stretch.{polewardEnd, Stretch, zoneStretch, sheetStretch, sharesHeight, sharesIn, shares}
+use Rattle.rectangle.specs.Stretch.{polewardEnd, Stretch, northernStretch, southernStretch, zoneStretch, rectangleStretch, sharesHeight, sharesIn, shares}
 use Rattle.rectangle.specs.Steps.{sharesRow, Sides}
 use Rattle.rectangle.proofs.Ends.{Crossed, crossed, shared}
 
@@ -28,24 +28,17 @@ end-polar b r e = rw e
 pub end-other : (b : ℕ) (r : Row) → isPolar (r .northern) ≡ false → polewardEnd b r ≡ to r * b + 1024 * circle
 end-other b r e = rw e
 
--- the stretch of a northern zone and of a southern one
-abbrev pub northern : ℕ → Row → Stretch
-northern b r = record { southEnd = pos (from r * b); northEnd = pos (polewardEnd b r) }
-
-abbrev pub southern : ℕ → Row → Stretch
-southern b r = record { southEnd = negℤ (pos (polewardEnd b r)); northEnd = negℤ (pos (from r * b)) }
-
 module _ (b j : ℕ) (h : j < 9) where
-  pub stretch-north : zoneStretch b (1 + j) (rowAt j) ≡ northern b (rowAt j)
+  pub stretch-north : zoneStretch b (1 + j) (rowAt j) ≡ northernStretch b (rowAt j)
   stretch-north =
-      ap (λ (t : Bool). cond t (southern b (rowAt j)) (northern b (rowAt j)))
+      ap (λ (t : Bool). cond t (southernStretch b (rowAt j)) (northernStretch b (rowAt j)))
       (ne-eqb (1 + j) (rowAt j .southern) (λ e. omega (arith, southern-at j h)))
 
-  pub stretch-south : zoneStretch b (10 + j) (rowAt j) ≡ southern b (rowAt j)
+  pub stretch-south : zoneStretch b (10 + j) (rowAt j) ≡ southernStretch b (rowAt j)
   stretch-south =
-      ap (λ (t : Bool). cond t (southern b (rowAt j)) (northern b (rowAt j))) (eq-eqb (10 + j) (rowAt j .southern) (sym (southern-at j h)))
+      ap (λ (t : Bool). cond t (southernStretch b (rowAt j)) (northernStretch b (rowAt j))) (eq-eqb (10 + j) (rowAt j .southern) (sym (southern-at j h)))
 
-  -- a rectangle from a − c to d − e on the zone's side, not empty and not beyond the pole
+  -- a rectangle from a − c to d − e, counted poleward on the zone's side: either may be negative; of some height, not beyond the pole
   module _ (g : Rows b) (a c d e : ℕ) (o : a + e < d + c) (m : d ≤ e + quarter) where
     -- the row starts before the rectangle ends, and ends after it starts
     pub record Meets : Type 0 where
@@ -58,8 +51,8 @@ module _ (b j : ℕ) (h : j < 9) where
     abbrev end : ℕ
     end = polewardEnd b (rowAt j)
 
-    some : 0 < b
-    some = omega (arith, g .least)
+    positive : 0 < b
+    positive = omega (arith, g .least)
 
     meets-shares : Meets → sharesRow b (rowAt j) (a - c) (d - e) ≡ true
     unfolding sharesRow
@@ -84,13 +77,13 @@ module _ (b j : ℕ) (h : j < 9) where
         let w = and-eq-true-iff (ltb (from (rowAt j)) (d - e)) (reaches b (rowAt j) (a - c)) .0 t in
         let f : from (rowAt j) + e < d = omega (arith, ltb-true (from (rowAt j)) (d - e) (w .0)) in
         record {
-          starts = omega (arith, mul-lt-mul-of-pos-right f some, add-mul (from (rowAt j)) e b);
+          starts = omega (arith, mul-lt-mul-of-pos-right f positive, add-mul (from (rowAt j)) e b);
           reach = go (ltb (a - c) (to (rowAt j))) (isPolar (rowAt j .northern)) refl refl (w .1);
         }
       where
         -- a is below c and the limit
         sooner : (k : ℕ) → a < k + c → a * b < k * b + c * b
-        sooner k l = omega (arith, mul-lt-mul-of-pos-right l some, add-mul k c b)
+        sooner k l = omega (arith, mul-lt-mul-of-pos-right l positive, add-mul k c b)
 
         go : (t p : Bool) → ltb (a - c) (to (rowAt j)) ≡ t → isPolar (rowAt j .northern) ≡ p
             → (t || p) || ltb ((a - c - to (rowAt j)) * b) (1024 * circle) ≡ true
@@ -112,14 +105,14 @@ module _ (b j : ℕ) (h : j < 9) where
     row-height = go (isPolar (rowAt j .northern)) refl
       where
         most : start < quarter * b
-        most = mul-lt-mul-of-pos-right (omega (arith, from-to j h, to-most j h)) some
+        most = mul-lt-mul-of-pos-right (omega (arith, from-to j h, to-most j h)) positive
 
         go : (p : Bool) → isPolar (rowAt j .northern) ≡ p → start < end
         go true k = omega (arith, most, end-polar b (rowAt j) k)
-        go false k = omega (arith, mul-lt-mul-of-pos-right (from-to j h) some, end-other b (rowAt j) k)
+        go false k = omega (arith, mul-lt-mul-of-pos-right (from-to j h) positive, end-other b (rowAt j) k)
 
     height : a * b + e * b < d * b + c * b
-    height = omega (arith, mul-lt-mul-of-pos-right o some, add-mul a e b, add-mul d c b)
+    height = omega (arith, mul-lt-mul-of-pos-right o positive, add-mul a e b, add-mul d c b)
 
     -- two stretches that cross where the row and the rectangle do
     told : (p q : Stretch) → (Crossed p q → Meets) → (Meets → Crossed p q) → sharesHeight p q ≡ sharesRow b (rowAt j) (a - c) (d - e)
@@ -142,8 +135,8 @@ module _ (b j : ℕ) (h : j < 9) where
           let i = is-mul south b a c p in
           let k = is-mul north b d e q in
           ap (sharesIn b south north (1 + j)) (row-north j h)
-          ∙ ap (λ (z : Stretch). sharesHeight z (sheetStretch b south north)) stretch-north
-          ∙ told (northern b (rowAt j)) (sheetStretch b south north)
+          ∙ ap (λ (z : Stretch). sharesHeight z (rectangleStretch b south north)) stretch-north
+          ∙ told (northernStretch b (rowAt j)) (rectangleStretch b south north)
           (λ w.
           record {
             starts = omega (arith, lt-is (pos start) v start 0 (d * b) (e * b) f k (w .across));
@@ -151,10 +144,10 @@ module _ (b j : ℕ) (h : j < 9) where
           })
           (λ w.
           record {
-            own = is-lt (pos start) (pos end) start 0 end 0 f t (omega (arith, row-height));
+            first = is-lt (pos start) (pos end) start 0 end 0 f t (omega (arith, row-height));
             across = is-lt (pos start) v start 0 (d * b) (e * b) f k (omega (arith, w .starts));
             back = is-lt y (pos end) (a * b) (c * b) end 0 i t (omega (arith, w .reach));
-            other = is-lt y v (a * b) (c * b) (d * b) (e * b) i k (omega (arith, height));
+            second = is-lt y v (a * b) (c * b) (d * b) (e * b) i k (omega (arith, height));
           })
 
       pub on-south : Is south e d → Is north c a → shares b south north (10 + j) ≡ sharesRow b (rowAt j) (a - c) (d - e)
@@ -165,8 +158,8 @@ module _ (b j : ℕ) (h : j < 9) where
           let i = is-mul south b e d p in
           let k = is-mul north b c a q in
           ap (sharesIn b south north (10 + j)) (row-south j h)
-          ∙ ap (λ (z : Stretch). sharesHeight z (sheetStretch b south north)) stretch-south
-          ∙ told (southern b (rowAt j)) (sheetStretch b south north)
+          ∙ ap (λ (z : Stretch). sharesHeight z (rectangleStretch b south north)) stretch-south
+          ∙ told (southernStretch b (rowAt j)) (rectangleStretch b south north)
           (λ w.
           record {
             starts = omega (arith, lt-is y (negℤ (pos start)) (e * b) (d * b) 0 start i f (w .back));
@@ -174,27 +167,27 @@ module _ (b j : ℕ) (h : j < 9) where
           })
           (λ w.
           record {
-            own = is-lt (negℤ (pos end)) (negℤ (pos start)) 0 end 0 start t f (omega (arith, row-height));
+            first = is-lt (negℤ (pos end)) (negℤ (pos start)) 0 end 0 start t f (omega (arith, row-height));
             across = is-lt (negℤ (pos end)) v 0 end (c * b) (a * b) t k (omega (arith, w .reach));
             back = is-lt y (negℤ (pos start)) (e * b) (d * b) 0 start i f (omega (arith, w .starts));
-            other = is-lt y v (e * b) (d * b) (c * b) (a * b) i k (omega (arith, height));
+            second = is-lt y v (e * b) (d * b) (c * b) (a * b) i k (omega (arith, height));
           })
 
 -- by the zone's number, the rectangle's edges counted from the South Pole, as `zone_shares` is asked
 module _ (b zone S N : ℕ) (g : Sides b zone S N) where
-  abbrev listed : ℕ → Bool
-  listed = shares b (pos S -ℤ pos quarter) (pos N -ℤ pos quarter)
+  abbrev asked : ℕ → Bool
+  asked = shares b (pos S -ℤ pos quarter) (pos N -ℤ pos quarter)
 
-  pub in-north : zone ≤ 9 → listed zone ≡ sharesRow b (rowAt (zone - 1)) (S - quarter) (N - quarter)
+  pub in-north : zone ≤ 9 → asked zone ≡ sharesRow b (rowAt (zone - 1)) (S - quarter) (N - quarter)
   in-north h =
       let e : zone ≡ 1 + (zone - 1) = omega (arith, g .some-zone) in
-      ap listed e
+      ap asked e
       ∙ on-north b (zone - 1) (omega arith) (g .rows) S quarter N quarter (omega (arith, g .order)) (omega (arith, g .pole))
       (pos S -ℤ pos quarter) (pos N -ℤ pos quarter) (is-difference S quarter) (is-difference N quarter)
 
-  pub in-south : 9 < zone → listed zone ≡ sharesRow b (rowAt (zone - 10)) (quarter - N) (quarter - S)
+  pub in-south : 9 < zone → asked zone ≡ sharesRow b (rowAt (zone - 10)) (quarter - N) (quarter - S)
   in-south h =
       let e : zone ≡ 10 + (zone - 10) = omega arith in
-      ap listed e
+      ap asked e
       ∙ on-south b (zone - 10) (omega (arith, g .last-zone)) (g .rows) quarter N quarter S (omega (arith, g .order)) (omega arith)
       (pos S -ℤ pos quarter) (pos N -ℤ pos quarter) (is-difference S quarter) (is-difference N quarter)

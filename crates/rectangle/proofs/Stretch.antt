@@ -1,5 +1,4 @@
--- A zone's stretch is what it covers, and at a whole hundredth that is 01's cover: of a size of latitude as a fraction, once over the row; then the
--- zones of a hemisphere by the sign. Assumes nothing.
+-- A zone's stretch is what it covers: of a size of latitude as a fraction, once over the row; then the zones of a hemisphere by the sign. Assumes nothing.
 use mathlib.Core.Path.{_≡_, refl, sym, ap, _∙_}
 use mathlib.Core.Bool.{Bool, true, false}
 use mathlib.Core.Logic.{_⊎_, inl, inr, ⊎-elim}
@@ -12,10 +11,10 @@ use lib.Dec.{ltb}
 use lib.IntN.{ℤ, pos, negsuc, negℤ, natAbs, _*ℤ_}
 use Rattle.whole.proofs.Signed.{Is, is-nat, is-neg, is-mul, lt-is, is-le}
 use Rattle.arc.specs.Zones.{circle, quarter, isPolar, Row, tableRow, from, to, rowAt}
-use Rattle.arc.proofs.Table.{northern-at, southern-at, row-north, row-south, polar-at, last-at, from-to, to-most, placed}
-use Rattle.rectangle.specs.Stretch.{polewardEnd, zoneStretch}
+use Rattle.arc.proofs.Table.{northern-at, southern-at, row-north, row-south, polar-at, last-at, from-to, to-most, zone-at}
+use Rattle.rectangle.specs.Stretch.{polewardEnd, northernStretch, southernStretch, zoneStretch}
 use Rattle.rectangle.specs.Points.{Point, HoldsPoint, OverlapsPoint, CoversPoint, Between, NotBeyond, StretchIs}
-use Rattle.rectangle.proofs.Sides.{end-polar, end-other, northern, southern, stretch-north, stretch-south}
+use Rattle.rectangle.proofs.Sides.{end-polar, end-other, stretch-north, stretch-south}
 
 module _ (b j : ℕ) (i : 0 < b) (h : j < 9) where
   abbrev r : Row
@@ -86,10 +85,10 @@ module _ (b j : ℕ) (i : 0 < b) (h : j < 9) where
   -- a point north of the Equator or on it, and one south of it
   module _ (n d : ℕ) (s : 0 < d) where
     abbrev up : Point
-    up = record { numerator = pos n; denominator = d; some = s }
+    up = record { numerator = pos n; denominator = d; positive = s }
 
     abbrev down : Point
-    down = record { numerator = negsuc n; denominator = d; some = s }
+    down = record { numerator = negsuc n; denominator = d; positive = s }
 
     up-is : Is (pos n *ℤ pos b) (n * b) (0 * b)
     up-is = is-mul (pos n) b n 0 (is-nat n)
@@ -109,7 +108,7 @@ module _ (b j : ℕ) (i : 0 < b) (h : j < 9) where
     abbrev E : ℕ
     E = polewardEnd b r
 
-    up-north : Between b (northern b r) up → CoversPoint b (1 + j) up
+    up-north : Between b (northernStretch b r) up → CoversPoint b (1 + j) up
     up-north w =
         record {
           row = r;
@@ -120,15 +119,15 @@ module _ (b j : ℕ) (i : 0 < b) (h : j < 9) where
               (omega (arith, lt-is (pos n *ℤ pos b) (pos E *ℤ pos d) (n * b) (0 * b) (E * d) (0 * d) up-is (end-is E) (w .1)));
         }
 
-    down-north : Between b (northern b r) down → CoversPoint b (1 + j) down
+    down-north : Between b (northernStretch b r) down → CoversPoint b (1 + j) down
     down-north w =
         absurd (omega (arith, lt-is (pos S *ℤ pos d) (negsuc n *ℤ pos b) (S * d) (0 * d) (0 * b) (suc n * b) (end-is S) down-is (w .0)))
 
-    up-south : Between b (southern b r) up → CoversPoint b (10 + j) up
+    up-south : Between b (southernStretch b r) up → CoversPoint b (10 + j) up
     up-south w =
         absurd (omega (arith, lt-is (pos n *ℤ pos b) (negℤ (pos S) *ℤ pos d) (n * b) (0 * b) (0 * d) (S * d) up-is (mirror-is S) (w .1)))
 
-    down-south : Between b (southern b r) down → CoversPoint b (10 + j) down
+    down-south : Between b (southernStretch b r) down → CoversPoint b (10 + j) down
     down-south w =
         record {
           row = r;
@@ -139,43 +138,43 @@ module _ (b j : ℕ) (i : 0 < b) (h : j < 9) where
               (omega (arith, lt-is (negℤ (pos E) *ℤ pos d) (negsuc n *ℤ pos b) (0 * d) (E * d) (0 * b) (suc n * b) (mirror-is E) down-is (w .0)));
         }
 
-    north-up : CoversPoint b (1 + j) up → NotBeyond b (northern b r) up
+    north-up : CoversPoint b (1 + j) up → NotBeyond b (northernStretch b r) up
     north-up w =
         let k = within up (rw (own-row (1 + j) (row-north j h) up w) at (w .lies)) in (
           is-le (pos S *ℤ pos d) (pos n *ℤ pos b) (S * d) (0 * d) (n * b) (0 * b) (end-is S) up-is (omega arith),
           is-le (pos n *ℤ pos b) (pos E *ℤ pos d) (n * b) (0 * b) (E * d) (0 * d) up-is (end-is E) (omega arith),
         )
 
-    north-down : CoversPoint b (1 + j) down → NotBeyond b (northern b r) down
+    north-down : CoversPoint b (1 + j) down → NotBeyond b (northernStretch b r) down
     north-down w =
         absurd (omega (arith, w .hemisphere, ap (λ (q : Row). q .southern) (own-row (1 + j) (row-north j h) down w), southern-at j h))
 
-    south-up : CoversPoint b (10 + j) up → NotBeyond b (southern b r) up
+    south-up : CoversPoint b (10 + j) up → NotBeyond b (southernStretch b r) up
     south-up w =
         let e : 10 + j ≡ w .row .northern = rw (le-ltb n 0 (omega arith)) at (w .hemisphere) in
         absurd (omega (arith, ap (λ (q : Row). q .northern) (own-row (10 + j) (row-south j h) up w), northern-at j h))
 
-    south-down : CoversPoint b (10 + j) down → NotBeyond b (southern b r) down
+    south-down : CoversPoint b (10 + j) down → NotBeyond b (southernStretch b r) down
     south-down w =
         let k = within down (rw (own-row (10 + j) (row-south j h) down w) at (w .lies)) in (
           is-le (negℤ (pos E) *ℤ pos d) (negsuc n *ℤ pos b) (0 * d) (E * d) (0 * b) (suc n * b) (mirror-is E) down-is (omega arith),
           is-le (negsuc n *ℤ pos b) (negℤ (pos S) *ℤ pos d) (0 * b) (suc n * b) (0 * d) (S * d) down-is (mirror-is S) (omega arith),
         )
 
-  in-north : (z : ℤ) (d : ℕ) (s : 0 < d) → let p : Point = record { numerator = z; denominator = d; some = s } in
-      (Between b (northern b r) p → CoversPoint b (1 + j) p) × (CoversPoint b (1 + j) p → NotBeyond b (northern b r) p)
-  in-north (pos n) d s = (up-north n d s, north-up n d s)
-  in-north (negsuc n) d s = (down-north n d s, north-down n d s)
+  covers-north : (z : ℤ) (d : ℕ) (s : 0 < d) → let p : Point = record { numerator = z; denominator = d; positive = s } in
+      (Between b (northernStretch b r) p → CoversPoint b (1 + j) p) × (CoversPoint b (1 + j) p → NotBeyond b (northernStretch b r) p)
+  covers-north (pos n) d s = (up-north n d s, north-up n d s)
+  covers-north (negsuc n) d s = (down-north n d s, north-down n d s)
 
-  in-south : (z : ℤ) (d : ℕ) (s : 0 < d) → let p : Point = record { numerator = z; denominator = d; some = s } in
-      (Between b (southern b r) p → CoversPoint b (10 + j) p) × (CoversPoint b (10 + j) p → NotBeyond b (southern b r) p)
-  in-south (pos n) d s = (up-south n d s, south-up n d s)
-  in-south (negsuc n) d s = (down-south n d s, south-down n d s)
+  covers-south : (z : ℤ) (d : ℕ) (s : 0 < d) → let p : Point = record { numerator = z; denominator = d; positive = s } in
+      (Between b (southernStretch b r) p → CoversPoint b (10 + j) p) × (CoversPoint b (10 + j) p → NotBeyond b (southernStretch b r) p)
+  covers-south (pos n) d s = (up-south n d s, south-up n d s)
+  covers-south (negsuc n) d s = (down-south n d s, south-down n d s)
 
 pub stretches : StretchIs
-stretches b i zone r t p = let w = placed zone r t in go (w .at) (w .in-table) (w .is-row) (w .is-zone)
+stretches b i zone r t p = let w = zone-at zone r t in go (w .at) (w .in-table) (w .is-row) (w .is-zone)
   where
     go : (j : ℕ) → j < 9 → rowAt j ≡ r → (zone ≡ 1 + j) ⊎ (zone ≡ 10 + j)
         → (Between b (zoneStretch b zone r) p → CoversPoint b zone p) × (CoversPoint b zone p → NotBeyond b (zoneStretch b zone r) p)
-    go j h e (inl f) = rw (f, sym e, stretch-north b j h) (in-north b j i h (p .numerator) (p .denominator) (p .some))
-    go j h e (inr f) = rw (f, sym e, stretch-south b j h) (in-south b j i h (p .numerator) (p .denominator) (p .some))
+    go j h e (inl f) = rw (f, sym e, stretch-north b j h) (covers-north b j i h (p .numerator) (p .denominator) (p .positive))
+    go j h e (inr f) = rw (f, sym e, stretch-south b j h) (covers-south b j i h (p .numerator) (p .denominator) (p .positive))

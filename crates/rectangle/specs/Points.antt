@@ -1,8 +1,9 @@
--- The rectangle's list, point by point (02, E3: "latitude read as a continuous line"). Claims: the proofs are proofs/Stretch.antt, proofs/Shared.antt
--- and proofs/Poleward.antt.
+-- The rectangle's list, point by point (02, E3: "latitude read as a continuous line"). Claims: the proofs are proofs/Hundredths.antt, proofs/Stretch.antt,
+-- proofs/Shared.antt and proofs/Poleward.antt. What is said of a fraction is multiplied by its denominator.
 --     Point              a point of the line: numerator / denominator hundredths of an arc-second
 --     AtMost, Below      two points in their order, multiplied out
 --     InRectangle        a point of the rectangle, both edges belonging to it
+--     HoldsPoint, OverlapsPoint    it lies between the row's limits, or in the row's overlap, by its size
 --     CoversPoint        the zone covers the point: 01's sentences on a latitude, of any point
 --     Between, NotBeyond a point strictly between two ends that were multiplied by B, and one that is not beyond them
 --     Shared             two different points that lie in both, with all between them
@@ -27,10 +28,11 @@ use Rattle.zones.specs.Cover.{covers}
 use Rattle.rectangle.specs.Stretch.{Stretch, zoneStretch, shares}
 use Rattle.rectangle.specs.Rectangle.{rectangleZones}
 
+-- it may lie past a pole, where no rectangle reaches
 pub record Point : Type 0 where
   pub numerator : ℤ
   pub denominator : ℕ
-  pub some : 0 < denominator
+  pub positive : 0 < denominator
 
 abbrev pub AtMost : Point → Point → Type 0
 AtMost p q = (p .numerator *ℤ pos (q .denominator)) ≤ℤ (q .numerator *ℤ pos (p .denominator))
@@ -54,7 +56,7 @@ OverlapsPoint b r p =
     × (to r * p .denominator ≤ natAbs (p .numerator))
     × ((natAbs (p .numerator) - to r * p .denominator) * b < 1024 * circle * p .denominator)
 
--- a point of its hemisphere, that lies in it or in its overlap
+-- a point of its hemisphere, the numerator having its sign, that lies in it or in its overlap
 pub record CoversPoint (b zone : ℕ) (p : Point) : Type 0 where
   pub row : Row
   pub of-zone : tableRow zone ≡ some row

@@ -42,7 +42,7 @@ fn less(a: u64, b: u64) -> u64
     a - b
 }
 
-// Whether a row shares a stretch with the sizes of latitude from low to high, low being below high.
+// Whether a row shares a stretch with the sizes of latitude from low to high. Low is below high, or both are 0 and nothing is shared.
 fn row_shares(b: u64, row: u64, low: u64, high: u64) -> bool
     requires { ⌜ Rows b ⌝ ∗ ⌜ row < 9 ⌝ ∗ ⌜ low ≤ half ⌝ }
     ensures { λ r. ⌜ r ≡ sharesRow b (rowAt row) low high ⌝ }

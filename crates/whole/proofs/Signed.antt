@@ -153,6 +153,9 @@ module _ (x y : ℤ) where
   pub parts-lt : over x + under y < over y + under x → x <ℤ y
   parts-lt = is-lt x y (over x) (under x) (over y) (under y) (is-parts x) (is-parts y)
 
+  pub ltZ-parts : ltZ x y ≡ ltb (over x + under y) (over y + under x)
+  ltZ-parts = is-ltZ x y (over x) (under x) (over y) (under y) (is-parts x) (is-parts y)
+
   pub below-at-most : x <ℤ y → x ≤ℤ y
   below-at-most h = parts-le (omega (arith, lt-parts h))
 

@@ -99,7 +99,7 @@ fn walk(lat: i128) -> u64 {
 }
 
 /// Whether a zone covers a latitude: its basic zone, or within 1024 rows poleward (001, 3.3.3).
-pub fn covers(scale: u64, zone: u64, lat: i128) -> bool {
+fn covers(scale: u64, zone: u64, lat: i128) -> bool {
     if zone == walk(lat) {
         return true;
     }
