@@ -5,7 +5,7 @@ use Prim.Native.Nat.{_+_, _≤_, _<_}
 use native.Mathlib.Omega.{arith}
 use borrow.Author.Tests.{ltb-true, ltb-false, lt-ltb}
 use lib.IntN.{ℤ}
-use lib.Signed.{ltZ, _≤ℤ_, _<ℤ_, ≤ℤ-refl}
+use lib.Signed.{ltZ, _≤ℤ_, _<ℤ_}
 use Rattle.whole.proofs.Signed.{over, under, ltZ-parts, lt-parts, parts-lt, parts-le}
 use Rattle.rectangle.specs.Stretch.{Stretch, larger, smaller, sharesHeight}
 
@@ -56,23 +56,25 @@ module _ (p q : Stretch) where
         second = parts-lt (q .southEnd) (q .northEnd) (omega arith);
       }
 
-  module _ (c : Crossed p q) where
-    pub shared : sharesHeight p q ≡ true
-    shared = go (ltZ (p .southEnd) (q .southEnd)) (ltZ (p .northEnd) (q .northEnd))
-      where
-        go : (s t : Bool) → ltZ (cond s (q .southEnd) (p .southEnd)) (cond t (p .northEnd) (q .northEnd)) ≡ true
-        go true true = lt-ltZ (q .southEnd) (p .northEnd) (c .back)
-        go true false = lt-ltZ (q .southEnd) (q .northEnd) (c .second)
-        go false true = lt-ltZ (p .southEnd) (p .northEnd) (c .first)
-        go false false = lt-ltZ (p .southEnd) (q .northEnd) (c .across)
+  pub shared : Crossed p q → sharesHeight p q ≡ true
+  shared c = go (ltZ (p .southEnd) (q .southEnd)) (ltZ (p .northEnd) (q .northEnd))
+    where
+      go : (s t : Bool) → ltZ (cond s (q .southEnd) (p .southEnd)) (cond t (p .northEnd) (q .northEnd)) ≡ true
+      go true true = lt-ltZ (q .southEnd) (p .northEnd) (c .back)
+      go true false = lt-ltZ (q .southEnd) (q .northEnd) (c .second)
+      go false true = lt-ltZ (p .southEnd) (p .northEnd) (c .first)
+      go false false = lt-ltZ (p .southEnd) (q .northEnd) (c .across)
 
-    -- the larger south end is not below either, and below both north ends
-    pub common : (w : ℤ) × (p .southEnd ≤ℤ w) × (q .southEnd ≤ℤ w) × (w <ℤ p .northEnd) × (w <ℤ q .northEnd)
-    common = go (ltZ (p .southEnd) (q .southEnd)) refl
-      where
-        go : (t : Bool) → ltZ (p .southEnd) (q .southEnd) ≡ t
-            → (w : ℤ) × (p .southEnd ≤ℤ w) × (q .southEnd ≤ℤ w) × (w <ℤ p .northEnd) × (w <ℤ q .northEnd)
-        go true e =
-            (q .southEnd, parts-le (p .southEnd) (q .southEnd) (omega (arith, ltZ-true (p .southEnd) (q .southEnd) e)), ≤ℤ-refl (q .southEnd), c .back, c .second)
-        go false e =
-            (p .southEnd, ≤ℤ-refl (p .southEnd), parts-le (q .southEnd) (p .southEnd) (ltZ-false (p .southEnd) (q .southEnd) e), c .first, c .across)
+  -- the larger south end is not below either, and below both north ends
+  pub common : sharesHeight p q ≡ true → (w : ℤ) × (p .southEnd ≤ℤ w) × (q .southEnd ≤ℤ w) × (w <ℤ p .northEnd) × (w <ℤ q .northEnd)
+  common e =
+      let w : ℤ = larger (p .southEnd) (q .southEnd) in
+      let l = no-larger (p .southEnd) (q .southEnd) in
+      let s = no-smaller (p .northEnd) (q .northEnd) in
+      let t = ltZ-true w (smaller (p .northEnd) (q .northEnd)) e in (
+        w,
+        parts-le (p .southEnd) w (l .0),
+        parts-le (q .southEnd) w (l .1),
+        parts-lt w (p .northEnd) (omega arith),
+        parts-lt w (q .northEnd) (omega arith),
+      )

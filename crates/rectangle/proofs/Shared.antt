@@ -21,7 +21,7 @@ use Rattle.zones.proofs.Covering.{scale-rows}
 use Rattle.rectangle.specs.Stretch.{Stretch, zoneStretch, rectangleStretch, sharesHeight, sharesIn, shares}
 use Rattle.rectangle.specs.Rectangle.{rectangleZones}
 use Rattle.rectangle.specs.Points.{Point, AtMost, Below, InRectangle, CoversPoint, Between, Shared, SharesIs, RectangleListed}
-use Rattle.rectangle.proofs.Ends.{crossed, shared, common}
+use Rattle.rectangle.proofs.Ends.{shared, common}
 use Rattle.rectangle.proofs.Stretch.{stretches}
 
 -- the two points themselves lie in both
@@ -145,7 +145,7 @@ module _ (b : ℕ) (i : 0 < b) where
 
     points : sharesHeight zone-ends edges ≡ true → Shared b south north zone
     points e =
-        let c = common zone-ends edges (crossed zone-ends edges e) in
+        let c = common zone-ends edges e in
         record {
           low = third (c .0) 1;
           high = third (c .0) 2;
