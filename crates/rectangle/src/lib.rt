@@ -47,11 +47,10 @@ fn row_shares(b: u64, row: u64, low: u64, high: u64) -> bool
     requires { ⌜ Rows b ⌝ ∗ ⌜ row < 9 ⌝ ∗ ⌜ low ≤ half ⌝ }
     ensures { λ r. ⌜ r ≡ sharesRow b (rowAt row) low high ⌝ }
 {
-    let from = arc::equatorward(row);
-    let to = arc::poleward(row);
-    if high <= from {
+    if high <= arc::equatorward(row) {
         return false;
     }
+    let to = arc::poleward(row);
     if (low < to) | (row == 8) {
         return true;
     }

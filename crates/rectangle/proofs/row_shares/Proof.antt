@@ -19,7 +19,7 @@ sooner low i limit h e = rw (e, polar-at i h)
 
 returns : tie.Need-returns
 unfolding sharesRow
-returns c = rw (sym (c .before .before .equatorward .ensures), le-ltb _ _ (c .if1 .taken))
+returns c = rw (sym (c .before .equatorward .ensures), le-ltb _ _ (c .if1 .taken))
 
 returns-2 : tie.Need-returns-2
 unfolding sharesRow
@@ -27,8 +27,8 @@ returns-2 c =
     let a = c .before .before .before .before .args in
     rw (
       sym (c .before .before .before .equatorward .ensures),
-      lt-ltb _ _ (c .before .if1 .left),
-      sooner (a .low) (a .row) _ (c .before .before .before .before .pre .1 .0) (c .before .before .poleward .ensures) ∙ c .if2 .taken,
+      lt-ltb _ _ (c .before .before .if1 .left),
+      sooner (a .low) (a .row) _ (c .before .before .before .before .pre .1 .0) (c .before .poleward .ensures) ∙ c .if2 .taken,
     )
 
 mul-result : tie.Need-mul-result
@@ -42,13 +42,13 @@ returns-3 c =
     let a = c .before .before .before .before .before .args in
     rw (
       sym (c .before .before .before .before .equatorward .ensures),
-      lt-ltb _ _ (c .before .before .if1 .left),
-      sooner (a .low) (a .row) _ (c .before .before .before .before .before .pre .1 .0) (c .before .before .before .poleward .ensures)
+      lt-ltb _ _ (c .before .before .before .if1 .left),
+      sooner (a .low) (a .row) _ (c .before .before .before .before .before .pre .1 .0) (c .before .before .poleward .ensures)
           ∙ c .before .if2 .left,
     )
-    (ap (λ (n : ℕ). ltb (n * a .b) (1024 * circle)) (c .less .ensures ∙ ap (λ (n : ℕ). a .low - n) (c .before .before .before .poleward .ensures)))
+    (ap (λ (n : ℕ). ltb (n * a .b) (1024 * circle)) (c .less .ensures ∙ ap (λ (n : ℕ). a .low - n) (c .before .before .poleward .ensures)))
 
 pub row-shares-spec : {M : Type 1} → statement M
 row-shares-spec =
     tie.close
-    (tie.spec (λ c κs. search needs) (λ c κs. search needs) returns returns-2 (λ c κs. search needs) mul-result returns-3)
+    (tie.spec (λ c κs. search needs) returns (λ c κs. search needs) returns-2 (λ c κs. search needs) mul-result returns-3)
