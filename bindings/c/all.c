@@ -97,9 +97,9 @@ static void rectangle(uint64_t scale, int64_t south, int64_t north)
     print_zones(r.length, r.zones, 18);
 }
 
-static void align(uint64_t zone, int64_t lat, int64_t lon)
+static void align(uint64_t scale, uint64_t zone, int64_t lat, int64_t lon)
 {
-    struct fordcask_origin o = fordcask_align(SCALE, zone, lat, lon);
+    struct fordcask_origin o = fordcask_align(scale, zone, lat, lon);
 
     start("align", o.number, o.at);
     printf(" %" PRId64 " %" PRId64 " %" PRId64 " %" PRId64 "\n", o.n, o.m,
@@ -107,9 +107,9 @@ static void align(uint64_t zone, int64_t lat, int64_t lon)
 }
 
 /* A zero byte of BAD is printed as '_'. */
-static void read_card(const uint8_t *bytes, size_t length)
+static void read_card(uint64_t scale, const uint8_t *bytes, size_t length)
 {
-    struct fordcask_card c = fordcask_read_card(SCALE, ZONE, bytes, length);
+    struct fordcask_card c = fordcask_read_card(scale, ZONE, bytes, length);
     size_t i;
 
     start("read_card", c.number, c.at);
@@ -124,13 +124,14 @@ static void read_card(const uint8_t *bytes, size_t length)
 }
 
 /* The output is filled with '#' before. */
-static void write_card(struct fordcask_record record, size_t length)
+static void write_card(uint64_t scale, struct fordcask_record record,
+                       size_t length)
 {
     uint8_t out[CARD + 3];
     struct fordcask_refusal r;
 
     memset(out, '#', sizeof out);
-    r = fordcask_write_card(SCALE, ZONE, record, out, length);
+    r = fordcask_write_card(scale, ZONE, record, out, length);
     start("write_card", r.number, r.at);
     printf(" %.*s\n", (int)sizeof out, (const char *)out);
 }
@@ -267,10 +268,13 @@ static void zones(void)
     rectangle(1000000, -32400000, 32400000);
     rectangle(1000000, 1, 0);
     rectangle(1000000, 0, 0);
-    align(1, 4143222, -897506);
-    align(1, 0, 64800000);
-    align(9, 0, 0);
-    align(1, 0, -64800001);
+    align(SCALE, 1, 4143222, -897506);
+    align(SCALE, 1, 0, 64800000);
+    align(SCALE, 9, 0, 0);
+    align(SCALE, 1, 0, -64800001);
+    align(9999, 0, 0, 0);
+    align(10000, 0, 0, 0);
+    align(10000, 1, 4143222, -897506);
     offset(5, 64800000, 7, -1);
     offset(-32400000, 0, 32400000, 1);
     offset(0, 0, 0, 64800001);
@@ -281,19 +285,23 @@ static void cards(void)
     struct fordcask_record record = padded;
     uint8_t damaged[CARD];
 
-    read_card(card, CARD);
-    read_card(card, CARD - 1);
+    read_card(SCALE, card, CARD);
+    read_card(SCALE, card, CARD - 1);
     memcpy(damaged, card, CARD);
     damaged[93] = '_';
-    read_card(damaged, CARD);
-    write_card(record, CARD + 3);
-    write_card(record, CARD - 1);
+    read_card(SCALE, damaged, CARD);
+    write_card(SCALE, record, CARD + 3);
+    write_card(SCALE, record, CARD - 1);
     record.tif = 0;
-    write_card(record, CARD);
+    write_card(SCALE, record, CARD);
     record.nfc = 1000;
-    write_card(record, CARD);
+    write_card(SCALE, record, CARD);
+    write_card(9999, padded, CARD - 1);
+    write_card(9999, padded, CARD);
+    write_card(10000, padded, CARD);
+    read_card(9999, card, CARD);
     fordcask_write_card(SCALE, ZONE, padded, padded_card, CARD);
-    read_card(padded_card, CARD);
+    read_card(SCALE, padded_card, CARD);
 }
 
 static void grid(void)

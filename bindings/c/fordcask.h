@@ -54,6 +54,7 @@
      14   tile not stored
      15   index entry above the count, repeated, or a stored tile never named
      16   south edge not below north edge
+     24   scale 5000..9999, a town scale, in writing and alignment alone
 
    The place is the subfield's offset in the card for 7 and 8. For 15 it is
    the entry, counted from 0, or the index length where a stored tile is never
@@ -236,10 +237,10 @@ struct fordcask_cover fordcask_cover(uint64_t scale, int64_t lat);
 struct fordcask_rectangle fordcask_rectangle(uint64_t scale, int64_t south,
                                              int64_t north);
 
-/* The origin for an upper left point. scale 5000..20000000; zone 1..18, not 9
-   or 18; lat and lon in hundredths of an arc-second, latitude
-   -32400000..32400000, longitude -64800000..64800000.
-   Refuses 1, 2, 3, 4, 5. */
+/* The origin for an upper left point. scale 10000..20000000, 24 for
+   5000..9999; zone 1..18, not 9 or 18; lat and lon in hundredths of an
+   arc-second, latitude -32400000..32400000, longitude -64800000..64800000.
+   Refuses 1, 24, 2, 3, 4, 5. */
 struct fordcask_origin fordcask_align(uint64_t scale, uint64_t zone,
                                       int64_t lat, int64_t lon);
 
@@ -250,9 +251,9 @@ struct fordcask_card fordcask_read_card(uint64_t scale, uint64_t zone,
                                         const uint8_t *card, size_t card_len);
 
 /* Writes a card into the first 98 bytes of out; the rest stays. scale
-   5000..20000000; zone 1..18, not 9 or 18; the record's ranges are at struct
-   fordcask_record; out_len 98 or more. Refuses 1, 2, 3, 6, 8 at 62 (NFL), 8 at
-   65 (NFC), 7 at 85 (BAD), 10, 11. */
+   10000..20000000, 24 for 5000..9999; zone 1..18, not 9 or 18; the record's
+   ranges are at struct fordcask_record; out_len 98 or more. Refuses 1, 24, 2,
+   3, 6, 8 at 62 (NFL), 8 at 65 (NFC), 7 at 85 (BAD), 10, 11. */
 struct fordcask_refusal fordcask_write_card(uint64_t scale, uint64_t zone,
                                             struct fordcask_record record,
                                             uint8_t *out, size_t out_len);

@@ -35,7 +35,7 @@ pub struct Record {
 pub struct Card {
     /// A and B of the card's scale and zone.
     pub spacing: Spacing,
-    /// The record; writing it gives the card's bytes back.
+    /// The record; writing it gives the card's bytes back, from 1:10,000 up.
     pub record: Record,
 }
 
@@ -61,7 +61,8 @@ pub fn read_card(scale: u64, zone: u64, card: &[u8]) -> Result<Card, Refusal> {
 
 /// Writes a record as the first 98 bytes of `out`; the rest stays, and all of it in a refusal.
 ///
-/// Refuses 1, 2, 3, 6 (`out` under 98 bytes), 8 at 62 (NFL), 8 at 65 (NFC), 7 at 85 (BAD), 10, 11.
+/// Refuses 1, 24, 2, 3, 6 (`out` under 98 bytes), 8 at 62 (NFL), 8 at 65 (NFC), 7 at 85 (BAD), 10,
+/// 11.
 pub fn write_card(scale: u64, zone: u64, record: &Record, out: &mut [u8]) -> Result<(), Refusal> {
     let record = raw::Record {
         n: record.n,

@@ -1,12 +1,12 @@
 use std::fmt;
 
-/// A refusal: its number of document 01, 1 to 16, and its place.
+/// A refusal: its number, 1 to 16 of document 01 or 24 of document 02, and its place.
 ///
 /// The place is the subfield's offset for 7 and 8, the entry of the index for 15 (the index
 /// length where a stored tile is never named), else 0.
 #[derive(Clone, Copy, Debug, PartialEq, Eq, Hash)]
 pub struct Refusal {
-    /// The number, 1 to 16.
+    /// The number, 1 to 16 or 24.
     pub number: u32,
     /// The place.
     pub at: u64,
@@ -32,6 +32,7 @@ impl Refusal {
             14 => "the tile is not stored",
             15 => "an index entry is above the count or repeated, or a stored tile is never named",
             16 => "the south edge is not below the north edge",
+            24 => "at a town scale, 5,000 to 9,999, no card is written and no origin aligned",
             _ => "unknown refusal",
         }
     }

@@ -71,7 +71,7 @@ pub fn rectangle(scale: u64, south: i64, north: i64) -> Result<Rectangle, Refusa
     answer(given.number, given.at, value)
 }
 
-/// The origin of a card with this upper left point, in hundredths. Refuses 1, 2, 3, 4, 5.
+/// The origin of a card with this upper left point, in hundredths. Refuses 1, 24, 2, 3, 4, 5.
 pub fn align(scale: u64, zone: u64, lat: i64, lon: i64) -> Result<Origin, Refusal> {
     let given = raw::fordcask_align(scale, zone, lat, lon);
     let value = Origin { n: given.n, m: given.m, pso: given.pso, lso: given.lso };

@@ -2,6 +2,7 @@
 ghost use mathlib.Core.Path.{_≡_};
 ghost use Rattle.arc.specs.Refusals.{refusal};
 ghost use Rattle.arc.specs.Spacing.{rowsOf, spacingOf};
+ghost use Rattle.arc.specs.Written.{writtenSpacingOf};
 
 mod parts;
 mod units;
@@ -84,4 +85,14 @@ pub fn spacing(scale: u64, zone: u64) -> SpacingAnswer
         },
         ConstantAnswer::Refused(r) => SpacingAnswer::Refused(r),
     }
+}
+
+// A and B for a card to be written, and for an origin to be aligned. Refuses 1, 24, 2 (02, E13); a town scale is never refused with 1.
+pub fn written_spacing(scale: u64, zone: u64) -> SpacingAnswer
+    ensures { λ r. ⌜ r ≡ writtenSpacingOf scale zone ⌝ }
+{
+    if units::is_town_scale(scale) {
+        return SpacingAnswer::Refused(refused(24));
+    }
+    spacing(scale, zone)
 }

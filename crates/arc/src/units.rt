@@ -1,6 +1,7 @@
 // Constants of the whole system.
 ghost use mathlib.Core.Path.{_≡_};
 ghost use Rattle.arc.specs.Spacing.{isScale};
+ghost use Rattle.arc.specs.Written.{isTownScale};
 ghost use Rattle.arc.specs.Zones.{isPolar};
 
 // The circle, in hundredths of an arc-second (01, "Units and the zone table").
@@ -41,11 +42,13 @@ impl Overlap {
     pub const ANGLE: u64 = 1024 * Circle::H;
 }
 
-// The scales served: 1:LEAST to 1:MOST.
+// The scales served: 1:LEAST to 1:MOST; up to 1:LAST_TOWN they are the town scales (02, E13).
 pub struct Scales;
 
 impl Scales {
     pub const LEAST: u64 = 5_000;
+
+    pub const LAST_TOWN: u64 = 9_999;
 
     pub const MOST: u64 = 20_000_000;
 }
@@ -55,6 +58,13 @@ pub fn is_scale(scale: u64) -> bool
     ensures { λ r. ⌜ r ≡ isScale scale ⌝ }
 {
     (Scales::LEAST <= scale) & (scale <= Scales::MOST)
+}
+
+// 5,000 to 9,999 (02, E13).
+pub fn is_town_scale(scale: u64) -> bool
+    ensures { λ r. ⌜ r ≡ isTownScale scale ⌝ }
+{
+    (Scales::LEAST <= scale) & (scale <= Scales::LAST_TOWN)
 }
 
 // Zone 9 or 18 (01, "Units and the zone table").

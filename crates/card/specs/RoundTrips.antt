@@ -1,12 +1,17 @@
--- Both round trips (01, "The image card, 98 bytes"): what is claimed, proved in round_trip/proofs/ReadBack.antt and WriteBack.antt.
+-- Both round trips (01, "The image card, 98 bytes"), from 10,000 up (02, E13): what is claimed, proved in round_trip/proofs/ReadBack.antt
+-- and WriteBack.antt, and below it in round_trip/proofs/Town.antt.
 --     recordOf k         the record that a card's value holds
 --     ReadsBack          reading what was written gives the record back
+--     WrittenScale       what was written has a scale from 10,000 up
 --     WritesBack         writing what was read gives the bytes back
+--     TownNotWritten     at a town scale writing is refused with 24
+--     HeldNotWritten     so it is for what was read below 10,000
 use mathlib.Core.Path.{_≡_}
-use Prim.Native.Nat.{ℕ, _≤_}
+use Prim.Native.Nat.{ℕ, _≤_, _<_}
 use mathlib.Core.List.{List}
 use lib.ListN.{length, take}
 use Rattle.arc.specs.declared.Verdict.{Verdict}
+use Rattle.arc.specs.Refusals.{refusal}
 use Rattle.card.specs.declared.Card.{Card}
 use Rattle.card.specs.declared.Record.{Record}
 use Rattle.card.specs.Read.{readOf, acceptedCard}
@@ -41,12 +46,33 @@ ReadsBack =
     (scale zone : ℕ) (r : Record) (out : List ℕ) → length (r .bad) ≡ 12 → writeOf scale zone r out ≡ Verdict.Accepted
     → ReadBack scale zone r (take 98 (outOf scale zone r out))
 
+-- what was written has a scale that is written (02, E13)
+abbrev pub WrittenScale : Type 0
+WrittenScale = (scale zone : ℕ) (r : Record) (out : List ℕ) → writeOf scale zone r out ≡ Verdict.Accepted → 10000 ≤ scale
+
 -- written into any output of 98 bytes or more
 pub record WrittenBack (scale zone : ℕ) (k : Card) (s out : List ℕ) : Type 0 where
   pub written : writeOf scale zone (recordOf k) out ≡ Verdict.Accepted
   pub same : take 98 (outOf scale zone (recordOf k) out) ≡ s
 
+-- from 10,000 up (02, E13)
 abbrev pub WritesBack : Type 0
 WritesBack =
-    (scale zone : ℕ) (s : List ℕ) (k : Card) (out : List ℕ) → readOf scale zone s ≡ acceptedCard k → 98 ≤ length out
+    (scale zone : ℕ) (s : List ℕ) (k : Card) (out : List ℕ) → readOf scale zone s ≡ acceptedCard k → 10000 ≤ scale → 98 ≤ length out
     → WrittenBack scale zone k s out
+
+-- ---- below 10,000: writing is refused with 24, and the output stays (02, E13)
+
+pub record NotWritten (scale zone : ℕ) (r : Record) (out : List ℕ) : Type 0 where
+  pub refused : writeOf scale zone r out ≡ Verdict.Refused (refusal 24)
+  pub left : outOf scale zone r out ≡ out
+
+-- any record, zone and output
+abbrev pub TownNotWritten : Type 0
+TownNotWritten = (scale zone : ℕ) (r : Record) (out : List ℕ) → 5000 ≤ scale → scale < 10000 → NotWritten scale zone r out
+
+-- what was read
+abbrev pub HeldNotWritten : Type 0
+HeldNotWritten =
+    (scale zone : ℕ) (s : List ℕ) (k : Card) (out : List ℕ) → readOf scale zone s ≡ acceptedCard k → scale < 10000
+    → NotWritten scale zone (recordOf k) out

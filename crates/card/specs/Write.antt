@@ -1,4 +1,4 @@
--- Writing a card: 1, 2, 3, 6, then NFL, NFC (8), BAD (7), then 10, 11 (01, "Numbers given in refusal"). Definitions only.
+-- Writing a card: 1, 24 (02, E13), 2, 3, 6, then NFL, NFC (8), BAD (7), then 10, 11 (01, "Numbers given in refusal"). Definitions only.
 --     Value                  what a subfield holds
 --     valuesOf a b r         the record's values in the layout's order
 --     cardText a b r         the 98 bytes
@@ -16,7 +16,7 @@ use Rattle.arc.specs.declared.Verdict.{Verdict}
 use Rattle.arc.specs.declared.SpacingAnswer.{SpacingAnswer}
 use Rattle.arc.specs.Refusals.{refusal, refusalAt}
 use Rattle.arc.specs.Zones.{isPolar}
-use Rattle.arc.specs.Spacing.{spacingOf}
+use Rattle.arc.specs.Written.{writtenSpacingOf}
 use Rattle.origin.specs.Origin.{storedAngle, onGrid}
 use Rattle.card.specs.declared.Record.{Record}
 use Rattle.card.specs.Layout.{Subfield, NFL, NFC, BAD, layout, orElse}
@@ -76,9 +76,9 @@ writeIn zone (SpacingAnswer.Constants a b) r n =
     (cond (leb 98 n) (first (recordTests a b r)) (Verdict.Refused (refusal 6)))
 writeIn zone (SpacingAnswer.Refused e) r n = Verdict.Refused e
 
--- 1, 2, then these
+-- 1, 24, 2, then these (02, E13)
 unfoldable pub writeOf : ℕ → ℕ → Record → List ℕ → Verdict
-writeOf scale zone r out = writeIn zone (spacingOf scale zone) r (length out)
+writeOf scale zone r out = writeIn zone (writtenSpacingOf scale zone) r (length out)
 
 abbrev pub textFor : SpacingAnswer → Record → List ℕ
 textFor (SpacingAnswer.Constants a b) r = cardText a b r
@@ -90,4 +90,4 @@ outAfter Verdict.Accepted card out = over card out
 outAfter (Verdict.Refused e) card out = out
 
 unfoldable pub outOf : ℕ → ℕ → Record → List ℕ → List ℕ
-outOf scale zone r out = outAfter (writeOf scale zone r out) (textFor (spacingOf scale zone) r) out
+outOf scale zone r out = outAfter (writeOf scale zone r out) (textFor (writtenSpacingOf scale zone) r) out

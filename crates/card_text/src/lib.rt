@@ -45,11 +45,11 @@ pub fn read_card(scale: u64, zone: u64, bytes: &[u8]) -> Reading
     }
 }
 
-// Writes a record as a card of scale 1:S and a zone. Refuses 1, 2, 3, 6, NFL, NFC (8), BAD (7), 10, 11; on a refusal the output stays.
+// Writes a record as a card of scale 1:S and a zone. Refuses 1, 24, 2, 3, 6, NFL, NFC (8), BAD (7), 10, 11; on a refusal the output stays.
 pub fn write_card(scale: u64, zone: u64, r: Record, out: &mut [u8]) -> Verdict
     ensures { λ v. ⌜ (v ≡ writeOf scale zone r (now (out .entry))) × (now (out .exit) ≡ outOf scale zone r (now (out .entry))) ⌝ }
 {
-    match arc::spacing(scale, zone) {
+    match arc::written_spacing(scale, zone) {
         SpacingAnswer::Constants { a, b } => write::write_spaced(zone, a, b, r, out),
         SpacingAnswer::Refused(e) => Verdict::Refused(e),
     }

@@ -1,14 +1,20 @@
--- What an origin is held to: n and m are the ceiling and the floor that the paper states, and neither leaves the axis. Assumes nothing.
+-- What an origin is held to: n and m are the ceiling and the floor that the paper states, and neither leaves the axis; none at a town scale.
+-- Assumes nothing.
 use mathlib.Core.Path.{_≡_, refl, ap₂}
 use mathlib.Core.Bool.{Bool, not, _&&_}
-use Prim.Native.Nat.{ℕ, _*_, _/_}
+use Prim.Native.Nat.{ℕ, _*_, _/_, _≤_}
 use native.Mathlib.Omega.{arith}
 use lib.IntN.{ℤ, pos, _*ℤ_}
 use Rattle.whole.specs.Whole.{raise}
 use Rattle.whole.proofs.Signed.{is-equal, is-parts, over, under, is-mul, is-raise, raise-high}
 use Rattle.whole.proofs.Held.{floors, ceils}
 use Rattle.arc.specs.Zones.{circle, half, quarter, tile}
-use Rattle.origin.specs.Origin.{rowTiles, columnTiles, originOf, AlignedIs, AlignedOnGrid}
+use Rattle.arc.specs.declared.SpacingAnswer.{SpacingAnswer}
+use Rattle.arc.specs.Written.{writtenSpacingOf}
+use Rattle.arc.proofs.Written.{town-refused, written-only-from}
+use Rattle.origin.specs.declared.Origin.{Origin}
+use Rattle.origin.specs.declared.OriginAnswer.{OriginAnswer}
+use Rattle.origin.specs.Origin.{rowTiles, columnTiles, originOf, alignIn, AlignedIs, AlignedOnGrid, AlignedScale, TownNotAligned}
 use Rattle.origin.proofs.Line.{is-inside}
 use Rattle.origin.proofs.Axis.{tileAngle, is-tiles, latitudes, longitudes, row-is, row-high, column-is, column-high}
 
@@ -40,3 +46,13 @@ aligned-on-grid a b ga gb lat lon p q =
     ap₂ (λ (x y : Bool). not x && not y)
     (is-inside (rowTiles b lat) _ (b / 512) (row-is rows lat north (is-raise quarter lat p)) (row-high rows north (raise-high quarter lat p)))
     (is-inside (columnTiles a lon) _ (a / 256) (column-is columns lon east (is-raise half lon q)) (column-high columns east (raise-high half lon q)))
+
+pub aligned-scale : AlignedScale
+aligned-scale s zone lat lon o e = go (writtenSpacingOf s zone) refl e
+  where
+    go : (x : SpacingAnswer) → writtenSpacingOf s zone ≡ x → alignIn zone x lat lon ≡ OriginAnswer.Aligned o → 10000 ≤ s
+    go (SpacingAnswer.Constants a b) p q = written-only-from s zone a b p
+    go (SpacingAnswer.Refused r) p q = let z : _≡_ {A = ℕ} 0 1 = cc in absurd (omega arith)
+
+pub town-not-aligned : TownNotAligned
+town-not-aligned s zone lat lon p q = rw (town-refused s zone p q)

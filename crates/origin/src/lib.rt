@@ -73,11 +73,11 @@ fn align_in(a: u64, b: u64, zone: u64, lat: i64, lon: i64) -> OriginAnswer
     OriginAnswer::Aligned(origin_at(a, b, north, east))
 }
 
-// The origin of an upper left point, at scale 1:S in a zone. Refuses 1, 2, 3, 4, 5.
+// The origin of an upper left point, at scale 1:S in a zone. Refuses 1, 24, 2, 3, 4, 5.
 pub fn align(scale: u64, zone: u64, lat: i64, lon: i64) -> OriginAnswer
     ensures { λ r. ⌜ r ≡ alignOf scale zone lat lon ⌝ }
 {
-    match arc::spacing(scale, zone) {
+    match arc::written_spacing(scale, zone) {
         SpacingAnswer::Constants { a, b } => align_in(a, b, zone, lat, lon),
         SpacingAnswer::Refused(r) => OriginAnswer::Refused(r),
     }

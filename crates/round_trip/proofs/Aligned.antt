@@ -14,10 +14,11 @@ use Rattle.arc.specs.Refusals.{refusal}
 use Rattle.arc.specs.Zones.{half, quarter, isPolar}
 use Rattle.arc.specs.Spacing.{spacingOf, Grids}
 use Rattle.arc.proofs.Answered.{answered-grids}
+use Rattle.arc.proofs.Written.{written-from}
 use Rattle.origin.specs.declared.Origin.{Origin}
 use Rattle.origin.specs.declared.OriginAnswer.{OriginAnswer}
 use Rattle.origin.specs.Origin.{originOf, alignIn, storedAngle, Aligned, onGrid}
-use Rattle.origin.proofs.Aligned.{aligned, aligned-on-grid}
+use Rattle.origin.proofs.Aligned.{aligned, aligned-on-grid, aligned-scale}
 use Rattle.card.specs.declared.Record.{Record}
 use Rattle.card.specs.Layout.{LSO, PSO, bytesOf}
 use Rattle.text.specs.Text.{angleText}
@@ -49,7 +50,7 @@ answered zone a b lat lon o e = go (isPolar zone) (outside quarter lat) (outside
 
 module _
     (scale zone a b : ℕ) (lat lon : ℤ) (o : Origin) (r : Record)
-    (s : spacingOf scale zone ≡ SpacingAnswer.Constants a b) (n : Answered zone a b lat lon o) (f : Fits a b o r)
+    (s : spacingOf scale zone ≡ SpacingAnswer.Constants a b) (l : 10000 ≤ scale) (n : Answered zone a b lat lon o) (f : Fits a b o r)
   where
     grids : Grids a b
     grids = answered-grids scale zone a b s
@@ -81,7 +82,7 @@ module _
 
     carried : (out : List ℕ) → 98 ≤ length out → Carried scale zone o r out (take 98 (outOf scale zone r out))
     carried out h =
-        let w : Writes scale zone r out a b = record { spacing = s; no-pole = n .no-pole; room = h; is-good = good } in
+        let w : Writes scale zone r out a b = record { spacing = written-from scale zone l ∙ s; no-pole = n .no-pole; room = h; is-good = good } in
         rw (text-out scale zone r out a b w (long a b r grids good (f .bad-twelve)))
         (record {
           written = is-written scale zone r out a b w;
@@ -94,4 +95,5 @@ module _
 
 pub aligned-back : AlignedBack
 aligned-back scale zone a b lat lon o r out s e f h =
-    carried scale zone a b lat lon o r s (answered zone a b lat lon o (rw s at e)) f out h
+    let l = aligned-scale scale zone lat lon o e in
+    carried scale zone a b lat lon o r s l (answered zone a b lat lon o (rw (written-from scale zone l ∙ s) at e)) f out h

@@ -3,3 +3,4 @@ pub mod Records
 pub mod ReadBack
 pub mod WriteBack
 pub mod Aligned
+pub mod Town

@@ -14,7 +14,7 @@ use Rattle.arc.specs.declared.Verdict.{Verdict}
 use Rattle.arc.specs.declared.SpacingAnswer.{SpacingAnswer}
 use Rattle.arc.specs.Zones.{half, quarter, isPolar}
 use Rattle.arc.specs.Spacing.{spacingOf, Grids}
-use Rattle.arc.proofs.Answered.{answered-grids}
+use Rattle.arc.proofs.Written.{written-spacing, written-grids}
 use Rattle.origin.specs.Origin.{storedAngle}
 use Rattle.origin.proofs.Axis.{Axis, latitudes, longitudes, stored-within}
 use Rattle.card.specs.declared.Card.{Card}
@@ -161,6 +161,7 @@ pub reads-back : ReadsBack
 reads-back scale zone r out twelve e =
     let v = inverted scale zone r out e in
     let w = v .writes in
-    let g = answered-grids scale zone (v .a) (v .b) (w .spacing) in
+    let g = written-grids scale zone (v .a) (v .b) (w .spacing) in
+    let sp = written-spacing scale zone (v .a) (v .b) (w .spacing) in
     rw (text-out scale zone r out (v .a) (v .b) w (long (v .a) (v .b) r g (w .is-good) twelve))
-    (read-back (v .a) (v .b) r g (w .is-good) twelve scale zone (w .spacing) (w .no-pole))
+    (read-back (v .a) (v .b) r g (w .is-good) twelve scale zone sp (w .no-pole))

@@ -9,6 +9,7 @@ use lib.Dec.{leb, eqb}
 use lib.ListN.{length, getD, take}
 use borrow.Author.Tests.{eqb-true}
 use Rattle.arc.specs.Zones.{half, quarter}
+use Rattle.arc.proofs.Written.{written-from}
 use Rattle.card.specs.declared.Card.{Card}
 use Rattle.text.specs.Text.{all, isDigit, isFlag, angleLaid, angleValid, angleOf, digits, angleText}
 use Rattle.card.specs.Layout.{Subfield, STR, ARV, BRV, LSO, PSO, NUL, NUS, NLL, NLS, NFL, NFC, PNC, PNL, COD, ROD, POR, PCB, PVB, TIF, layout, bytesOf}
@@ -103,9 +104,10 @@ module _ (scale zone : ℕ) (s : List ℕ) (k : Card) (d : ReadTo scale zone s k
         extents-hold = d .extents;
       }
 
-  pub back : (out : List ℕ) → 98 ≤ length out → WrittenBack scale zone c s out
-  back out h =
-      let w : Writes scale zone (recordOf c) out (d .a) (d .b) = record { spacing = d .spacing; no-pole = d .not-polar; room = h; is-good = good } in
+  pub back : (out : List ℕ) → 10000 ≤ scale → 98 ≤ length out → WrittenBack scale zone c s out
+  back out g h =
+      let w : Writes scale zone (recordOf c) out (d .a) (d .b) =
+      record { spacing = written-from scale zone g ∙ d .spacing; no-pole = d .not-polar; room = h; is-good = good } in
       let l : length (cardText (d .a) (d .b) (recordOf c)) ≡ 98 = ap length text-same ∙ d .long in
       record {
         written = is-written scale zone (recordOf c) out (d .a) (d .b) w;
@@ -113,6 +115,6 @@ module _ (scale zone : ℕ) (s : List ℕ) (k : Card) (d : ReadTo scale zone s k
       }
 
 pub writes-back : WritesBack
-writes-back scale zone s k out e h =
+writes-back scale zone s k out e g h =
     let d = read-to scale zone s k e in
-    rw (← d .card) (back scale zone s k d out h)
+    rw (← d .card) (back scale zone s k d out g h)
