@@ -12,7 +12,7 @@ const SET: usize = 1024;
 
 /// Card read: valid cards of every scale and zone, one in eight damaged in one byte.
 pub fn read(random: &mut Random) {
-    let valid: Vec<Written> = sheets(random).iter().map(Sheet::write).collect();
+    let valid: Vec<Written> = sheets(random, &SCALES).iter().map(Sheet::write).collect();
     let mut mixed = valid.clone();
     for card in mixed.iter_mut().step_by(8) {
         damage(random, card);
@@ -21,8 +21,8 @@ pub fn read(random: &mut Random) {
     read_set("d card read, 1 in 8 damaged", &mixed);
 }
 
-fn sheets(random: &mut Random) -> Vec<Sheet> {
-    let scale = |i: usize| SCALES[i % SCALES.len()];
+fn sheets(random: &mut Random, scales: &[u64]) -> Vec<Sheet> {
+    let scale = |i: usize| scales[i % scales.len()];
     (0..SET).map(|i| sheet(random, scale(i / 8))).collect()
 }
 
@@ -91,7 +91,7 @@ fn answer(card: &raw::Card) -> Result<Card, Refusal> {
 
 /// Card write: valid records, then with one in eight refused.
 pub fn write(random: &mut Random) {
-    let valid = sheets(random);
+    let valid = sheets(random, &SCALES[1..]);
     let mut mixed = valid.clone();
     for sheet in mixed.iter_mut().step_by(8) {
         spoil(random, &mut sheet.record);

@@ -3,6 +3,7 @@
 use crate::plain::{self, Card, Record, CARD, H};
 use crate::random::Random;
 
+/// Scales that are read; all but the first are written.
 pub const SCALES: [u64; 8] = [
     5_000, 10_000, 50_000, 250_000, 500_000, 1_000_000, 5_000_000, 20_000_000,
 ];
@@ -26,11 +27,13 @@ pub struct Written {
 }
 
 impl Sheet {
-    /// The card of a valid record.
+    /// The card of a valid record, of a town scale too.
     pub fn write(&self) -> Written {
         let mut bytes = [0; CARD];
-        let done = plain::write::write_card(self.scale, self.zone, &self.record, &mut bytes);
-        assert!(done.is_ok(), "{done:?}");
+        let (a, b) = plain::spacing(self.scale, self.zone).expect("scale and zone are good");
+        let good = plain::write::check(&self.record, a, b);
+        assert!(good.is_ok(), "{good:?}");
+        plain::write::lay_out(&self.record, a, b, &mut bytes);
         Written {
             scale: self.scale,
             zone: self.zone,

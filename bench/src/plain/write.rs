@@ -1,15 +1,25 @@
-//! Card writing: 1, 2, 3, 6, NFL and NFC (8), BAD (7), 10, 11.
+//! Card writing: 1, 24, 2, 3, 6, NFL and NFC (8), BAD (7), 10, 11.
 
 use super::read::good_name;
 use super::{refuse, spacing, stored, Record, Refusal, CARD};
 
 #[inline(never)]
 pub fn write_card(scale: u64, zone: u64, record: &Record, out: &mut [u8]) -> Result<(), Refusal> {
+    if (5_000..=9_999).contains(&scale) {
+        return refuse(24, 0);
+    }
     let (a, b) = spacing(scale, zone)?;
     let Some(out) = out.first_chunk_mut::<CARD>() else {
         return refuse(6, 0);
     };
     check(record, a, b)?;
+    lay_out(record, a, b, out);
+    Ok(())
+}
+
+/// The bytes of a good record, at any scale that is read.
+#[inline(always)]
+pub fn lay_out(record: &Record, a: i64, b: i64, out: &mut [u8; CARD]) {
     let (pso, lso) = stored(record.n, record.m, a, b);
     out[0] = b'3';
     put(out, 1, 8, a as u64);
@@ -25,10 +35,9 @@ pub fn write_card(scale: u64, zone: u64, record: &Record, out: &mut [u8]) -> Res
     out[68..85].copy_from_slice(b"00012800012801008");
     out[85..97].copy_from_slice(&record.bad);
     out[97] = if record.tif { b'Y' } else { b'N' };
-    Ok(())
 }
 
-fn check(record: &Record, a: i64, b: i64) -> Result<(), Refusal> {
+pub fn check(record: &Record, a: i64, b: i64) -> Result<(), Refusal> {
     if !(1..=999).contains(&record.nfl) {
         return refuse(8, 62);
     }

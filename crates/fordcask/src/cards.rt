@@ -52,7 +52,7 @@ pub extern "C" fn fordcask_read_card(scale: u64, zone: u64, card: &[u8]) -> Card
     }
 }
 
-// Writes a card. Refuses 1, 2, 3, 6, NFL, NFC (8), BAD (7), 10, 11; on a refusal the output stays.
+// Writes a card. Refuses 1, 24, 2, 3, 6, NFL, NFC (8), BAD (7), 10, 11; on a refusal the output stays.
 #[no_mangle]
 pub extern "C" fn fordcask_write_card(
     scale: u64,

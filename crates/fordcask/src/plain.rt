@@ -64,7 +64,7 @@ pub extern "C" fn fordcask_rectangle(scale: u64, south: i64, north: i64) -> Rect
     }
 }
 
-// The origin of an upper left point. Refuses 1, 2, 3, 4, 5.
+// The origin of an upper left point. Refuses 1, 24, 2, 3, 4, 5.
 #[no_mangle]
 pub extern "C" fn fordcask_align(scale: u64, zone: u64, lat: i64, lon: i64) -> OriginParts
     ensures { λ r. ⌜ originTold r ≡ originReport (alignOf scale zone lat lon) ⌝ }

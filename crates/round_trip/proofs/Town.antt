@@ -1,8 +1,5 @@
 -- Which scales are written: what was written has a scale from 10,000 up, and at a town scale writing is refused with 24, also of what was read.
 -- Assumes nothing.
-use mathlib.Core.Path.{_≡_}
-use Prim.Native.Nat.{ℕ, _≤_}
-use native.Mathlib.Omega.{arith}
 use Rattle.arc.proofs.Answered.{answered-from}
 use Rattle.arc.proofs.Written.{town-refused, written-only-from}
 use Rattle.card.specs.Write.{writeOf, outOf}

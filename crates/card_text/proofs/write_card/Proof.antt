@@ -1,4 +1,4 @@
--- The spacing is asked first, and a pair of constants that it answers is on the grid, as `write_spaced` requires. Assumes nothing.
+-- The spacing for writing is asked first, and a pair of constants that it answers is on the grid, as `write_spaced` requires. Assumes nothing.
 use mathlib.Core.Path.{refl, sym, _∙_}
 use Rattle.arc.proofs.Written.{written-grids}
 use Rattle.card.specs.Write.{writeOf, outOf}

@@ -1,4 +1,4 @@
--- The spacing is asked first, and a pair of constants that it answers is on the grid, as `align_in` requires. Assumes nothing.
+-- The spacing for writing is asked first, and a pair of constants that it answers is on the grid, as `align_in` requires. Assumes nothing.
 use mathlib.Core.Path.{_≡_, sym, _∙_}
 use mir.Syntax.{w64}
 use mir.ValLaws.{toZ-ofZ}
