@@ -1,4 +1,4 @@
-//! The plain rule: document 01, with 02's E13 in writing, straightforwardly in Rust, i64 with division.
+//! The plain rule: document 01, with 02's E13 in writing, in straightforward Rust with division.
 
 pub mod grid;
 pub mod read;
