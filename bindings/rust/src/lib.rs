@@ -3,7 +3,7 @@
 //!
 //! Angles are whole hundredths of an arc-second: latitude -32,400,000 to 32,400,000, longitude
 //! -64,800,000 to 64,800,000. Each function answers or refuses for every number, byte and length
-//! handed in; a [`Refusal`] carries the number of document 01 and a place.
+//! handed in; a [`Refusal`] carries the number of document 01 or 02 and a place.
 //!
 //! ```
 //! use fordcask::{Pixel, Position, Refusal, Sheet};

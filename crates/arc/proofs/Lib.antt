@@ -2,4 +2,4 @@ pub mod Spaced
 pub mod Table
 pub mod AsPrinted
 pub mod Answered
-pub mod Written
+pub mod TownScales

@@ -2,5 +2,5 @@ pub mod Refusals
 pub mod Zones
 pub mod AsPrinted
 pub mod Spacing
-pub mod Written
+pub mod TownScales
 pub mod Steps

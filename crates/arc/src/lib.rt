@@ -2,7 +2,7 @@
 ghost use mathlib.Core.Path.{_≡_};
 ghost use Rattle.arc.specs.Refusals.{refusal};
 ghost use Rattle.arc.specs.Spacing.{rowsOf, spacingOf};
-ghost use Rattle.arc.specs.Written.{writtenSpacingOf};
+ghost use Rattle.arc.specs.TownScales.{spacingForWriting};
 
 mod parts;
 mod units;
@@ -87,9 +87,9 @@ pub fn spacing(scale: u64, zone: u64) -> SpacingAnswer
     }
 }
 
-// A and B for a card to be written, and for an origin to be aligned. Refuses 1, 24, 2 (02, E13); a town scale is never refused with 1.
-pub fn written_spacing(scale: u64, zone: u64) -> SpacingAnswer
-    ensures { λ r. ⌜ r ≡ writtenSpacingOf scale zone ⌝ }
+// A and B for a card to be written, and for an origin to be aligned. Refuses 1, 24, 2 (02, E13): 24 is tested first, since no town scale is refused with 1.
+pub fn spacing_for_writing(scale: u64, zone: u64) -> SpacingAnswer
+    ensures { λ r. ⌜ r ≡ spacingForWriting scale zone ⌝ }
 {
     if units::is_town_scale(scale) {
         return SpacingAnswer::Refused(refused(24));

@@ -1,7 +1,7 @@
 // Constants of the whole system.
 ghost use mathlib.Core.Path.{_≡_};
 ghost use Rattle.arc.specs.Spacing.{isScale};
-ghost use Rattle.arc.specs.Written.{isTownScale};
+ghost use Rattle.arc.specs.TownScales.{isTownScale};
 ghost use Rattle.arc.specs.Zones.{isPolar};
 
 // The circle, in hundredths of an arc-second (01, "Units and the zone table").

@@ -1,21 +1,27 @@
--- Both round trips (01, "The image card, 98 bytes"), from 10,000 up (02, E13): what is claimed, proved in round_trip/proofs/ReadBack.antt
--- and WriteBack.antt, and below it in round_trip/proofs/Town.antt.
+-- Both round trips (01, "The image card, 98 bytes"), and how far they go (02, E13): what is claimed, proved in round_trip/proofs/ReadBack.antt,
+-- WriteBack.antt and Town.antt.
 --     recordOf k         the record that a card's value holds
 --     ReadsBack          reading what was written gives the record back
+--     WritesBack         writing what was read gives the bytes back, from 10,000 up
 --     WrittenScale       what was written has a scale from 10,000 up
---     WritesBack         writing what was read gives the bytes back
---     TownNotWritten     at a town scale writing is refused with 24
---     HeldNotWritten     so it is for what was read below 10,000
+--     TownNotWritten     from 5,000 to 9,999 writing is refused with 24
+--     HeldNotWritten     so it is for what was read there
+--     TextReadBack       at every scale that is read, a card's text is read back to its record
+--     ReadIsText         at every scale that is read, what was read is the text of its record
 use mathlib.Core.Path.{_≡_}
 use Prim.Native.Nat.{ℕ, _≤_, _<_}
 use mathlib.Core.List.{List}
 use lib.ListN.{length, take}
+use mathlib.Core.Bool.{false}
 use Rattle.arc.specs.declared.Verdict.{Verdict}
+use Rattle.arc.specs.declared.SpacingAnswer.{SpacingAnswer}
 use Rattle.arc.specs.Refusals.{refusal}
+use Rattle.arc.specs.Zones.{isPolar}
+use Rattle.arc.specs.Spacing.{spacingOf}
 use Rattle.card.specs.declared.Card.{Card}
 use Rattle.card.specs.declared.Record.{Record}
 use Rattle.card.specs.Read.{readOf, acceptedCard}
-use Rattle.card.specs.Write.{writeOf, outOf}
+use Rattle.card.specs.Write.{cardText, first, recordTests, writeOf, outOf}
 
 abbrev pub recordOf : Card → Record
 recordOf k =
@@ -46,10 +52,6 @@ ReadsBack =
     (scale zone : ℕ) (r : Record) (out : List ℕ) → length (r .bad) ≡ 12 → writeOf scale zone r out ≡ Verdict.Accepted
     → ReadBack scale zone r (take 98 (outOf scale zone r out))
 
--- what was written has a scale that is written (02, E13)
-abbrev pub WrittenScale : Type 0
-WrittenScale = (scale zone : ℕ) (r : Record) (out : List ℕ) → writeOf scale zone r out ≡ Verdict.Accepted → 10000 ≤ scale
-
 -- written into any output of 98 bytes or more
 pub record WrittenBack (scale zone : ℕ) (k : Card) (s out : List ℕ) : Type 0 where
   pub written : writeOf scale zone (recordOf k) out ≡ Verdict.Accepted
@@ -61,8 +63,12 @@ WritesBack =
     (scale zone : ℕ) (s : List ℕ) (k : Card) (out : List ℕ) → readOf scale zone s ≡ acceptedCard k → 10000 ≤ scale → 98 ≤ length out
     → WrittenBack scale zone k s out
 
--- ---- below 10,000: writing is refused with 24, and the output stays (02, E13)
+-- ---- the scales that are written (02, E13)
 
+abbrev pub WrittenScale : Type 0
+WrittenScale = (scale zone : ℕ) (r : Record) (out : List ℕ) → writeOf scale zone r out ≡ Verdict.Accepted → 10000 ≤ scale
+
+-- writing is refused with 24, and the output stays
 pub record NotWritten (scale zone : ℕ) (r : Record) (out : List ℕ) : Type 0 where
   pub refused : writeOf scale zone r out ≡ Verdict.Refused (refusal 24)
   pub left : outOf scale zone r out ≡ out
@@ -76,3 +82,13 @@ abbrev pub HeldNotWritten : Type 0
 HeldNotWritten =
     (scale zone : ℕ) (s : List ℕ) (k : Card) (out : List ℕ) → readOf scale zone s ≡ acceptedCard k → scale < 10000
     → NotWritten scale zone (recordOf k) out
+
+-- ---- at every scale that is read, the town scales too: a card's text and its record (02, E13)
+
+abbrev pub TextReadBack : Type 0
+TextReadBack =
+    (scale zone a b : ℕ) (r : Record) → length (r .bad) ≡ 12 → spacingOf scale zone ≡ SpacingAnswer.Constants a b → isPolar zone ≡ false
+    → first (recordTests a b r) ≡ Verdict.Accepted → ReadBack scale zone r (cardText a b r)
+
+abbrev pub ReadIsText : Type 0
+ReadIsText = (scale zone : ℕ) (s : List ℕ) (k : Card) → readOf scale zone s ≡ acceptedCard k → cardText (k .a) (k .b) (recordOf k) ≡ s

@@ -16,7 +16,7 @@ use Rattle.arc.specs.declared.Verdict.{Verdict}
 use Rattle.arc.specs.declared.SpacingAnswer.{SpacingAnswer}
 use Rattle.arc.specs.Refusals.{refusal, refusalAt}
 use Rattle.arc.specs.Zones.{isPolar}
-use Rattle.arc.specs.Written.{writtenSpacingOf}
+use Rattle.arc.specs.TownScales.{spacingForWriting}
 use Rattle.origin.specs.Origin.{storedAngle, onGrid}
 use Rattle.card.specs.declared.Record.{Record}
 use Rattle.card.specs.Layout.{Subfield, NFL, NFC, BAD, layout, orElse}
@@ -78,7 +78,7 @@ writeIn zone (SpacingAnswer.Refused e) r n = Verdict.Refused e
 
 -- 1, 24, 2, then these (02, E13)
 unfoldable pub writeOf : ℕ → ℕ → Record → List ℕ → Verdict
-writeOf scale zone r out = writeIn zone (writtenSpacingOf scale zone) r (length out)
+writeOf scale zone r out = writeIn zone (spacingForWriting scale zone) r (length out)
 
 abbrev pub textFor : SpacingAnswer → Record → List ℕ
 textFor (SpacingAnswer.Constants a b) r = cardText a b r
@@ -90,4 +90,4 @@ outAfter Verdict.Accepted card out = over card out
 outAfter (Verdict.Refused e) card out = out
 
 unfoldable pub outOf : ℕ → ℕ → Record → List ℕ → List ℕ
-outOf scale zone r out = outAfter (writeOf scale zone r out) (textFor (writtenSpacingOf scale zone) r) out
+outOf scale zone r out = outAfter (writeOf scale zone r out) (textFor (spacingForWriting scale zone) r) out

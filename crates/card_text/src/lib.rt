@@ -49,7 +49,7 @@ pub fn read_card(scale: u64, zone: u64, bytes: &[u8]) -> Reading
 pub fn write_card(scale: u64, zone: u64, r: Record, out: &mut [u8]) -> Verdict
     ensures { λ v. ⌜ (v ≡ writeOf scale zone r (now (out .entry))) × (now (out .exit) ≡ outOf scale zone r (now (out .entry))) ⌝ }
 {
-    match arc::written_spacing(scale, zone) {
+    match arc::spacing_for_writing(scale, zone) {
         SpacingAnswer::Constants { a, b } => write::write_spaced(zone, a, b, r, out),
         SpacingAnswer::Refused(e) => Verdict::Refused(e),
     }

@@ -18,8 +18,8 @@ use Rattle.whole.specs.Whole.{floorDiv, nearest, ceilDiv, outside, Greatest, Sm
 use Rattle.arc.specs.declared.SpacingAnswer.{SpacingAnswer}
 use Rattle.arc.specs.Refusals.{refusal, Report, answered, refusedWith}
 use Rattle.arc.specs.Zones.{circle, half, quarter, tile, isPolar}
-use Rattle.arc.specs.Spacing.{Grid}
-use Rattle.arc.specs.Written.{writtenSpacingOf}
+use Rattle.arc.specs.Spacing.{spacingOf, Grid}
+use Rattle.arc.specs.TownScales.{spacingForWriting}
 use Rattle.origin.specs.declared.Origin.{Origin}
 use Rattle.origin.specs.declared.OriginAnswer.{OriginAnswer}
 use Rattle.origin.specs.declared.parts.OriginParts.{OriginParts}
@@ -53,7 +53,7 @@ alignIn zone (SpacingAnswer.Refused r) lat lon = OriginAnswer.Refused r
 
 -- 1, 24, 2, then these (02, E13)
 abbrev pub alignOf : ℕ → ℕ → ℤ → ℤ → OriginAnswer
-alignOf s zone lat lon = alignIn zone (writtenSpacingOf s zone) lat lon
+alignOf s zone lat lon = alignIn zone (spacingForWriting s zone) lat lon
 
 -- accepted: −B/512 ≤ n ≤ B/512 and −A/256 ≤ m ≤ A/256
 abbrev pub onGrid : ℕ → ℕ → ℤ → ℤ → Bool
@@ -85,6 +85,10 @@ abbrev pub AlignedOnGrid : Type 0
 AlignedOnGrid =
     (a b : ℕ) → Grid a → Grid b → (lat lon : ℤ) → outside quarter lat ≡ false → outside half lon ≡ false
     → onGrid a b (originOf a b lat lon .n) (originOf a b lat lon .m) ≡ true
+
+-- from 10,000 up alignment is 01's (02, E13)
+abbrev pub AlignedFrom : Type 0
+AlignedFrom = (s zone : ℕ) (lat lon : ℤ) → 10000 ≤ s → alignOf s zone lat lon ≡ alignIn zone (spacingOf s zone) lat lon
 
 -- what was aligned has a scale from 10,000 up (02, E13)
 abbrev pub AlignedScale : Type 0

@@ -77,7 +77,7 @@ fn align_in(a: u64, b: u64, zone: u64, lat: i64, lon: i64) -> OriginAnswer
 pub fn align(scale: u64, zone: u64, lat: i64, lon: i64) -> OriginAnswer
     ensures { λ r. ⌜ r ≡ alignOf scale zone lat lon ⌝ }
 {
-    match arc::written_spacing(scale, zone) {
+    match arc::spacing_for_writing(scale, zone) {
         SpacingAnswer::Constants { a, b } => align_in(a, b, zone, lat, lon),
         SpacingAnswer::Refused(r) => OriginAnswer::Refused(r),
     }

@@ -14,7 +14,7 @@ use Rattle.arc.specs.Refusals.{refusal}
 use Rattle.arc.specs.Zones.{half, quarter, isPolar}
 use Rattle.arc.specs.Spacing.{spacingOf, Grids}
 use Rattle.arc.proofs.Answered.{answered-grids}
-use Rattle.arc.proofs.Written.{written-from}
+use Rattle.arc.proofs.TownScales.{written-from}
 use Rattle.origin.specs.declared.Origin.{Origin}
 use Rattle.origin.specs.declared.OriginAnswer.{OriginAnswer}
 use Rattle.origin.specs.Origin.{originOf, alignIn, storedAngle, Aligned, onGrid}

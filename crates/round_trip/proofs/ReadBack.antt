@@ -14,7 +14,8 @@ use Rattle.arc.specs.declared.Verdict.{Verdict}
 use Rattle.arc.specs.declared.SpacingAnswer.{SpacingAnswer}
 use Rattle.arc.specs.Zones.{half, quarter, isPolar}
 use Rattle.arc.specs.Spacing.{spacingOf, Grids}
-use Rattle.arc.proofs.Written.{written-spacing, written-grids}
+use Rattle.arc.proofs.Answered.{answered-grids}
+use Rattle.arc.proofs.TownScales.{writing-spacing, writing-grids}
 use Rattle.origin.specs.Origin.{storedAngle}
 use Rattle.origin.proofs.Axis.{Axis, latitudes, longitudes, stored-within}
 use Rattle.card.specs.declared.Card.{Card}
@@ -24,13 +25,13 @@ use Rattle.card.specs.Layout.{Subfield, STR, ARV, BRV, LSO, PSO, NUL, NUS, NLL,
 use Rattle.card.specs.Extents.{extentsHold}
 use Rattle.card.specs.Read.{numberIn, cardOf}
 use Rattle.card.specs.Write.{counted, valuesOf, cardText}
-use Rattle.card.specs.RoundTrips.{recordOf, ReadBack, ReadsBack}
+use Rattle.card.specs.RoundTrips.{recordOf, ReadBack, ReadsBack, TextReadBack}
 use Rattle.text.proofs.Numbers.{number-digits}
 use Rattle.text.proofs.Angles.{angle-of-text}
 use Rattle.round_trip.proofs.Table.{count-held, angle-held, a-name, a-flag, Along, done, _then_, along-at, Held, Text, length-written, texts, walks}
 use Rattle.card.proofs.Found.{Stores}
 use Rattle.card.proofs.Acceptance.{to-read}
-use Rattle.round_trip.proofs.Records.{extents, Good, n-on, m-on, sizes, inverted, text-out}
+use Rattle.round_trip.proofs.Records.{extents, Good, good, n-on, m-on, sizes, inverted, text-out}
 
 -- a tile stores the angle read from the text of its stored angle
 tile-back : {x t l : ℕ} → Axis x t l → (k : ℤ) → outside t k ≡ false → (d : ℕ) → l / 360000 < 10 ^ d
@@ -161,7 +162,10 @@ pub reads-back : ReadsBack
 reads-back scale zone r out twelve e =
     let v = inverted scale zone r out e in
     let w = v .writes in
-    let g = written-grids scale zone (v .a) (v .b) (w .spacing) in
-    let sp = written-spacing scale zone (v .a) (v .b) (w .spacing) in
+    let g = writing-grids scale zone (v .a) (v .b) (w .spacing) in
+    let sp = writing-spacing scale zone (v .a) (v .b) (w .spacing) in
     rw (text-out scale zone r out (v .a) (v .b) w (long (v .a) (v .b) r g (w .is-good) twelve))
     (read-back (v .a) (v .b) r g (w .is-good) twelve scale zone sp (w .no-pole))
+
+pub text-read-back : TextReadBack
+text-read-back scale zone a b r twelve s p e = read-back a b r (answered-grids scale zone a b s) (good a b r e) twelve scale zone s p

@@ -14,7 +14,7 @@ use Rattle.arc.specs.declared.Verdict.{Verdict}
 use Rattle.arc.specs.declared.SpacingAnswer.{SpacingAnswer}
 use Rattle.arc.specs.Refusals.{refusal}
 use Rattle.arc.specs.Zones.{isPolar}
-use Rattle.arc.specs.Written.{writtenSpacingOf}
+use Rattle.arc.specs.TownScales.{spacingForWriting}
 use Rattle.card.specs.declared.Record.{Record}
 use Rattle.text.specs.Text.{nameLaid}
 use Rattle.origin.specs.Origin.{onGrid}
@@ -79,7 +79,7 @@ sizes a b r g =
 -- ---- the questions
 
 pub record Writes (scale zone : ℕ) (r : Record) (out : List ℕ) (a b : ℕ) : Type 0 where
-  pub spacing : writtenSpacingOf scale zone ≡ SpacingAnswer.Constants a b
+  pub spacing : spacingForWriting scale zone ≡ SpacingAnswer.Constants a b
   pub no-pole : isPolar zone ≡ false
   pub room : 98 ≤ length out
   pub is-good : Good a b r
@@ -92,16 +92,16 @@ module _ (scale zone : ℕ) (r : Record) (out : List ℕ) where
 
   pub inverted : writeOf scale zone r out ≡ Verdict.Accepted → Written
   unfolding writeOf
-  inverted e = go (writtenSpacingOf scale zone) refl e
+  inverted e = go (spacingForWriting scale zone) refl e
     where
-      in-room : (a b : ℕ) → writtenSpacingOf scale zone ≡ SpacingAnswer.Constants a b → (p q : Bool) → isPolar zone ≡ p → leb 98 (length out) ≡ q
+      in-room : (a b : ℕ) → spacingForWriting scale zone ≡ SpacingAnswer.Constants a b → (p q : Bool) → isPolar zone ≡ p → leb 98 (length out) ≡ q
           → cond p (Verdict.Refused (refusal 3)) (cond q (first (recordTests a b r)) (Verdict.Refused (refusal 6))) ≡ Verdict.Accepted → Written
       in-room a b s true q i j k = let z : _≡_ {A = ℕ} 0 1 = cc in absurd (omega arith)
       in-room a b s false false i j k = let z : _≡_ {A = ℕ} 0 1 = cc in absurd (omega arith)
       in-room a b s false true i j k =
           record { a = a; b = b; writes = record { spacing = s; no-pole = i; room = leb-true 98 (length out) j; is-good = good a b r k } }
 
-      go : (x : SpacingAnswer) → writtenSpacingOf scale zone ≡ x → writeIn zone x r (length out) ≡ Verdict.Accepted → Written
+      go : (x : SpacingAnswer) → spacingForWriting scale zone ≡ x → writeIn zone x r (length out) ≡ Verdict.Accepted → Written
       go (SpacingAnswer.Constants a b) s k = in-room a b s (isPolar zone) (leb 98 (length out)) refl refl k
       go (SpacingAnswer.Refused f) s k = let z : _≡_ {A = ℕ} 0 1 = cc in absurd (omega arith)
 

@@ -1,17 +1,17 @@
 -- Which scales are written: what was written has a scale from 10,000 up, and at a town scale writing is refused with 24, also of what was read.
 -- Assumes nothing.
+use Rattle.arc.proofs.Spaced.{scale-least}
 use Rattle.arc.proofs.Answered.{answered-from}
-use Rattle.arc.proofs.Written.{town-refused, written-only-from}
+use Rattle.arc.proofs.TownScales.{town-refused, only-from}
 use Rattle.card.specs.Write.{writeOf, outOf}
 use Rattle.card.specs.RoundTrips.{recordOf, WrittenScale, TownNotWritten, HeldNotWritten}
-use Rattle.card.proofs.Walked.{between}
 use Rattle.card.proofs.Acceptance.{read-to}
 use Rattle.round_trip.proofs.Records.{inverted}
 
 pub written-scale : WrittenScale
 written-scale scale zone r out e =
     let v = inverted scale zone r out e in
-    written-only-from scale zone (v .a) (v .b) (v .writes .spacing)
+    only-from scale zone (v .a) (v .b) (v .writes .spacing)
 
 pub town-not-written : TownNotWritten
 unfolding writeOf outOf
@@ -20,5 +20,5 @@ town-not-written scale zone r out p q = record { refused = rw (town-refused scal
 pub held-not-written : HeldNotWritten
 held-not-written scale zone s k out e q =
     let d = read-to scale zone s k e in
-    let good = between 5000 scale 20000000 (answered-from scale zone (d .a) (d .b) (d .spacing) .scale) in
-    town-not-written scale zone (recordOf k) out (good .0) q
+    let least = scale-least scale (answered-from scale zone (d .a) (d .b) (d .spacing) .scale) in
+    town-not-written scale zone (recordOf k) out least q

@@ -9,13 +9,13 @@ use lib.Dec.{leb, eqb}
 use lib.ListN.{length, getD, take}
 use borrow.Author.Tests.{eqb-true}
 use Rattle.arc.specs.Zones.{half, quarter}
-use Rattle.arc.proofs.Written.{written-from}
+use Rattle.arc.proofs.TownScales.{written-from}
 use Rattle.card.specs.declared.Card.{Card}
 use Rattle.text.specs.Text.{all, isDigit, isFlag, angleLaid, angleValid, angleOf, digits, angleText}
 use Rattle.card.specs.Layout.{Subfield, STR, ARV, BRV, LSO, PSO, NUL, NUS, NLL, NLS, NFL, NFC, PNC, PNL, COD, ROD, POR, PCB, PVB, TIF, layout, bytesOf}
 use Rattle.card.specs.Read.{numberIn, cardOf}
 use Rattle.card.specs.Write.{valuesOf, cardText}
-use Rattle.card.specs.RoundTrips.{recordOf, WrittenBack, WritesBack}
+use Rattle.card.specs.RoundTrips.{recordOf, WrittenBack, WritesBack, ReadIsText}
 use Rattle.text.proofs.Bytes.{length-part, drop-next}
 use Rattle.text.proofs.Numbers.{digits-number}
 use Rattle.text.proofs.Angles.{text-of-angle}
@@ -118,3 +118,9 @@ pub writes-back : WritesBack
 writes-back scale zone s k out e g h =
     let d = read-to scale zone s k e in
     rw (← d .card) (back scale zone s k d out g h)
+
+pub read-is-text : ReadIsText
+unfolding cardOf
+read-is-text scale zone s k e =
+    let d = read-to scale zone s k e in
+    rw (← d .card) (text-same scale zone s k d)

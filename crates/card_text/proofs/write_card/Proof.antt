@@ -1,6 +1,6 @@
 -- The spacing for writing is asked first, and a pair of constants that it answers is on the grid, as `write_spaced` requires. Assumes nothing.
 use mathlib.Core.Path.{refl, sym, _∙_}
-use Rattle.arc.proofs.Written.{written-grids}
+use Rattle.arc.proofs.TownScales.{writing-grids}
 use Rattle.card.specs.Write.{writeOf, outOf}
 use borrow.Author.Needs.{needs}
 use Rattle.card_text.proofs.write_card.Statement.{statement}
@@ -10,19 +10,19 @@ write-spaced-requires : tie.Need-write-spaced-requires
 write-spaced-requires c κs =
     let s = c .before .before .before .before .before .before in
     let g =
-    written-grids (s .args .scale) (s .args .zone) _ _
-    (sym (c .before .before .before .before .written-spacing .ensures) ∙ c .before .before .a .given .1) in
+    writing-grids (s .args .scale) (s .args .zone) _ _
+    (sym (c .before .before .before .before .spacing-for-writing .ensures) ∙ c .before .before .a .given .1) in
     (g .columns, g .rows)
 
 returns : tie.Need-returns
 unfolding writeOf outOf
 returns c =
-    rw (sym (c .before .before .before .before .before .before .before .written-spacing .ensures) ∙ c .before .before .before .before .before .a .given .1)
+    rw (sym (c .before .before .before .before .before .before .before .spacing-for-writing .ensures) ∙ c .before .before .before .before .before .a .given .1)
     (c .before .before .write-spaced .ensures)
 
 returns-2 : tie.Need-returns-2
 unfolding writeOf outOf
-returns-2 c = rw (sym (c .before .before .before .written-spacing .ensures) ∙ c .before .e .given .1) (refl, refl)
+returns-2 c = rw (sym (c .before .before .before .spacing-for-writing .ensures) ∙ c .before .e .given .1) (refl, refl)
 
 pub write-card-spec : {M : Type 1} → statement M
 write-card-spec =
