@@ -1,23 +1,25 @@
-//! Random cards at every scale and zone: written and read by both, then damaged.
+//! Random cards at every scale and zone: read and written by both, then damaged.
 
 mod rule;
 mod support;
 
 use support::damage::{change_some, damage};
-use support::make::{card, record, scale, SCALES, SCALE_BANDS, ZONES};
+use support::make::{card, record, scale, town_scale, Scales, SCALES, SCALE_BANDS, ZONES};
 use support::{seeded, Ask, Random};
 
-/// Writes and reads a record back, then damages the card.
+/// The bytes of a record read and written back, then damaged (02, E13).
 fn there_and_back(ask: &mut Ask, random: &mut Random, scale: u64, zone: u64) {
     let record = record(random, scale, zone, 999);
     let out_len = 98 + random.below(8);
-    let written = ask.write(scale, zone, &record, out_len);
-    let mut card = written.expect("a good record is written");
-    let read = ask.read(scale, zone, &card).expect("a written card is read");
+    let mut card = card(scale, zone, &record);
+    let read = ask.read(scale, zone, &card).expect("a good card is read");
     assert_eq!(read.record, record, "reading what was written");
+    ask.write_back(scale, zone, &read, &card, out_len);
     for _ in 0..3 {
         damage(random, &mut card);
-        let _ = ask.read(scale, zone, &card);
+        if let Ok(read) = ask.read(scale, zone, &card) {
+            ask.write_back(scale, zone, &read, &card, out_len);
+        }
     }
 }
 
@@ -38,26 +40,38 @@ fn every_scale_band_and_zone() {
             }
         }
     }
-    ask.met("write", &[0]);
+    ask.met("write", &[0, 24]);
     ask.met("read", &[0, 7, 8, 9, 10, 11]);
 }
 
-/// Several subfields wrong at once: the order of the refusals.
-#[test]
-fn subfields() {
-    let mut random = seeded("subfields");
+/// Several subfields wrong at once: the order of the refusals. What is read is written back.
+fn changed_subfields(test: &str, rounds: u32, scales: Scales, written: &[u32]) {
+    let mut random = seeded(test);
     let mut ask = Ask::default();
-    for _ in 0..300_000 {
-        let (scale, zone) = (scale(&mut random), random.pick(&ZONES));
+    for _ in 0..rounds {
+        let (scale, zone) = (scales(&mut random), random.pick(&ZONES));
         let record = record(&mut random, scale, zone, 20);
         let mut card = card(scale, zone, &record);
         change_some(&mut random, &mut card);
-        let _ = ask.read(scale, zone, &card);
+        if let Ok(read) = ask.read(scale, zone, &card) {
+            ask.write_back(scale, zone, &read, &card, 98);
+        }
     }
+    ask.met("write", written);
     ask.met("read", &[0, 7, 8, 9, 10, 11]);
     ask.met_at("read", 9, &[0]);
     ask.met_at("read", 10, &[0]);
     ask.met_at("read", 11, &[0]);
+}
+
+#[test]
+fn subfields() {
+    changed_subfields("subfields", 300_000, scale, &[0, 24]);
+}
+
+#[test]
+fn subfields_town() {
+    changed_subfields("subfields_town", 100_000, town_scale, &[24]);
 }
 
 /// Longitudes in card form; latitudes are these without the first digit.
@@ -112,11 +126,13 @@ fn angles() {
 #[test]
 fn stored_angles() {
     let mut random = seeded("stored_angles");
-    for scale in [900_000, 1_000_000, 3_060_000, 20_000_000] {
-        for (zone, _) in ZONES.iter().zip(0..8) {
+    let many = [900_000, 1_000_000, 3_060_000, 20_000_000].map(|scale| (scale, 8, 40));
+    let town = [5_000, 9_999].map(|scale| (scale, 2, 3));
+    for (scale, zones, rounds) in many.into_iter().chain(town) {
+        for zone in &ZONES[..zones] {
             let (a, b) = rule::non_polar(scale, *zone).expect("a spacing");
             for (spacing, reach) in [(b, b / 512), (a, a / 256)] {
-                for _ in 0..40 {
+                for _ in 0..rounds {
                     let near = rule::stored_angle(random.between(-9, 9).into(), spacing);
                     let angle = near + i128::from(random.between(-2, 2));
                     let all = (-reach..=reach).filter(|k| rule::stored_angle(*k, spacing) == angle);

@@ -6,7 +6,8 @@ mod support;
 
 use fordcask::{Card, Pixel, Place, Position, Refusal, Sheet};
 use support::ask_sheet::shown;
-use support::make::{all_chart, card, pixel, record, scale, with_edges, SCALES, ZONES};
+use support::make::{all_chart, card, pixel, record, scale, town_scale, with_edges};
+use support::make::{Scales, SCALES, ZONES};
 use support::{seeded, Random};
 
 const OUTSIDE: Refusal = Refusal { number: 12, at: 0 };
@@ -142,13 +143,37 @@ fn demand_3() {
     assert!(ends.outside > 100_000 && ends.padding > 100_000, "{ends:?}");
 }
 
+/// Demand 3 holds at the town scales: each of them, and both ends in every zone (02, E13).
+#[test]
+fn demand_3_town() {
+    let mut random = seeded("demand_3_town");
+    let mut ends = Ends::default();
+    for scale in 5_000..=9_999 {
+        for _ in 0..16 {
+            let zone = random.pick(&ZONES);
+            list(&mut random, scale, zone, &mut ends);
+        }
+    }
+    for zone in ZONES {
+        for scale in [5_000, 5_001, 9_998, 9_999] {
+            for _ in 0..300 {
+                list(&mut random, scale, zone, &mut ends);
+            }
+        }
+    }
+    println!("cases demand_3_town {ends:?}");
+    assert!(ends.lists > 50_000 && ends.answered > 70_000, "{ends:?}");
+    assert!(ends.outside > 30_000 && ends.padding > 30_000, "{ends:?}");
+}
+
 /// The place's pixel found by trying every row and column gives the same as `pixel_with`.
 #[test]
 fn place_by_trying() {
     let mut random = seeded("place_by_trying");
     let mut found = 0;
-    for _ in 0..3_000 {
-        let (scale, zone) = (scale(&mut random), random.pick(&ZONES));
+    for _ in 0..4_000 {
+        let scales: Scales = random.pick(&[scale, scale, scale, town_scale]);
+        let (scale, zone) = (scales(&mut random), random.pick(&ZONES));
         let record = record(&mut random, scale, zone, 4);
         let head = rule::read(scale, zone, &card(scale, zone, &record)).expect("a card");
         let Ok(place) = rule::place(&head, pixel(&mut random, &record)) else {
@@ -167,7 +192,9 @@ fn place_by_trying() {
 #[test]
 fn common_part() {
     let mut common = 0;
-    for (scale, zone) in [(5_000, 1), (1_000_000, 1), (20_000_000, 8), (20_000_000, 17)] {
+    let town = [(5_000, 1), (7_321, 13), (9_999, 8), (9_999, 17)];
+    let printed = [(10_000, 1), (1_000_000, 1), (20_000_000, 8), (20_000_000, 17)];
+    for (scale, zone) in town.into_iter().chain(printed) {
         let head = all_chart(9, -3, 4, 5, false);
         let other = all_chart(8, -1, 4, 4, true);
         let (head, other) = (card(scale, zone, &head), card(scale, zone, &other));
@@ -189,5 +216,5 @@ fn common_part() {
             }
         }
     }
-    assert_eq!(common, 4 * 384 * 384);
+    assert_eq!(common, 8 * 384 * 384);
 }

@@ -1,11 +1,31 @@
-//! The figures of document 01, "Figures on both sides of each edge", those of E3 of 02, and some
-//! more edges, worked out from their rules. Each test names those that are not printed there.
+//! The figures of document 01, "Figures on both sides of each edge", those of E3 and E13 of 02,
+//! and some more edges, worked out from their rules. Each test names those not printed there.
 
-use fordcask::{align, basic_zone, cover, offset, rectangle, spacing};
-use fordcask::{Position, Refusal, Spacing};
+use fordcask::{align, basic_zone, cover, offset, read_card, rectangle, spacing, write_card};
+use fordcask::{Pixel, Position, Refusal, Sheet, Spacing};
 
 const REFUSED_1: Refusal = Refusal { number: 1, at: 0 };
 const REFUSED_16: Refusal = Refusal { number: 16, at: 0 };
+const REFUSED_24: Refusal = Refusal { number: 24, at: 0 };
+
+/// The worked card's record in zone 1 at 1:5,000, 1:9,999 and 1:10,000; not printed.
+const TOWN_CARDS: [(u64, &[u8; 98]); 3] = [
+    (
+        5_000,
+        b"37393280080076800-0000044.88+000327.16000000000127000255000000\
+          00200100012800012801008BASE0101.IMGN",
+    ),
+    (
+        9_999,
+        b"33697049640042496-0000129.74+000654.28000000000127000255000000\
+          00200100012800012801008BASE0101.IMGN",
+    ),
+    (
+        10_000,
+        b"33696640040038400-0000129.75+000654.32000000000127000255000000\
+          00200100012800012801008BASE0101.IMGN",
+    ),
+];
 
 #[test]
 fn spacing_figures() {
@@ -18,6 +38,9 @@ fn spacing_figures() {
     // not printed in 01: 512 × 782
     let polar = Spacing { a: 400_384, b: 400_384 };
     assert_eq!(spacing(1_000_000, 9), Ok(polar));
+    // not printed: the ends of the town scales, whose spacing stays
+    assert_eq!(spacing(5_000, 1), Ok(Spacing { a: 73_932_800, b: 80_076_800 }));
+    assert_eq!(spacing(9_999, 17), Ok(Spacing { a: 8_244_224, b: 40_042_496 }));
 }
 
 #[test]
@@ -94,4 +117,49 @@ fn offset_figures() {
     assert_eq!(short(64_800_000, 0), Ok(-64_800_000.0));
     assert_eq!(short(64_800_000, -64_800_000), Ok(0.0));
     assert_eq!(short(-64_800_000, 1), Ok(64_799_999.0));
+}
+
+/// E13 prints the scales; the point, the origin and the angles are not printed.
+#[test]
+fn town_alignment_figures() {
+    assert_eq!(align(4_999, 1, 41_432, -8_975), Err(REFUSED_1));
+    assert_eq!(align(5_000, 1, 41_432, -8_975), Err(REFUSED_24));
+    assert_eq!(align(9_999, 1, 41_432, -8_975), Err(REFUSED_24));
+    let origin = align(10_000, 1, 41_432, -8_975).expect("an origin");
+    assert_eq!((origin.n, origin.m), (100, -20));
+    assert_eq!((origin.pso, origin.lso), (41_432, -8_975));
+    // right after 1: before a bad zone, a polar one, a bad latitude and a bad longitude
+    assert_eq!(align(9_999, 19, 32_400_001, 64_800_001), Err(REFUSED_24));
+    assert_eq!(align(9_999, 9, 0, 0), Err(REFUSED_24));
+    assert_eq!(align(4_999, 19, 32_400_001, 64_800_001), Err(REFUSED_1));
+    let refused_2 = Refusal { number: 2, at: 0 };
+    assert_eq!(align(10_000, 19, 32_400_001, 64_800_001), Err(refused_2));
+}
+
+/// E13 prints the scales; the cards and their positions are not printed.
+#[test]
+fn town_card_figures() {
+    let positions = [
+        [(20_716, -4_488), (20_714, -4_486), (20_303, -4_265)],
+        [(41_428, -8_974), (41_425, -8_971), (40_603, -8_529)],
+        [(41_432, -8_975), (41_429, -8_972), (40_607, -8_530)],
+    ];
+    for ((scale, card), positions) in TOWN_CARDS.into_iter().zip(positions) {
+        let read = read_card(scale, 1, card).expect("a card that opens");
+        assert_eq!((read.record.n, read.record.m), (100, -20), "1:{scale}");
+        let mut out = [7; 100];
+        let written = write_card(scale, 1, &read.record, &mut out);
+        if scale == 10_000 {
+            assert_eq!((written, &out[..98]), (Ok(()), &card[..]), "1:{scale}");
+        } else {
+            assert_eq!((written, out), (Err(REFUSED_24), [7; 100]), "1:{scale}");
+        }
+        let sheet = Sheet { scale, zone: 1, card };
+        let pixels = [(0, 0), (1, 1), (255, 127)];
+        for ((row, column), (lat, lon)) in pixels.into_iter().zip(positions) {
+            let (pixel, position) = (Pixel { row, column }, Position { lat, lon });
+            assert_eq!(sheet.position(pixel), Ok(position), "1:{scale} {pixel:?}");
+            assert_eq!(sheet.pixel(position), Ok(pixel), "1:{scale} {position:?}");
+        }
+    }
 }

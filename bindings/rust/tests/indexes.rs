@@ -5,7 +5,7 @@ mod support;
 
 use fordcask::{Record, Sheet, Tiles, Window};
 use support::index::{good_index, index_of, small};
-use support::make::{all_chart, card};
+use support::make::{all_chart, card, scale, town_scale, Scales};
 use support::{seeded, Ask, Random};
 
 /// A window inside the tiles mostly, else with its ends outside or at the end of u64.
@@ -27,13 +27,13 @@ fn any_window(random: &mut Random, record: &Record) -> Window {
     Window { top, left, height, width }
 }
 
-#[test]
-fn index_check() {
-    let mut random = seeded("index_check");
+/// Indexes good and wrong, with marks of every length.
+fn random_checks(test: &str, rounds: u32, scales: Scales) {
+    let mut random = seeded(test);
     let mut ask = Ask::default();
-    for _ in 0..300_000 {
+    for _ in 0..rounds {
         let tif = !random.once_in(6);
-        let (scale, zone, record) = small(&mut random, 6, tif);
+        let (scale, zone, record) = small(&mut random, scales, 6, tif);
         let card = card(scale, zone, &record);
         let sheet = Sheet { scale, zone, card: &card };
         let (index, count) = index_of(&mut random, &record);
@@ -46,6 +46,16 @@ fn index_check() {
         let _ = ask.index_check(&sheet, Tiles { index: &index, count }, marks_len);
     }
     ask.met("index_check", &[0, 6, 15]);
+}
+
+#[test]
+fn index_check() {
+    random_checks("index_check", 300_000, scale);
+}
+
+#[test]
+fn index_check_town() {
+    random_checks("index_check_town", 100_000, town_scale);
 }
 
 /// Every index of three tiles with entries 0..4, every count and some marks.
@@ -77,14 +87,14 @@ fn every_small_index() {
     ask.met("window", &[0, 6, 12, 15]);
 }
 
-#[test]
-fn window() {
-    let mut random = seeded("window");
+/// Windows over indexes good and wrong.
+fn random_windows(test: &str, rounds: u32, scales: Scales) {
+    let mut random = seeded(test);
     let mut ask = Ask::default();
     let (mut missing, mut none) = (0, 0);
-    for _ in 0..300_000 {
+    for _ in 0..rounds {
         let tif = !random.once_in(6);
-        let (scale, zone, record) = small(&mut random, 7, tif);
+        let (scale, zone, record) = small(&mut random, scales, 7, tif);
         let card = card(scale, zone, &record);
         let sheet = Sheet { scale, zone, card: &card };
         let (index, count) = index_of(&mut random, &record);
@@ -99,16 +109,26 @@ fn window() {
     ask.met("window", &[0, 6, 12, 15]);
 }
 
+#[test]
+fn window() {
+    random_windows("window", 300_000, scale);
+}
+
+#[test]
+fn window_town() {
+    random_windows("window_town", 100_000, town_scale);
+}
+
 /// The largest image, 999 × 999 tiles, with an index and without.
 #[test]
 fn largest_image() {
     let mut random = seeded("largest_image");
     let mut ask = Ask::default();
     let total = 999 * 999;
-    for tif in [true, false] {
+    for (scale, tif) in [(100_000, true), (100_000, false), (9_999, true), (5_000, false)] {
         let record = all_chart(900, -300, 999, 999, tif);
-        let card = card(100_000, 3, &record);
-        let sheet = Sheet { scale: 100_000, zone: 3, card: &card };
+        let card = card(scale, 3, &record);
+        let sheet = Sheet { scale, zone: 3, card: &card };
         let mut index = good_index(&mut random, total, total);
         let spoiled = random.below(total);
         for entry in [index[spoiled], 0, 1, total as u32 + 1, u32::MAX] {

@@ -5,7 +5,7 @@ mod support;
 
 use fordcask::{Pixel, Position, Refusal, Sheet};
 use support::ask_sheet::shown;
-use support::make::{card, pixel, record, scale, ZONES};
+use support::make::{all_chart, card, pixel, record, scale, town_scale, Scales, ZONES};
 use support::{seeded, Ask, Random, SIGNED_ENDS, WORKED};
 
 const SIX: Refusal = Refusal { number: 6, at: 0 };
@@ -96,12 +96,12 @@ fn output_length(random: &mut Random, asked: usize) -> usize {
     }
 }
 
-#[test]
-fn random_lists() {
-    let mut random = seeded("random_lists");
+/// Lists to 40 pairs on random cards, some of them damaged.
+fn asked_lists(test: &str, rounds: u32, scales: Scales) {
+    let mut random = seeded(test);
     let mut ask = Ask::default();
-    for round in 0..30_000 {
-        let (scale, zone) = (scale(&mut random), random.pick(&ZONES));
+    for round in 0..rounds {
+        let (scale, zone) = (scales(&mut random), random.pick(&ZONES));
         let record = record(&mut random, scale, zone, 999);
         let mut card = card(scale, zone, &record);
         if round % 8 == 0 {
@@ -129,13 +129,24 @@ fn random_lists() {
     ask.met("pairs of pixels", &[0, 4, 5, 12, 13]);
 }
 
+#[test]
+fn random_lists() {
+    asked_lists("random_lists", 30_000, scale);
+}
+
+#[test]
+fn random_town_lists() {
+    asked_lists("random_town_lists", 30_000, town_scale);
+}
+
 /// Every combination of lengths 0..6, with good and refused cards, scales and zones.
 #[test]
 fn every_length() {
     let mut ask = Ask::default();
     let mut damaged = *WORKED;
     damaged[97] = b'X';
-    let cards: [(u64, u64, &[u8]); 7] = [
+    let town = card(9_999, 17, &all_chart(100, -20, 2, 1, false));
+    let cards: [(u64, u64, &[u8]); 11] = [
         (1_000_000, 1, WORKED),
         (1_000_000, 1, &damaged),
         (1_000_000, 1, &WORKED[..97]),
@@ -143,6 +154,10 @@ fn every_length() {
         (4_999, 1, WORKED),
         (1_000_000, 19, WORKED),
         (1_000_000, 9, WORKED),
+        (9_999, 17, &town),
+        (9_999, 17, WORKED),
+        (9_999, 18, &town),
+        (9_999, 17, &town[..97]),
     ];
     let asked = [(0, 0), (1, 1), (256, 0), (-1, 5), (255, 127), (3, 128)];
     let list = asked.map(|(row, column)| Pixel { row, column });
@@ -159,9 +174,9 @@ fn every_length() {
             }
         }
     }
-    ask.met("positions", &[0, 1, 2, 3, 6, 8]);
-    ask.met("pixels", &[0, 1, 2, 3, 6, 8]);
-    // no padding in the worked card
+    ask.met("positions", &[0, 1, 2, 3, 6, 8, 9]);
+    ask.met("pixels", &[0, 1, 2, 3, 6, 8, 9]);
+    // no padding in either card
     ask.met("pairs of positions", &[0, 12]);
     ask.met("pairs of pixels", &[0, 4, 5, 12]);
 }
@@ -170,7 +185,7 @@ fn every_length() {
 #[test]
 fn long_list() {
     let mut ask = Ask::default();
-    let record = support::make::all_chart(40, -300, 4, 600, false);
+    let record = all_chart(40, -300, 4, 600, false);
     let card = card(250_000, 1, &record);
     let sheet = Sheet { scale: 250_000, zone: 1, card: &card };
     let list: Vec<Pixel> = (-3..76_803).map(|column| Pixel { row: 300, column }).collect();

@@ -5,7 +5,7 @@ mod support;
 
 use fordcask::{Pixel, Position, Record, Sheet};
 use support::make::{around, card, edge_columns, edge_rows, pixel, record, scale};
-use support::make::{with_edges, SCALES, ZONES};
+use support::make::{town_scale, with_edges, Scales, SCALES, ZONES};
 use support::{seeded, Ask, Random, SIGNED_ENDS};
 
 /// Every pair of edge rows and edge columns, and the ends of i64.
@@ -94,12 +94,12 @@ fn met_all(ask: &Ask) {
     ask.met("pixel", &[0, 4, 5, 12, 13]);
 }
 
-#[test]
-fn edges_of_random_cards() {
-    let mut random = seeded("edges_of_random_cards");
+/// Cards of few tiles and of many in turn; the first rounds are at the named scales.
+fn random_edges(test: &str, rounds: usize, named: &[u64], scales: Scales) {
+    let mut random = seeded(test);
     let mut ask = Ask::default();
-    for round in 0..4_000 {
-        let scale = if round < 300 { SCALES[round % 18] } else { scale(&mut random) };
+    for round in 0..rounds {
+        let scale = if round < 300 { named[round % named.len()] } else { scales(&mut random) };
         let zone = random.pick(&ZONES);
         let record = record(&mut random, scale, zone, if round % 2 == 0 { 3 } else { 999 });
         let card = card(scale, zone, &record);
@@ -108,6 +108,16 @@ fn edges_of_random_cards() {
         ask_positions(&mut ask, &mut random, &sheet, &record);
     }
     met_all(&ask);
+}
+
+#[test]
+fn edges_of_random_cards() {
+    random_edges("edges_of_random_cards", 4_000, &SCALES, scale);
+}
+
+#[test]
+fn edges_of_town_cards() {
+    random_edges("edges_of_town_cards", 1_500, &[5_000, 5_001, 9_998, 9_999], town_scale);
 }
 
 /// Origins at the poles, the Equator, the zero meridian and 180 degrees.
@@ -133,12 +143,12 @@ fn named_origins() {
     met_all(&ask);
 }
 
-#[test]
-fn random_pixels_and_positions() {
-    let mut random = seeded("random_pixels_and_positions");
+/// Pixels there and back, and positions near one and anywhere.
+fn random_asked(test: &str, rounds: u32, scales: Scales) {
+    let mut random = seeded(test);
     let mut ask = Ask::default();
-    for _ in 0..100_000 {
-        let (scale, zone) = (scale(&mut random), random.pick(&ZONES));
+    for _ in 0..rounds {
+        let (scale, zone) = (scales(&mut random), random.pick(&ZONES));
         let record = record(&mut random, scale, zone, 999);
         let card = card(scale, zone, &record);
         let sheet = Sheet { scale, zone, card: &card };
@@ -160,4 +170,15 @@ fn random_pixels_and_positions() {
     }
     ask.met("place", &[0, 12]);
     ask.met("position", &[0, 12, 13]);
+    ask.met("pixel", &[0, 4, 5, 12, 13]);
+}
+
+#[test]
+fn random_pixels_and_positions() {
+    random_asked("random_pixels_and_positions", 100_000, scale);
+}
+
+#[test]
+fn random_town_pixels_and_positions() {
+    random_asked("random_town_pixels_and_positions", 30_000, town_scale);
 }

@@ -5,7 +5,7 @@ mod rule;
 mod support;
 
 use fordcask::raw;
-use support::make::scale;
+use support::make::{all_chart, card, changes_of, scale, town_scale};
 use support::{seeded, WORKED};
 
 /// The answer of a refusal: everything but number and place is 0.
@@ -41,6 +41,10 @@ fn refused_values() {
     assert_eq!(raw::fordcask_rectangle(1_000_000, 0, 0), none);
     let origin = raw::fordcask_align(1_000_000, 9, 0, 0);
     assert_eq!(origin, raw::Origin { number: 3, at: 0, n: 0, m: 0, pso: 0, lso: 0 });
+    for (scale, zone) in [(5_000, 1), (9_999, 9), (9_999, 18), (9_999, 19)] {
+        let origin = raw::fordcask_align(scale, zone, 41_432, -8_975);
+        assert_eq!(origin, raw::Origin { number: 24, at: 0, n: 0, m: 0, pso: 0, lso: 0 });
+    }
     let offset = raw::fordcask_offset(0, 64_800_001, 0, 0);
     assert_eq!((offset.number, offset.at), (5, 0));
     assert_eq!((offset.lat.to_bits(), offset.lon.to_bits()), (0, 0));
@@ -52,46 +56,85 @@ fn read(scale: u64, zone: u64, card: &[u8]) -> raw::Card {
     unsafe { raw::fordcask_read_card(scale, zone, card.as_ptr(), card.len()) }
 }
 
+/// The worked card, and the card of its record at the ends of the town scales (02, E13).
+fn cards() -> Vec<(u64, Vec<u8>)> {
+    let mut cards = vec![(1_000_000, WORKED.to_vec())];
+    for scale in [5_000, 9_999, 10_000] {
+        cards.push((scale, card(scale, 1, &all_chart(100, -20, 2, 1, false))));
+    }
+    cards
+}
+
+/// A card that is read, field by field.
+fn read_as(card: &fordcask::Card) -> raw::Card {
+    let record = &card.record;
+    raw::Card {
+        number: 0,
+        at: 0,
+        a: card.spacing.a,
+        b: card.spacing.b,
+        n: record.n,
+        m: record.m,
+        nul: record.nul,
+        nus: record.nus,
+        nll: record.nll,
+        nls: record.nls,
+        nfl: record.nfl,
+        nfc: record.nfc,
+        bad: record.bad,
+        tif: u8::from(record.tif),
+    }
+}
+
 /// Each one-byte change that is refused has zeros, and TIF is 0 or 1.
 #[test]
 fn refused_cards() {
-    let mut refused = 0;
-    for card in support::make::changes() {
-        let found = read(1_000_000, 1, &card);
-        match rule::read(1_000_000, 1, &card) {
-            Ok(right) => assert_eq!(found.tif, u8::from(right.record.tif)),
-            Err(refusal) => {
-                refused += 1;
-                assert_eq!(found, refused_card(refusal.number, refusal.at));
+    for (scale, good) in cards() {
+        let mut refused = 0;
+        for card in changes_of(&good) {
+            let found = read(scale, 1, &card);
+            match rule::read(scale, 1, &card) {
+                Ok(right) => assert_eq!(found, read_as(&right), "1:{scale}"),
+                Err(refusal) => {
+                    refused += 1;
+                    assert_eq!(found, refused_card(refusal.number, refusal.at), "1:{scale}");
+                }
             }
         }
+        assert!(refused > 20_000, "{refused} refused at 1:{scale}");
     }
-    assert!(refused > 20_000, "{refused} refused");
 }
 
-/// Any TIF but 0 is written as Y.
+/// Any TIF but 0 is written as Y; none is at the town scales (02, E13).
 #[test]
 fn tif_of_a_record() {
-    let card = read(1_000_000, 1, WORKED);
-    for tif in 0..=255 {
-        let record = raw::Record {
-            n: card.n,
-            m: card.m,
-            nul: card.nul,
-            nus: card.nus,
-            nll: card.nll,
-            nls: card.nls,
-            nfl: card.nfl,
-            nfc: card.nfc,
-            bad: card.bad,
-            tif,
-        };
-        let mut out = [7; 98];
-        // SAFETY: the pointer and length are those of one array.
-        let given = unsafe { raw::fordcask_write_card(1_000_000, 1, record, out.as_mut_ptr(), 98) };
-        assert_eq!(given, raw::Refusal { number: 0, at: 0 });
-        assert_eq!(out[97], if tif == 0 { b'N' } else { b'Y' });
-        assert_eq!(out[..97], WORKED[..97]);
+    for (scale, good) in cards() {
+        let card = read(scale, 1, &good);
+        for tif in 0..=255 {
+            let record = raw::Record {
+                n: card.n,
+                m: card.m,
+                nul: card.nul,
+                nus: card.nus,
+                nll: card.nll,
+                nls: card.nls,
+                nfl: card.nfl,
+                nfc: card.nfc,
+                bad: card.bad,
+                tif,
+            };
+            let mut out = [7; 98];
+            let lent = out.as_mut_ptr();
+            // SAFETY: the pointer and length are those of one array.
+            let given = unsafe { raw::fordcask_write_card(scale, 1, record, lent, 98) };
+            if scale < 10_000 {
+                assert_eq!((given, out), (raw::Refusal { number: 24, at: 0 }, [7; 98]));
+                continue;
+            }
+            assert_eq!(given, raw::Refusal { number: 0, at: 0 });
+            assert_eq!(out[97], if tif == 0 { b'N' } else { b'Y' });
+            assert_eq!(out[..97], good[..97]);
+        }
     }
 }
 
@@ -99,8 +142,8 @@ fn tif_of_a_record() {
 #[test]
 fn unused_slots() {
     let mut random = seeded("unused_slots");
-    for _ in 0..20_000 {
-        let scale = scale(&mut random);
+    for round in 0..25_000 {
+        let scale = if round < 20_000 { scale(&mut random) } else { town_scale(&mut random) };
         let south = random.between(-32_400_000, 32_399_999);
         let north = random.between(south + 1, 32_400_000);
         let cover = raw::fordcask_cover(scale, south);

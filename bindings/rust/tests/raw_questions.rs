@@ -4,15 +4,19 @@ mod rule;
 mod support;
 
 use fordcask::raw;
-use support::make::{all_chart, card, changes};
+use support::make::{all_chart, card, changes, changes_of};
 use support::{seeded, WORKED};
 
+/// A scale and a card for it, in zone 1.
+type Held<'a> = (u64, &'a [u8]);
+
 /// Positions through the C entry point with lengths in numbers, not pairs.
-fn positions(card: &[u8], pixels: &[i64], out: &mut [i64], numbers: &mut [u32]) -> (u32, u64) {
+fn positions(held: Held, pixels: &[i64], out: &mut [i64], numbers: &mut [u32]) -> (u32, u64) {
+    let (scale, card) = held;
     // SAFETY: each pointer and length are those of one slice.
     let given = unsafe {
         raw::fordcask_positions(
-            1_000_000,
+            scale,
             1,
             card.as_ptr(),
             card.len(),
@@ -28,11 +32,12 @@ fn positions(card: &[u8], pixels: &[i64], out: &mut [i64], numbers: &mut [u32]) 
 }
 
 /// Pixels through the C entry point with lengths in numbers, not pairs.
-fn pixels(card: &[u8], positions: &[i64], out: &mut [i64], numbers: &mut [u32]) -> (u32, u64) {
+fn pixels(held: Held, positions: &[i64], out: &mut [i64], numbers: &mut [u32]) -> (u32, u64) {
+    let (scale, card) = held;
     // SAFETY: each pointer and length are those of one slice.
     let given = unsafe {
         raw::fordcask_pixels(
-            1_000_000,
+            scale,
             1,
             card.as_ptr(),
             card.len(),
@@ -48,18 +53,17 @@ fn pixels(card: &[u8], positions: &[i64], out: &mut [i64], numbers: &mut [u32]) 
 }
 
 /// Every length of list and outputs to 9, odd ones among them.
-#[test]
-fn odd_lengths() {
+fn every_length(held: Held, right: [i64; 8]) {
     let asked = [0, 0, 1, 1, 256, 0, 255, 127, 5];
-    let places = [4_143_223, -897_507, 4_142_899, -897_156, 0, 0, 0, 64_800_001, 0];
+    let mut places = [0, 0, 0, 0, 0, 0, 0, 64_800_001, 0];
+    places[..4].copy_from_slice(&right[..4]);
     for length in 0..=9usize {
         for out_len in 0..=9 {
             for numbers_len in 0..=9 {
                 let (mut out, mut numbers) = (vec![7; out_len], vec![7; numbers_len]);
-                let given = positions(WORKED, &asked[..length], &mut out, &mut numbers);
+                let given = positions(held, &asked[..length], &mut out, &mut numbers);
                 let good = length % 2 == 0 && out_len >= length && numbers_len >= length / 2;
                 assert_eq!(given.0, if good { 0 } else { 6 }, "{length} {out_len} {numbers_len}");
-                let right = [4_143_223, -897_507, 4_142_899, -897_156, 0, 0, 4_060_682, -852_982];
                 let written = if good { length } else { 0 };
                 assert_eq!(out[..written], right[..written]);
                 assert_eq!(numbers[..written / 2], [0, 0, 12, 0][..written / 2]);
@@ -67,7 +71,7 @@ fn odd_lengths() {
                 assert!(numbers[written / 2..].iter().all(|x| *x == 7), "the rest stays");
 
                 let (mut out, mut numbers) = (vec![7; out_len], vec![7; numbers_len]);
-                let given = pixels(WORKED, &places[..length], &mut out, &mut numbers);
+                let given = pixels(held, &places[..length], &mut out, &mut numbers);
                 assert_eq!(given.0, if good { 0 } else { 6 }, "{length} {out_len} {numbers_len}");
                 assert_eq!(out[..written], [0, 0, 1, 1, 0, 0, 0, 0][..written]);
                 assert_eq!(numbers[..written / 2], [0, 0, 12, 5][..written / 2]);
@@ -78,34 +82,47 @@ fn odd_lengths() {
     }
 }
 
+/// The worked card, and its record at the ends of the town scales (02, E13).
+#[test]
+fn odd_lengths() {
+    let worked = [4_143_223, -897_507, 4_142_899, -897_156, 0, 0, 4_060_682, -852_982];
+    every_length((1_000_000, WORKED), worked);
+    let low = [20_716, -4_488, 20_714, -4_486, 0, 0, 20_303, -4_265];
+    let high = [41_428, -8_974, 41_425, -8_971, 0, 0, 40_603, -8_529];
+    for (scale, right) in [(5_000, low), (9_999, high)] {
+        every_length((scale, &card(scale, 1, &all_chart(100, -20, 2, 1, false))), right);
+    }
+}
+
 /// A refused card leaves every list unchanged, whatever their lengths.
 #[test]
 fn refused_cards() {
     let mut random = seeded("refused_cards");
     let mut refused = 0;
-    for card in changes().step_by(7) {
-        let Err(refusal) = rule::read(1_000_000, 1, &card) else {
+    let town = card(9_999, 1, &all_chart(100, -20, 2, 1, false));
+    let worked = changes().map(|card| (1_000_000, card));
+    let cards = worked.chain(changes_of(&town).map(|card| (9_999, card)));
+    for (scale, card) in cards.step_by(7) {
+        let Err(refusal) = rule::read(scale, 1, &card) else {
             continue;
         };
         refused += 1;
         let asked = [1; 9];
         let length = random.below(10);
         let (mut out, mut numbers) = (vec![7; random.below(10)], vec![7; random.below(10)]);
-        let first = positions(&card, &asked[..length], &mut out, &mut numbers);
-        let second = pixels(&card, &asked[..length], &mut out, &mut numbers);
+        let first = positions((scale, &card), &asked[..length], &mut out, &mut numbers);
+        let second = pixels((scale, &card), &asked[..length], &mut out, &mut numbers);
         assert_eq!(first, (refusal.number, refusal.at));
         assert_eq!(second, (refusal.number, refusal.at));
         assert!(out.iter().all(|x| *x == 7) && numbers.iter().all(|x| *x == 7));
     }
-    assert!(refused > 2_000, "{refused} refused");
+    assert!(refused > 4_000, "{refused} refused");
 }
 
 /// Value parts are 0 in each refusal of a question on a card.
-#[test]
-fn refused_values() {
-    let record = all_chart(9, 9, 1, 2, true);
-    let card = card(1_000_000, 1, &record);
-    let (pointer, length) = (card.as_ptr(), card.len());
+fn refused_values_at(scale: u64) {
+    let card = card(scale, 1, &all_chart(9, 9, 1, 2, true));
+    let (c, length) = (card.as_ptr(), card.len());
     let (index, store) = ([0u32, 9], [5u8; 49_152]);
     let far = i64::MIN;
     for (column, number, at) in [(0, 14, 0), (128, 15, 1), (256, 12, 0), (far, 12, 0)] {
@@ -113,29 +130,34 @@ fn refused_values() {
         unsafe {
             let i = index.as_ptr();
             let s = store.as_ptr();
-            let tile =
-                raw::fordcask_tile(1_000_000, 1, pointer, length, i, 2, 1, s, 49_152, 0, column);
+            let tile = raw::fordcask_tile(scale, 1, c, length, i, 2, 1, s, 49_152, 0, column);
             let none = raw::Tile { number, at, stored: 0, offset: 0, length: 0 };
             assert_eq!(tile, none);
-            let bands =
-                raw::fordcask_bands(1_000_000, 1, pointer, length, i, 2, 1, s, 49_152, 0, column);
+            let bands = raw::fordcask_bands(scale, 1, c, length, i, 2, 1, s, 49_152, 0, column);
             assert_eq!(bands, raw::Bands { number, at, red: 0, green: 0, blue: 0 });
         }
     }
     // SAFETY: each pointer and length are those of one slice.
     unsafe {
-        let place = raw::fordcask_place(1_000_000, 1, pointer, length, far, 0);
+        let place = raw::fordcask_place(scale, 1, c, length, far, 0);
         assert_eq!(place, raw::Place { number: 12, at: 0, row: 0, column: 0 });
-        let position = raw::fordcask_position(1_000_000, 1, pointer, length, 0, 256);
+        let position = raw::fordcask_position(scale, 1, c, length, 0, 256);
         assert_eq!(position, raw::Position { number: 12, at: 0, lat: 0, lon: 0 });
-        let pixel = raw::fordcask_pixel(1_000_000, 1, pointer, length, 0, i64::MAX);
+        let pixel = raw::fordcask_pixel(scale, 1, c, length, 0, i64::MAX);
         assert_eq!(pixel, raw::Pixel { number: 5, at: 0, row: 0, column: 0 });
         let i = index.as_ptr();
-        let window = raw::fordcask_window(1_000_000, 1, pointer, length, i, 2, 1, 0, 1, 1, 1);
+        let window = raw::fordcask_window(scale, 1, c, length, i, 2, 1, 0, 1, 1, 1);
         assert_eq!(window, raw::Window { number: 15, at: 1, missing: 0, tile: 0 });
-        let window = raw::fordcask_window(1_000_000, 1, pointer, length, i, 2, 1, 0, 0, 1, 2);
+        let window = raw::fordcask_window(scale, 1, c, length, i, 2, 1, 0, 0, 1, 2);
         assert_eq!(window, raw::Window { number: 0, at: 0, missing: 1, tile: 0 });
-        let window = raw::fordcask_window(1_000_000, 1, pointer, length, i, 2, 1, 0, 2, 1, 0);
+        let window = raw::fordcask_window(scale, 1, c, length, i, 2, 1, 0, 2, 1, 0);
         assert_eq!(window, raw::Window { number: 0, at: 0, missing: 0, tile: 0 });
+    }
+}
+
+#[test]
+fn refused_values() {
+    for scale in [5_000, 9_999, 10_000, 1_000_000] {
+        refused_values_at(scale);
     }
 }

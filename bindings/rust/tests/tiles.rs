@@ -5,17 +5,17 @@ mod support;
 
 use fordcask::{Pixel, Sheet, Tiles};
 use support::index::{index_of, small};
-use support::make::{all_chart, card, pixel};
+use support::make::{all_chart, card, pixel, scale, town_scale, Scales};
 use support::{seeded, Ask};
 
-#[test]
-fn tile_and_bands() {
-    let mut random = seeded("tile_and_bands");
+/// Pixels of small images, with indexes and stores good and wrong.
+fn random_look_ups(test: &str, rounds: u32, scales: Scales) {
+    let mut random = seeded(test);
     let mut ask = Ask::default();
     let bytes: Vec<u8> = (0..12 * 49_152).map(|_| random.byte()).collect();
-    for _ in 0..150_000 {
+    for _ in 0..rounds {
         let tif = !random.once_in(4);
-        let (scale, zone, record) = small(&mut random, 3, tif);
+        let (scale, zone, record) = small(&mut random, scales, 3, tif);
         let card = card(scale, zone, &record);
         let sheet = Sheet { scale, zone, card: &card };
         let (index, count) = index_of(&mut random, &record);
@@ -40,21 +40,33 @@ fn tile_and_bands() {
     ask.met("bands", &[0, 6, 12, 13, 14, 15]);
 }
 
+#[test]
+fn tile_and_bands() {
+    random_look_ups("tile_and_bands", 150_000, scale);
+}
+
+#[test]
+fn tile_and_bands_town() {
+    random_look_ups("tile_and_bands_town", 50_000, town_scale);
+}
+
 /// Counts whose store would be empty, or one tile, if its length were kept in 32 bits.
 #[test]
 fn large_counts() {
     let mut ask = Ask::default();
     let record = all_chart(900, -300, 999, 999, true);
-    let card = card(100_000, 3, &record);
-    let sheet = Sheet { scale: 100_000, zone: 3, card: &card };
     let (index, store) = (vec![1; 999 * 999], [5; 49_152]);
-    for count in [0, 1, 2, 1 << 18, (1 << 18) + 1, 3 << 18, 999 * 999] {
-        let tiles = Tiles { index: &index, count };
-        for length in [0, 1, 49_151, 49_152] {
-            for row in [0, 127_871, 127_872] {
-                let pixel = Pixel { row, column: 127_871 };
-                let _ = ask.tile(&sheet, tiles, &store[..length], pixel);
-                let _ = ask.bands(&sheet, tiles, &store[..length], pixel);
+    for scale in [100_000, 9_999] {
+        let card = card(scale, 3, &record);
+        let sheet = Sheet { scale, zone: 3, card: &card };
+        for count in [0, 1, 2, 1 << 18, (1 << 18) + 1, 3 << 18, 999 * 999] {
+            let tiles = Tiles { index: &index, count };
+            for length in [0, 1, 49_151, 49_152] {
+                for row in [0, 127_871, 127_872] {
+                    let pixel = Pixel { row, column: 127_871 };
+                    let _ = ask.tile(&sheet, tiles, &store[..length], pixel);
+                    let _ = ask.bands(&sheet, tiles, &store[..length], pixel);
+                }
             }
         }
     }

@@ -3,7 +3,7 @@
 mod rule;
 mod support;
 
-use support::make::changes;
+use support::make::{all_chart, card, changes, changes_of};
 use support::{seeded, Ask, WORKED};
 
 /// The subfields that can be refused with 7, and with 8.
@@ -17,14 +17,32 @@ fn one_byte_changes_read() {
     for card in changes() {
         cards += 1;
         if let Ok(read) = ask.read(1_000_000, 1, &card) {
-            let written = ask.write(1_000_000, 1, &read.record, 98);
-            assert_eq!(written.as_deref(), Ok(&card[..]), "writing what was read");
+            ask.write_back(1_000_000, 1, &read, &card, 98);
         }
     }
     assert_eq!(cards, 24_990);
+    ask.met("write", &[0]);
     ask.met("read", &[0, 7, 8, 9, 10, 11]);
     ask.met_at("read", 7, &SEVENS);
     ask.met_at("read", 8, &EIGHTS);
+}
+
+/// Every one-byte change of a card at each end of the town scales, and just above (02, E13).
+#[test]
+fn one_byte_changes_town() {
+    for (scale, zone, written) in [(5_000, 1, 24), (9_999, 17, 24), (10_000, 1, 0)] {
+        let mut ask = Ask::default();
+        let good = card(scale, zone, &all_chart(100, -20, 2, 1, false));
+        for card in changes_of(&good) {
+            if let Ok(read) = ask.read(scale, zone, &card) {
+                ask.write_back(scale, zone, &read, &card, 99);
+            }
+        }
+        ask.met("write", &[written]);
+        ask.met("read", &[0, 7, 8, 9, 10, 11]);
+        ask.met_at("read", 7, &SEVENS);
+        ask.met_at("read", 8, &EIGHTS);
+    }
 }
 
 /// Scale and zone come first, then the length, then the bytes.

@@ -5,7 +5,7 @@ mod support;
 
 use fordcask::{Pixel, Position, Sheet, Tiles, Window};
 use support::damage::change_some;
-use support::make::{card, changes, record, scale, ZONES};
+use support::make::{all_chart, card, changes_of, record, scale, town_scale, Scales, ZONES};
 use support::{seeded, Ask, Random, WORKED};
 
 fn some_pixel(random: &mut Random) -> Pixel {
@@ -40,19 +40,17 @@ fn some_position(random: &mut Random) -> Position {
 }
 
 /// Every question gives reading's refusals first, and the right answer where the card is accepted.
-#[test]
-fn one_byte_changes_asked() {
-    let mut random = seeded("one_byte_changes_asked");
+fn changes_asked(test: &str, good: Sheet) {
+    let mut random = seeded(test);
     let mut ask = Ask::default();
-    let worked = Sheet { scale: 1_000_000, zone: 1, card: WORKED };
-    for card in changes() {
-        let sheet = Sheet { scale: 1_000_000, zone: 1, card: &card };
+    for card in changes_of(good.card) {
+        let sheet = Sheet { card: &card, ..good };
         let (pixel, position) = (some_pixel(&mut random), some_position(&mut random));
         ask_all(&mut ask, &sheet, pixel, position, random.below(4) as u64);
         if sheet.read().is_ok() {
             for (row, column) in [(0, 0), (0, 127), (255, 0), (255, 127), (256, 0), (0, -1)] {
                 let corner = Pixel { row, column };
-                let position = worked.position(corner).unwrap_or(position);
+                let position = good.position(corner).unwrap_or(position);
                 ask_all(&mut ask, &sheet, corner, position, 3);
             }
         }
@@ -66,13 +64,26 @@ fn one_byte_changes_asked() {
     ask.met("window", &[0, 6, 7, 8, 9, 10, 11, 12]);
 }
 
-/// Several subfields wrong at once, at any scale and zone, the bad ones too.
 #[test]
-fn damaged_cards_asked() {
-    let mut random = seeded("damaged_cards_asked");
+fn one_byte_changes_asked() {
+    let worked = Sheet { scale: 1_000_000, zone: 1, card: WORKED };
+    changes_asked("one_byte_changes_asked", worked);
+}
+
+#[test]
+fn one_byte_changes_asked_town() {
+    for (scale, zone) in [(5_000, 8), (9_999, 10)] {
+        let card = card(scale, zone, &all_chart(100, -20, 2, 1, false));
+        changes_asked("one_byte_changes_asked_town", Sheet { scale, zone, card: &card });
+    }
+}
+
+/// Several subfields wrong at once, at any scale and zone, the bad ones too.
+fn damaged_asked(test: &str, rounds: u32, scales: Scales) {
+    let mut random = seeded(test);
     let mut ask = Ask::default();
-    for round in 0..20_000 {
-        let (mut scale, mut zone) = (scale(&mut random), random.pick(&ZONES));
+    for round in 0..rounds {
+        let (mut scale, mut zone) = (scales(&mut random), random.pick(&ZONES));
         let record = record(&mut random, scale, zone, 3);
         let mut card = card(scale, zone, &record);
         change_some(&mut random, &mut card);
@@ -87,8 +98,21 @@ fn damaged_cards_asked() {
     }
     ask.met("place", &[0, 1, 2, 3, 6, 7, 8, 9, 10, 11, 12]);
     ask.met("position", &[0, 1, 2, 3, 6, 7, 8, 9, 10, 11, 12, 13]);
+    ask.met("pixel", &[0, 1, 2, 3, 6, 7, 8, 9, 10, 11, 12]);
     ask.met("index_check", &[0, 1, 2, 3, 6, 7, 8, 9, 10, 11]);
+    ask.met("tile", &[0, 1, 2, 3, 6, 7, 8, 9, 10, 11, 12, 13]);
+    ask.met("bands", &[0, 1, 2, 3, 6, 7, 8, 9, 10, 11, 12, 13]);
     ask.met("window", &[0, 1, 2, 3, 6, 7, 8, 9, 10, 11]);
+}
+
+#[test]
+fn damaged_cards_asked() {
+    damaged_asked("damaged_cards_asked", 30_000, scale);
+}
+
+#[test]
+fn damaged_town_cards_asked() {
+    damaged_asked("damaged_town_cards_asked", 30_000, town_scale);
 }
 
 /// Every pixel of the worked card, and a border of two outside it.

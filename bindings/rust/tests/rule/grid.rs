@@ -1,6 +1,7 @@
-//! (01, "Origins and the zone grid")
+//! (01, "Origins and the zone grid"; 02, E13)
 
-use super::{floor_div, in_range, modulo, nearest, non_polar, refuse, Answer, H, LON_END, TILE};
+use super::{floor_div, in_range, modulo, nearest, non_polar, printed, refuse};
+use super::{Answer, H, LON_END, TILE};
 use fordcask::{Card, Offset, Origin, Pixel, Place, Position};
 
 /// The angle a card stores for k tiles from the Equator or the zero meridian.
@@ -14,8 +15,9 @@ pub fn origin_storing(angle: i128, spacing: i128) -> Option<i128> {
     (near - 2..=near + 2).find(|k| stored_angle(*k, spacing) == angle)
 }
 
-/// Alignment: 1, 2, 3, 4, 5.
+/// Alignment: 1, 24 (02, E13), 2, 3, 4, 5.
 pub fn align(scale: u64, zone: u64, lat: i64, lon: i64) -> Answer<Origin> {
+    printed(scale)?;
     let (a, b) = non_polar(scale, zone)?;
     in_range(lat, lon)?;
     let (lat, lon) = (lat as i128, lon as i128);

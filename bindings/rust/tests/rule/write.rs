@@ -1,7 +1,7 @@
-//! (01, "The image card, 98 bytes"): writing.
+//! (01, "The image card, 98 bytes"; 02, E13): writing.
 
 use super::read::{extents_hold, name_good, origin_accepted};
-use super::{non_polar, refuse, stored_angle, Answer, CARD};
+use super::{non_polar, printed, refuse, stored_angle, Answer, CARD};
 use fordcask::Record;
 
 /// A sign, degrees, minutes, seconds, a dot and hundredths; zero carries a plus.
@@ -33,8 +33,8 @@ fn card_text(a: i128, b: i128, record: &Record) -> String {
     text
 }
 
-/// Writing: 1, 2, 3, 6, then NFL, NFC (8), BAD (7), then 10, 11. The answer is the 98 bytes.
-pub fn write(scale: u64, zone: u64, record: &Record, out_len: usize) -> Answer<Vec<u8>> {
+/// The 98 bytes at any scale: 1, 2, 3, 6, then NFL, NFC (8), BAD (7), then 10, 11.
+pub fn lay_out(scale: u64, zone: u64, record: &Record, out_len: usize) -> Answer<Vec<u8>> {
     let (a, b) = non_polar(scale, zone)?;
     if out_len < CARD {
         return refuse(6, 0);
@@ -57,4 +57,10 @@ pub fn write(scale: u64, zone: u64, record: &Record, out_len: usize) -> Answer<V
     let bytes = card_text(a, b, record).into_bytes();
     assert_eq!(bytes.len(), CARD, "a written card has 98 bytes");
     Ok(bytes)
+}
+
+/// Writing: 1, 24 (02, E13), then as laid out: 2, 3, 6, then NFL, NFC (8), BAD (7), then 10, 11.
+pub fn write(scale: u64, zone: u64, record: &Record, out_len: usize) -> Answer<Vec<u8>> {
+    printed(scale)?;
+    lay_out(scale, zone, record, out_len)
 }

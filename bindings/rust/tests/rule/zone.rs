@@ -1,4 +1,4 @@
-//! (01, "Units and the zone table"; 02, E3 and E5)
+//! (01, "Units and the zone table"; 02, E3, E5 and E13)
 
 use super::{refuse, Answer, H, LAT_END};
 use fordcask::Spacing;
@@ -38,6 +38,22 @@ fn is_polar(zone: u64) -> bool {
 
 fn scale_good(scale: u64) -> bool {
     (5_000..=20_000_000).contains(&scale)
+}
+
+/// The retired scales, 1:5,000 to 1:9,999 (02, E13).
+fn is_town(scale: u64) -> bool {
+    (5_000..=9_999).contains(&scale)
+}
+
+/// A scale that cards are written and points aligned at: 1, then right after it 24 (02, E13).
+pub fn printed(scale: u64) -> Answer<()> {
+    if !scale_good(scale) {
+        return refuse(1, 0);
+    }
+    if is_town(scale) {
+        return refuse(24, 0);
+    }
+    Ok(())
 }
 
 /// 512 times the smallest whole number not below unit × 1,000,000 / S (001, 3.4.6).

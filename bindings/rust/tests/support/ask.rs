@@ -8,6 +8,9 @@ use fordcask::{Card, Offset, Origin, Position, Record, Refusal, Spacing};
 
 pub type Answer<T> = Result<T, Refusal>;
 
+/// The refusal of writing and alignment at a town scale (02, E13).
+pub const RETIRED: Refusal = Refusal { number: 24, at: 0 };
+
 /// The cases of one question: how often each number was met (0 is an answer), and where.
 #[derive(Default)]
 struct Tally {
@@ -137,5 +140,12 @@ impl Ask {
         );
         self.same("write", call, library, rule.map(|_| ()))?;
         Ok(out[..rule::CARD].to_vec())
+    }
+
+    /// Writing what was read gives the bytes back from 10,000 up, below it 24 (02, E13).
+    pub fn write_back(&mut self, scale: u64, zone: u64, read: &Card, card: &[u8], out_len: usize) {
+        let written = self.write(scale, zone, &read.record, out_len);
+        let right = if scale >= 10_000 { Ok(card.to_vec()) } else { Err(RETIRED) };
+        assert_eq!(written, right, "writing what was read at 1:{scale} zone {zone}");
     }
 }

@@ -1,6 +1,6 @@
 //! Indexes of every kind, for images of few tiles.
 
-use super::make::{all_chart, scale, with_edges, ZONES};
+use super::make::{all_chart, with_edges, Scales, ZONES};
 use super::random::Random;
 use fordcask::Record;
 
@@ -27,8 +27,8 @@ fn spoil(random: &mut Random, index: &mut [u32], count: usize) {
 }
 
 /// A record of few tiles; scale and zone do not matter to the tiles.
-pub fn small(random: &mut Random, most: i64, tif: bool) -> (u64, u64, Record) {
-    let (scale, zone) = (scale(random), random.pick(&ZONES));
+pub fn small(random: &mut Random, scales: Scales, most: i64, tif: bool) -> (u64, u64, Record) {
+    let (scale, zone) = (scales(random), random.pick(&ZONES));
     let (nfl, nfc) = (random.between(1, most), random.between(1, most));
     let mut record = with_edges(random, nfl, 0, nfl, nfc);
     if random.once_in(2) {

@@ -15,11 +15,15 @@ pub const SCALE_BANDS: [(i64, i64); 6] = [
     (10_000_000, 20_000_000),
 ];
 
-/// Both ends, the scales of 001's tables, and scales with ties or exact quotients.
-pub const SCALES: [u64; 18] = [
-    5_000, 5_001, 10_000, 50_000, 75_000, 100_000, 250_000, 500_000, 625_600, 640_000, 782_000,
-    1_000_000, 1_250_000, 2_000_000, 3_060_000, 5_000_000, 17_772_728, 20_000_000,
+/// Both ends, those of the town scales, the scales of 001's tables, and ties or exact quotients.
+pub const SCALES: [u64; 20] = [
+    5_000, 5_001, 9_999, 10_000, 10_001, 50_000, 75_000, 100_000, 250_000, 500_000, 625_600,
+    640_000, 782_000, 1_000_000, 1_250_000, 2_000_000, 3_060_000, 5_000_000, 17_772_728,
+    20_000_000,
 ];
+
+/// A maker of scales.
+pub type Scales = fn(&mut Random) -> u64;
 
 /// Scales and zones that are refused.
 pub const BAD_SCALES: [u64; 8] =
@@ -37,6 +41,11 @@ pub fn scale(random: &mut Random) -> u64 {
     }
     let (low, high) = random.pick(&SCALE_BANDS);
     random.between(low, high) as u64
+}
+
+/// A town scale, an end in half of the cases (02, E13).
+pub fn town_scale(random: &mut Random) -> u64 {
+    toward_ends(random, 5_000, 9_999) as u64
 }
 
 /// A good BAD.
@@ -120,10 +129,10 @@ pub fn all_chart(n: i64, m: i64, nfl: u64, nfc: u64, tif: bool) -> Record {
     }
 }
 
-/// The bytes of a good record, written by the rule and not by the library.
+/// The bytes of a good record at any scale, laid out by the rule and not by the library.
 pub fn card(scale: u64, zone: u64, record: &Record) -> Vec<u8> {
-    let written = rule::write(scale, zone, record, rule::CARD);
-    written.unwrap_or_else(|refusal| panic!("{refusal}: {scale} {zone} {record:?}"))
+    let laid_out = rule::lay_out(scale, zone, record, rule::CARD);
+    laid_out.unwrap_or_else(|refusal| panic!("{refusal}: {scale} {zone} {record:?}"))
 }
 
 /// Rows at each edge of chart and tiles, one inside and one outside.
@@ -166,11 +175,16 @@ pub fn pixel(random: &mut Random, record: &Record) -> Pixel {
 
 /// Each of the 98 × 255 cards that differ from the worked one in one byte.
 pub fn changes() -> impl Iterator<Item = Vec<u8>> {
-    (0..98).flat_map(|at| {
+    changes_of(WORKED)
+}
+
+/// Each of the 98 × 255 cards that differ from this one in one byte.
+pub fn changes_of(good: &[u8]) -> impl Iterator<Item = Vec<u8>> + '_ {
+    (0..98).flat_map(move |at| {
         (0..=255).filter_map(move |byte| {
-            let mut card = WORKED.to_vec();
+            let mut card = good.to_vec();
             card[at] = byte;
-            (byte != WORKED[at]).then_some(card)
+            (byte != good[at]).then_some(card)
         })
     })
 }

@@ -10,7 +10,7 @@ pub mod index;
 pub mod make;
 pub mod random;
 
-pub use ask::Ask;
+pub use ask::{Ask, RETIRED};
 pub use random::{seeded, Random};
 
 /// The worked card of document 01, for 1:1,000,000 zone 1.
