@@ -1,4 +1,4 @@
-//! Cards at the town scales open as before; both round trips hold from 10,000 up (02, E13).
+//! Cards at the town scales open and keep their answers; round trips from 10,000 up (02, E13).
 
 mod rule;
 mod support;

@@ -86,6 +86,9 @@ fn damaged_asked(test: &str, rounds: u32, scales: Scales) {
         let (mut scale, mut zone) = (scales(&mut random), random.pick(&ZONES));
         let record = record(&mut random, scale, zone, 3);
         let mut card = card(scale, zone, &record);
+        let good = rule::read(scale, zone, &card).expect("a good card");
+        let corner = Pixel { row: record.nll as i64, column: record.nus as i64 };
+        let corner = rule::position(&good, corner).expect("a pixel of the chart");
         change_some(&mut random, &mut card);
         if round % 8 == 0 {
             scale = random.pick(&[scale, 0, 4_999, 20_000_001, u64::MAX]);
@@ -94,11 +97,12 @@ fn damaged_asked(test: &str, rounds: u32, scales: Scales) {
         }
         let sheet = Sheet { scale, zone, card: &card };
         let (pixel, position) = (some_pixel(&mut random), some_position(&mut random));
+        let position = random.pick(&[position, corner]);
         ask_all(&mut ask, &sheet, pixel, position, 1);
     }
     ask.met("place", &[0, 1, 2, 3, 6, 7, 8, 9, 10, 11, 12]);
     ask.met("position", &[0, 1, 2, 3, 6, 7, 8, 9, 10, 11, 12, 13]);
-    ask.met("pixel", &[0, 1, 2, 3, 6, 7, 8, 9, 10, 11, 12]);
+    ask.met("pixel", &[0, 1, 2, 3, 6, 7, 8, 9, 10, 11, 12, 13]);
     ask.met("index_check", &[0, 1, 2, 3, 6, 7, 8, 9, 10, 11]);
     ask.met("tile", &[0, 1, 2, 3, 6, 7, 8, 9, 10, 11, 12, 13]);
     ask.met("bands", &[0, 1, 2, 3, 6, 7, 8, 9, 10, 11, 12, 13]);
