@@ -8,7 +8,6 @@
 #include "fordcask.h"
 
 #define SCALE 1000000
-#define ZONE 1
 #define CARD FORDCASK_CARD_LENGTH
 #define TILE FORDCASK_TILE_LENGTH
 
@@ -30,7 +29,16 @@ static const struct fordcask_record padded = {
     .bad = {'S', 'H', 'E', 'E', 'T', '0', '0', '7', '.', 'A', 'R', 'C'},
     .tif = 2};
 
+/* An overview of the worked card, factor 16; two tiles down and across, TIF
+   N. */
+static const char overview[] =
+    "30002355200025088-0035446.96+125125.71000000000255000255000000"
+    "00200200012800012801008OVER0101.IMGN";
+
 static const uint8_t *card = (const uint8_t *)worked;
+static const uint8_t *overview_card = (const uint8_t *)overview;
+static const struct fordcask_series charts = {SCALE, 1, 1};
+static const struct fordcask_series overviews = {SCALE, 16, 1};
 static uint8_t padded_card[CARD];
 
 /* Four stored tiles of the six. */
@@ -65,9 +73,17 @@ static void print_pairs(const int64_t *pairs, size_t length,
     printf("\n");
 }
 
-static void spacing(uint64_t scale, uint64_t zone)
+static struct fordcask_series series(uint64_t scale, uint64_t factor,
+                                     uint64_t zone)
 {
-    struct fordcask_spacing s = fordcask_spacing(scale, zone);
+    struct fordcask_series s = {scale, factor, zone};
+
+    return s;
+}
+
+static void spacing(uint64_t scale, uint64_t factor, uint64_t zone)
+{
+    struct fordcask_spacing s = fordcask_spacing(series(scale, factor, zone));
 
     start("spacing", s.number, s.at);
     printf(" %" PRIu64 " %" PRIu64 "\n", s.a, s.b);
@@ -81,25 +97,29 @@ static void basic_zone(int64_t lat)
     printf(" %" PRIu64 "\n", z.zone);
 }
 
-static void cover(uint64_t scale, int64_t lat)
+static void cover(uint64_t scale, uint64_t factor, int64_t lat)
 {
-    struct fordcask_cover c = fordcask_cover(scale, lat);
+    struct fordcask_cover c = fordcask_cover(scale, factor, lat);
 
     start("cover", c.number, c.at);
     print_zones(c.length, c.zones, 6);
 }
 
-static void rectangle(uint64_t scale, int64_t south, int64_t north)
+static void rectangle(uint64_t scale, uint64_t factor, int64_t south,
+                      int64_t north)
 {
-    struct fordcask_rectangle r = fordcask_rectangle(scale, south, north);
+    struct fordcask_rectangle r =
+        fordcask_rectangle(scale, factor, south, north);
 
     start("rectangle", r.number, r.at);
     print_zones(r.length, r.zones, 18);
 }
 
-static void align(uint64_t scale, uint64_t zone, int64_t lat, int64_t lon)
+static void align(uint64_t scale, uint64_t factor, uint64_t zone, int64_t lat,
+                  int64_t lon)
 {
-    struct fordcask_origin o = fordcask_align(scale, zone, lat, lon);
+    struct fordcask_origin o =
+        fordcask_align(series(scale, factor, zone), lat, lon);
 
     start("align", o.number, o.at);
     printf(" %" PRId64 " %" PRId64 " %" PRId64 " %" PRId64 "\n", o.n, o.m,
@@ -107,9 +127,11 @@ static void align(uint64_t scale, uint64_t zone, int64_t lat, int64_t lon)
 }
 
 /* A zero byte of BAD is printed as '_'. */
-static void read_card(uint64_t scale, const uint8_t *bytes, size_t length)
+static void read_card(uint64_t scale, uint64_t factor, const uint8_t *bytes,
+                      size_t length)
 {
-    struct fordcask_card c = fordcask_read_card(scale, ZONE, bytes, length);
+    struct fordcask_card c =
+        fordcask_read_card(series(scale, factor, 1), bytes, length);
     size_t i;
 
     start("read_card", c.number, c.at);
@@ -124,14 +146,14 @@ static void read_card(uint64_t scale, const uint8_t *bytes, size_t length)
 }
 
 /* The output is filled with '#' before. */
-static void write_card(uint64_t scale, struct fordcask_record record,
-                       size_t length)
+static void write_card(uint64_t scale, uint64_t factor,
+                       struct fordcask_record record, size_t length)
 {
     uint8_t out[CARD + 3];
     struct fordcask_refusal r;
 
     memset(out, '#', sizeof out);
-    r = fordcask_write_card(scale, ZONE, record, out, length);
+    r = fordcask_write_card(series(scale, factor, 1), record, out, length);
     start("write_card", r.number, r.at);
     printf(" %.*s\n", (int)sizeof out, (const char *)out);
 }
@@ -149,7 +171,7 @@ static void offset(int64_t lat, int64_t lon, int64_t centre_lat,
 static void place(const uint8_t *bytes, int64_t row, int64_t column)
 {
     struct fordcask_place p =
-        fordcask_place(SCALE, ZONE, bytes, CARD, row, column);
+        fordcask_place(charts, bytes, CARD, row, column);
 
     start("place", p.number, p.at);
     printf(" %" PRId64 " %" PRId64 "\n", p.row, p.column);
@@ -158,7 +180,7 @@ static void place(const uint8_t *bytes, int64_t row, int64_t column)
 static void position(const uint8_t *bytes, int64_t row, int64_t column)
 {
     struct fordcask_position p =
-        fordcask_position(SCALE, ZONE, bytes, CARD, row, column);
+        fordcask_position(charts, bytes, CARD, row, column);
 
     start("position", p.number, p.at);
     printf(" %" PRId64 " %" PRId64 "\n", p.lat, p.lon);
@@ -167,9 +189,19 @@ static void position(const uint8_t *bytes, int64_t row, int64_t column)
 static void pixel(const uint8_t *bytes, int64_t lat, int64_t lon)
 {
     struct fordcask_pixel p =
-        fordcask_pixel(SCALE, ZONE, bytes, CARD, lat, lon);
+        fordcask_pixel(charts, bytes, CARD, lat, lon);
 
     start("pixel", p.number, p.at);
+    printf(" %" PRId64 " %" PRId64 "\n", p.row, p.column);
+}
+
+static void overview_pixel(const uint8_t *bytes, const uint8_t *over,
+                           size_t length, int64_t row, int64_t column)
+{
+    struct fordcask_pixel p = fordcask_overview_pixel(
+        charts, bytes, CARD, overviews, over, length, row, column);
+
+    start("overview_pixel", p.number, p.at);
     printf(" %" PRId64 " %" PRId64 "\n", p.row, p.column);
 }
 
@@ -180,7 +212,7 @@ static void index_check(const uint8_t *bytes, const uint32_t *index,
     uint8_t marks[5] = {7, 7, 7, 7, 7};
     size_t i;
     struct fordcask_refusal r = fordcask_index_check(
-        SCALE, ZONE, bytes, CARD, index, length, count, marks, 5);
+        charts, bytes, CARD, index, length, count, marks, 5);
 
     start("index_check", r.number, r.at);
     for (i = 0; i < 5; i++)
@@ -193,10 +225,10 @@ static void tile(const uint8_t *bytes, const uint32_t *index, size_t length,
                  uint64_t count, int64_t row, int64_t column)
 {
     struct fordcask_tile t =
-        fordcask_tile(SCALE, ZONE, bytes, CARD, index, length, count, store,
+        fordcask_tile(charts, bytes, CARD, index, length, count, store,
                       (size_t)count * TILE, row, column);
     struct fordcask_bands b =
-        fordcask_bands(SCALE, ZONE, bytes, CARD, index, length, count, store,
+        fordcask_bands(charts, bytes, CARD, index, length, count, store,
                        (size_t)count * TILE, row, column);
 
     start("tile", t.number, t.at);
@@ -212,7 +244,7 @@ static void window(const uint8_t *bytes, const uint32_t *index, size_t length,
                    uint64_t height, uint64_t width)
 {
     struct fordcask_window w =
-        fordcask_window(SCALE, ZONE, bytes, CARD, index, length, count, top,
+        fordcask_window(charts, bytes, CARD, index, length, count, top,
                         left, height, width);
 
     start("window", w.number, w.at);
@@ -226,7 +258,7 @@ static void positions(size_t length)
     int64_t out[9] = {7, 7, 7, 7, 7, 7, 7, 7, 7};
     uint32_t numbers[5] = {7, 7, 7, 7, 7};
     struct fordcask_refusal r =
-        fordcask_positions(SCALE, ZONE, padded_card, CARD, pixels, length, out,
+        fordcask_positions(charts, padded_card, CARD, pixels, length, out,
                            9, numbers, 5);
 
     start("positions", r.number, r.at);
@@ -240,7 +272,7 @@ static void pixels(size_t length)
                                        4141604,  -896454};
     int64_t out[11] = {7, 7, 7, 7, 7, 7, 7, 7, 7, 7, 7};
     uint32_t numbers[6] = {7, 7, 7, 7, 7, 7};
-    struct fordcask_refusal r = fordcask_pixels(SCALE, ZONE, padded_card, CARD,
+    struct fordcask_refusal r = fordcask_pixels(charts, padded_card, CARD,
                                                 places, length, out, 11,
                                                 numbers, 6);
 
@@ -250,31 +282,46 @@ static void pixels(size_t length)
 
 static void zones(void)
 {
-    spacing(50000, 1);
-    spacing(1000000, 18);
-    spacing(4999, 1);
-    spacing(5000, 19);
+    spacing(50000, 1, 1);
+    spacing(1000000, 1, 18);
+    spacing(4999, 1, 1);
+    spacing(5000, 1, 19);
+    spacing(SCALE, 16, 1);
+    spacing(4999, 0, 19);
+    spacing(5000, 0, 19);
+    spacing(5000, UINT64_MAX, 1);
+    spacing(10000001, 2, 1);
+    spacing(10000001, 65, 1);
+    spacing(312500, 64, 1);
+    spacing(312501, 64, 0);
     basic_zone(11519999);
     basic_zone(11520000);
     basic_zone(-1);
     basic_zone(32400001);
-    cover(5000000, 27360000);
-    cover(20000000, -29519999);
-    cover(20000001, 0);
-    cover(1000000, -32400001);
-    rectangle(1000000, -1, 0);
-    rectangle(1000000, 0, 1);
-    rectangle(1000000, 10800000, 11520000);
-    rectangle(1000000, -32400000, 32400000);
-    rectangle(1000000, 1, 0);
-    rectangle(1000000, 0, 0);
-    align(SCALE, 1, 4143222, -897506);
-    align(SCALE, 1, 0, 64800000);
-    align(SCALE, 9, 0, 0);
-    align(SCALE, 1, 0, -64800001);
-    align(9999, 0, 0, 0);
-    align(10000, 0, 0, 0);
-    align(10000, 1, 4143222, -897506);
+    cover(5000000, 1, 27360000);
+    cover(20000000, 1, -29519999);
+    cover(20000001, 1, 0);
+    cover(1000000, 1, -32400001);
+    cover(1000000, 5, 27360000);
+    cover(1000000, 65, 32400001);
+    rectangle(1000000, 1, -1, 0);
+    rectangle(1000000, 1, 0, 1);
+    rectangle(1000000, 1, 10800000, 11520000);
+    rectangle(1000000, 1, -32400000, 32400000);
+    rectangle(1000000, 1, 1, 0);
+    rectangle(1000000, 1, 0, 0);
+    rectangle(1000000, 5, 27360000, 27360001);
+    rectangle(1000000, 0, 32400001, 0);
+    align(SCALE, 1, 1, 4143222, -897506);
+    align(SCALE, 1, 1, 0, 64800000);
+    align(SCALE, 1, 9, 0, 0);
+    align(SCALE, 1, 1, 0, -64800001);
+    align(9999, 1, 0, 0, 0);
+    align(10000, 1, 0, 0, 0);
+    align(10000, 1, 1, 4143222, -897506);
+    align(SCALE, 16, 1, 4143223, -897507);
+    align(9999, 65, 0, 0, 0);
+    align(10000, 65, 0, 0, 0);
     offset(5, 64800000, 7, -1);
     offset(-32400000, 0, 32400000, 1);
     offset(0, 0, 0, 64800001);
@@ -285,23 +332,31 @@ static void cards(void)
     struct fordcask_record record = padded;
     uint8_t damaged[CARD];
 
-    read_card(SCALE, card, CARD);
-    read_card(SCALE, card, CARD - 1);
+    read_card(SCALE, 1, card, CARD);
+    read_card(SCALE, 1, card, CARD - 1);
     memcpy(damaged, card, CARD);
     damaged[93] = '_';
-    read_card(SCALE, damaged, CARD);
-    write_card(SCALE, record, CARD + 3);
-    write_card(SCALE, record, CARD - 1);
+    read_card(SCALE, 1, damaged, CARD);
+    write_card(SCALE, 1, record, CARD + 3);
+    write_card(SCALE, 1, record, CARD - 1);
     record.tif = 0;
-    write_card(SCALE, record, CARD);
+    write_card(SCALE, 1, record, CARD);
     record.nfc = 1000;
-    write_card(SCALE, record, CARD);
-    write_card(9999, padded, CARD - 1);
-    write_card(9999, padded, CARD);
-    write_card(10000, padded, CARD);
-    read_card(9999, card, CARD);
-    fordcask_write_card(SCALE, ZONE, padded, padded_card, CARD);
-    read_card(SCALE, padded_card, CARD);
+    write_card(SCALE, 1, record, CARD);
+    write_card(9999, 1, padded, CARD - 1);
+    write_card(9999, 1, padded, CARD);
+    write_card(10000, 1, padded, CARD);
+    read_card(9999, 1, card, CARD);
+    fordcask_write_card(charts, padded, padded_card, CARD);
+    read_card(SCALE, 1, padded_card, CARD);
+    read_card(SCALE, 16, overview_card, CARD);
+    read_card(SCALE, 1, overview_card, CARD);
+    read_card(SCALE, 0, overview_card, CARD - 1);
+    record = padded;
+    record.n = 7;
+    record.m = -2;
+    write_card(SCALE, 16, record, CARD);
+    write_card(SCALE, 16, padded, CARD);
 }
 
 static void grid(void)
@@ -317,6 +372,11 @@ static void grid(void)
     pixel(card, 4142899, -897156);
     pixel(card, 32400001, 0);
     pixel(padded_card, 4142899, -897156);
+    overview_pixel(card, overview_card, CARD, 255, 127);
+    overview_pixel(padded_card, overview_card, CARD, 4, 3);
+    overview_pixel(padded_card, overview_card, CARD, 256, 0);
+    overview_pixel(card, overview_card, CARD - 1, 256, 0);
+    overview_pixel(card, card, CARD, 0, 0);
     positions(8);
     positions(7);
     pixels(10);

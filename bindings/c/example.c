@@ -24,7 +24,7 @@ int main(void)
 {
     static const int64_t pixels[4][2] = {{0, 0}, {1, 1}, {255, 127}, {256, 0}};
     const uint8_t *bytes = (const uint8_t *)card;
-    uint64_t scale = 1000000, zone = 1;
+    struct fordcask_series series = {1000000, 1, 1};
     struct fordcask_pixel back;
     size_t i;
 
@@ -32,7 +32,7 @@ int main(void)
     for (i = 0; i < 4; i++) {
         int64_t row = pixels[i][0], column = pixels[i][1];
         struct fordcask_position found = fordcask_position(
-            scale, zone, bytes, FORDCASK_CARD_LENGTH, row, column);
+            series, bytes, FORDCASK_CARD_LENGTH, row, column);
 
         printf("%" PRId64 " %" PRId64, row, column);
         if (found.number == 0) {
@@ -44,7 +44,7 @@ int main(void)
         }
     }
 
-    back = fordcask_pixel(scale, zone, bytes, FORDCASK_CARD_LENGTH, 4142899,
+    back = fordcask_pixel(series, bytes, FORDCASK_CARD_LENGTH, 4142899,
                           -897156);
     printf("back %" PRIu32 " %" PRId64 " %" PRId64 "\n", back.number, back.row,
            back.column);

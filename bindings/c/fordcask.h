@@ -16,8 +16,14 @@
 
    Angles are whole hundredths of an arc-second: latitude
    -32400000..32400000, north positive; longitude -64800000..64800000, east
-   positive. A scale is the S of 1:S. A range x..y has both its ends. What lies
-   outside a range named below is refused.
+   positive. A scale is the S of 1:S. An overview has a factor k, and its
+   spacing is that of scale 1:(S x k); a chart has the factor 1. A range x..y
+   has both its ends. What lies outside a range named below is refused.
+
+   This breaks callers of the headers before: each function that took a scale
+   now takes the factor too. Where scale and zone were handed in, that is a
+   struct fordcask_series by value; fordcask_cover and fordcask_rectangle take
+   the factor right after the scale. With the factor 1 each answers as before.
 
    A and B are the pixels in the circle along a parallel and along a meridian.
    A tile is 128 by 128 pixels. The chart is a rectangle of the tiles' pixels;
@@ -35,7 +41,7 @@
    Each answer starts with `number` and `at`. number 0 means answered. Else it
    is the refusal's number, `at` is its place, and all other fields are 0.
 
-      1   scale not 5000..20000000
+      1   scale not 5000..20000000, or scale x factor above 20000000
       2   zone not 1..18
       3   zone 9 or 18 where a non-polar zone is needed
       4   latitude outside its range
@@ -45,7 +51,7 @@
       7   a byte of a subfield of the wrong kind
       8   right kind, wrong value: a constant, minutes or seconds 60 or more,
           angle outside its range, minus zero, NFL or NFC not 1..999, TIF
-      9   ARV or BRV not that of scale and zone
+      9   ARV or BRV not that of scale, factor and zone
      10   origin not on the tile grid or outside it
      11   an extent broken
      12   pixel outside the tiles on any side; top + height above NFL or
@@ -54,6 +60,7 @@
      14   tile not stored
      15   index entry above the count, repeated, or a stored tile never named
      16   south edge not below north edge
+     17   factor not 1..64
      24   scale 5000..9999, a town scale, in writing and alignment alone
 
    The place is the subfield's offset in the card for 7 and 8. For 15 it is
@@ -75,6 +82,14 @@ extern "C" {
 
 #define FORDCASK_CARD_LENGTH 98
 #define FORDCASK_TILE_LENGTH 49152
+
+/* What is stated beside a card. */
+struct fordcask_series {
+    uint64_t scale;  /* the S of 1:S, 5000..20000000 */
+    uint64_t factor; /* 1..64, 1 for a chart; scale x factor at most
+                        20000000 */
+    uint64_t zone;   /* 1..18 */
+};
 
 /* A refusal alone. */
 struct fordcask_refusal {
@@ -126,7 +141,7 @@ struct fordcask_origin {
 struct fordcask_card {
     uint32_t number;
     uint64_t at;
-    uint64_t a, b;   /* A and B of the card's scale and zone */
+    uint64_t a, b;   /* A and B of the card's scale, factor and zone */
     int64_t n;       /* origin, tiles north of the Equator, -B/512..B/512 */
     int64_t m;       /* origin, tiles east of the zero meridian,
                         -A/256..A/256 */
@@ -215,46 +230,47 @@ struct fordcask_window {
     uint64_t missing, tile;
 };
 
-/* A and B of a zone at a scale. scale 5000..20000000; zone 1..18, the polar
-   zones 9 and 18 too. Refuses 1, 2. */
-struct fordcask_spacing fordcask_spacing(uint64_t scale, uint64_t zone);
+/* A and B of a zone at a scale and a factor, the polar zones 9 and 18 too.
+   Refuses 1, 17, 1 (scale x factor), 2. */
+struct fordcask_spacing fordcask_spacing(struct fordcask_series series);
 
 /* The basic zone of a latitude. lat in hundredths of an arc-second,
    -32400000..32400000. Refuses 4. */
 struct fordcask_zone fordcask_basic_zone(int64_t lat);
 
 /* The zones covering a latitude, the basic zone first, then equatorward.
-   scale 5000..20000000; lat in hundredths of an arc-second,
-   -32400000..32400000. Refuses 1, 4. */
-struct fordcask_cover fordcask_cover(uint64_t scale, int64_t lat);
+   scale and factor as in struct fordcask_series; lat in hundredths of an
+   arc-second, -32400000..32400000. Refuses 1, 17, 1, 4. */
+struct fordcask_cover fordcask_cover(uint64_t scale, uint64_t factor,
+                                     int64_t lat);
 
 /* The zones that share a stretch of latitude of more than zero height with
    the rectangle from south to north, in ascending number; latitude is a
-   continuous line, and a zone's overlap belongs to it. scale 5000..20000000;
-   south and north in hundredths of an arc-second, latitude
-   -32400000..32400000, south below north.
-   Refuses 1, 4 (south), 4 (north), 16. */
-struct fordcask_rectangle fordcask_rectangle(uint64_t scale, int64_t south,
-                                             int64_t north);
+   continuous line, and a zone's overlap belongs to it. scale and factor as in
+   struct fordcask_series; south and north in hundredths of an arc-second,
+   latitude -32400000..32400000, south below north.
+   Refuses 1, 17, 1, 4 (south), 4 (north), 16. */
+struct fordcask_rectangle fordcask_rectangle(uint64_t scale, uint64_t factor,
+                                             int64_t south, int64_t north);
 
-/* The origin for an upper left point. scale 10000..20000000, 24 for
-   5000..9999; zone 1..18, not 9 or 18; lat and lon in hundredths of an
-   arc-second, latitude -32400000..32400000, longitude -64800000..64800000.
-   Refuses 1, 24, 2, 3, 4, 5. */
-struct fordcask_origin fordcask_align(uint64_t scale, uint64_t zone,
+/* The origin for an upper left point. The scale is 10000..20000000, 24 for
+   5000..9999 whatever the factor; the zone is not 9 or 18; lat and lon in
+   hundredths of an arc-second, latitude -32400000..32400000, longitude
+   -64800000..64800000. Refuses 1, 24, 17, 1, 2, 3, 4, 5. */
+struct fordcask_origin fordcask_align(struct fordcask_series series,
                                       int64_t lat, int64_t lon);
 
-/* Reads a card. scale 5000..20000000; zone 1..18, not 9 or 18; card_len 98.
-   Refuses 1, 2, 3, 6, then each subfield from left to right with 7 before 8,
-   then 9, 10, 11. */
-struct fordcask_card fordcask_read_card(uint64_t scale, uint64_t zone,
+/* Reads a card. The zone is not 9 or 18; card_len 98. Refuses 1, 17, 1, 2, 3,
+   6, then each subfield from left to right with 7 before 8, then 9, 10, 11. */
+struct fordcask_card fordcask_read_card(struct fordcask_series series,
                                         const uint8_t *card, size_t card_len);
 
-/* Writes a card into the first 98 bytes of out; the rest stays. scale
-   10000..20000000, 24 for 5000..9999; zone 1..18, not 9 or 18; the record's
-   ranges are at struct fordcask_record; out_len 98 or more. Refuses 1, 24, 2,
-   3, 6, 8 at 62 (NFL), 8 at 65 (NFC), 7 at 85 (BAD), 10, 11. */
-struct fordcask_refusal fordcask_write_card(uint64_t scale, uint64_t zone,
+/* Writes a card into the first 98 bytes of out; the rest stays. The scale is
+   10000..20000000, 24 for 5000..9999 whatever the factor; the zone is not 9 or
+   18; the record's ranges are at struct fordcask_record; out_len 98 or more.
+   Refuses 1, 24, 17, 1, 2, 3, 6, 8 at 62 (NFL), 8 at 65 (NFC), 7 at 85 (BAD),
+   10, 11. */
+struct fordcask_refusal fordcask_write_card(struct fordcask_series series,
                                             struct fordcask_record record,
                                             uint8_t *out, size_t out_len);
 
@@ -264,95 +280,103 @@ struct fordcask_refusal fordcask_write_card(uint64_t scale, uint64_t zone,
 struct fordcask_offset fordcask_offset(int64_t lat, int64_t lon,
                                        int64_t centre_lat, int64_t centre_lon);
 
-/* Questions on a card. Each gives the refusals of fordcask_read_card first,
-   then its own, which are named at the function. */
+/* Questions on a card, with what is stated beside it: the zone is not 9 or 18;
+   card_len 98. Each gives the refusals of fordcask_read_card first, then its
+   own, which are named at the function. */
 
-/* The zone grid place of a pixel of the tiles, padding included. scale
-   5000..20000000; zone 1..18, not 9 or 18; card_len 98; row
+/* The zone grid place of a pixel of the tiles, padding included. row
    0..128 x NFL - 1; column 0..128 x NFC - 1. Refuses 12. */
-struct fordcask_place fordcask_place(uint64_t scale, uint64_t zone,
+struct fordcask_place fordcask_place(struct fordcask_series series,
                                      const uint8_t *card, size_t card_len,
                                      int64_t row, int64_t column);
 
-/* The position of a pixel of the chart, in hundredths of an arc-second. scale
-   5000..20000000; zone 1..18, not 9 or 18; card_len 98; row
+/* The position of a pixel of the chart, in hundredths of an arc-second. row
    0..128 x NFL - 1 and column 0..128 x NFC - 1, else 12; row NUL..NLL and
    column NLS..NUS, else 13. Refuses 12, 13. */
-struct fordcask_position fordcask_position(uint64_t scale, uint64_t zone,
+struct fordcask_position fordcask_position(struct fordcask_series series,
                                            const uint8_t *card,
                                            size_t card_len, int64_t row,
                                            int64_t column);
 
-/* The pixel of the chart at a position. scale 5000..20000000; zone 1..18, not
-   9 or 18; card_len 98; lat and lon in hundredths of an arc-second, latitude
-   -32400000..32400000, longitude -64800000..64800000.
+/* The pixel of the chart at a position. lat and lon in hundredths of an
+   arc-second, latitude -32400000..32400000, longitude -64800000..64800000.
    Refuses 4, 5, 12, 13. */
-struct fordcask_pixel fordcask_pixel(uint64_t scale, uint64_t zone,
+struct fordcask_pixel fordcask_pixel(struct fordcask_series series,
                                      const uint8_t *card, size_t card_len,
                                      int64_t lat, int64_t lon);
 
-/* Checks that each number 1..count occurs exactly once in the index. scale
-   5000..20000000; zone 1..18, not 9 or 18; card_len 98. With TIF Y the index
-   has NFL x NFC entries in reading order, 0 for a tile not stored; with N it
-   is empty. index is not NULL, also for the empty index of a card with TIF N.
+/* The overview pixel of a chart's pixel: the overview's pixel at the position
+   of pixel (row, column) of the chart. series and card are the chart's,
+   overview and overview_card the overview's; any two accepted cards are
+   answered. Refuses what reading the chart's card refuses, then what reading
+   the overview's card refuses, then 12, 13 of the chart's pixel, then 12, 13
+   of the overview's. */
+struct fordcask_pixel fordcask_overview_pixel(struct fordcask_series series,
+                                              const uint8_t *card,
+                                              size_t card_len,
+                                              struct fordcask_series overview,
+                                              const uint8_t *overview_card,
+                                              size_t overview_card_len,
+                                              int64_t row, int64_t column);
+
+/* Checks that each number 1..count occurs exactly once in the index. With TIF
+   Y the index has NFL x NFC entries in reading order, 0 for a tile not stored;
+   with N it is empty. index is not NULL, also for the empty index of a card
+   with TIF N.
    count is 0..NFL x NFC, and NFL x NFC with N. marks has at least count
    elements: mark k - 1 becomes 1 if k occurs before the refused entry
    (anywhere, if none is refused), else 0; with N all become 1. Marks past the
    count stay; all stay where the card or a length is refused.
    Refuses 6, 15. */
-struct fordcask_refusal fordcask_index_check(uint64_t scale, uint64_t zone,
+struct fordcask_refusal fordcask_index_check(struct fordcask_series series,
                                              const uint8_t *card,
                                              size_t card_len,
                                              const uint32_t *index,
                                              size_t index_len, uint64_t count,
                                              uint8_t *marks, size_t marks_len);
 
-/* The stored tile of a pixel of the chart. scale 5000..20000000; zone 1..18,
-   not 9 or 18; card_len 98; index and count as for fordcask_index_check:
-   index is not NULL, also for the empty index of a card with TIF N; the store
-   has exactly count x 49152 bytes; row NUL..NLL, column NLS..NUS.
-   Refuses 6, 12, 13, 14, 15. */
-struct fordcask_tile fordcask_tile(uint64_t scale, uint64_t zone,
+/* The stored tile of a pixel of the chart. index and count as for
+   fordcask_index_check: index is not NULL, also for the empty index of a card
+   with TIF N; the store has exactly count x 49152 bytes; row NUL..NLL, column
+   NLS..NUS. Refuses 6, 12, 13, 14, 15. */
+struct fordcask_tile fordcask_tile(struct fordcask_series series,
                                    const uint8_t *card, size_t card_len,
                                    const uint32_t *index, size_t index_len,
                                    uint64_t count, const uint8_t *store,
                                    size_t store_len, int64_t row,
                                    int64_t column);
 
-/* The band values of a pixel of the chart. scale 5000..20000000; zone 1..18,
-   not 9 or 18; card_len 98; index and count as for fordcask_index_check:
-   index is not NULL, also for the empty index of a card with TIF N; the store
-   has exactly count x 49152 bytes; row NUL..NLL, column NLS..NUS.
-   Refuses 6, 12, 13, 14, 15. */
-struct fordcask_bands fordcask_bands(uint64_t scale, uint64_t zone,
+/* The band values of a pixel of the chart. index and count as for
+   fordcask_index_check: index is not NULL, also for the empty index of a card
+   with TIF N; the store has exactly count x 49152 bytes; row NUL..NLL, column
+   NLS..NUS. Refuses 6, 12, 13, 14, 15. */
+struct fordcask_bands fordcask_bands(struct fordcask_series series,
                                      const uint8_t *card, size_t card_len,
                                      const uint32_t *index, size_t index_len,
                                      uint64_t count, const uint8_t *store,
                                      size_t store_len, int64_t row,
                                      int64_t column);
 
-/* The first tile not stored in a window, in reading order. scale
-   5000..20000000; zone 1..18, not 9 or 18; card_len 98; index and count as for
-   fordcask_index_check: index is not NULL, also for the empty index of a card
-   with TIF N. top, left, height and width count tiles: top + height at most
-   NFL, left + width at most NFC; an empty window has no missing tile.
+/* The first tile not stored in a window, in reading order. index and count as
+   for fordcask_index_check: index is not NULL, also for the empty index of a
+   card with TIF N. top, left, height and width count tiles: top + height at
+   most NFL, left + width at most NFC; an empty window has no missing tile.
    Refuses 6, 12, then 15 where an entry above the count comes before any
    missing tile. */
-struct fordcask_window fordcask_window(uint64_t scale, uint64_t zone,
+struct fordcask_window fordcask_window(struct fordcask_series series,
                                        const uint8_t *card, size_t card_len,
                                        const uint32_t *index,
                                        size_t index_len, uint64_t count,
                                        uint64_t top, uint64_t left,
                                        uint64_t height, uint64_t width);
 
-/* The positions of many pixels. scale 5000..20000000; zone 1..18, not 9 or 18;
-   card_len 98. pixels: row, column, row, column, ..., rows NUL..NLL and
-   columns NLS..NUS; positions: lat, lon, lat, lon, ... in hundredths of an
-   arc-second; one number for each pair. numbers[i] is 0 and pair i the answer
-   of fordcask_position, or numbers[i] is 12 or 13 and the pair is 0, 0. What
-   lies past the pairs stays. Refuses 6 where pixels_len is odd, positions_len
-   is below it, or numbers_len is below half of it. */
-struct fordcask_refusal fordcask_positions(uint64_t scale, uint64_t zone,
+/* The positions of many pixels. pixels: row, column, row, column, ..., rows
+   NUL..NLL and columns NLS..NUS; positions: lat, lon, lat, lon, ... in
+   hundredths of an arc-second; one number for each pair. numbers[i] is 0 and
+   pair i the answer of fordcask_position, or numbers[i] is 12 or 13 and the
+   pair is 0, 0. What lies past the pairs stays. Refuses 6 where pixels_len is
+   odd, positions_len is below it, or numbers_len is below half of it. */
+struct fordcask_refusal fordcask_positions(struct fordcask_series series,
                                            const uint8_t *card,
                                            size_t card_len,
                                            const int64_t *pixels,
@@ -362,15 +386,14 @@ struct fordcask_refusal fordcask_positions(uint64_t scale, uint64_t zone,
                                            uint32_t *numbers,
                                            size_t numbers_len);
 
-/* The pixels at many positions. scale 5000..20000000; zone 1..18, not 9 or 18;
-   card_len 98. positions: lat, lon, lat, lon, ... in hundredths of an
-   arc-second, latitude -32400000..32400000, longitude -64800000..64800000;
-   pixels: row, column, row, column, ...; one number for each pair. numbers[i]
-   is 0 and pair i the answer of fordcask_pixel, or numbers[i] is 4, 5, 12 or
-   13 and the pair is 0, 0. What lies past the pairs stays. Refuses 6 where
-   positions_len is odd, pixels_len is below it, or numbers_len is below half
-   of it. */
-struct fordcask_refusal fordcask_pixels(uint64_t scale, uint64_t zone,
+/* The pixels at many positions. positions: lat, lon, lat, lon, ... in
+   hundredths of an arc-second, latitude -32400000..32400000, longitude
+   -64800000..64800000; pixels: row, column, row, column, ...; one number for
+   each pair. numbers[i] is 0 and pair i the answer of fordcask_pixel, or
+   numbers[i] is 4, 5, 12 or 13 and the pair is 0, 0. What lies past the pairs
+   stays. Refuses 6 where positions_len is odd, pixels_len is below it, or
+   numbers_len is below half of it. */
+struct fordcask_refusal fordcask_pixels(struct fordcask_series series,
                                         const uint8_t *card, size_t card_len,
                                         const int64_t *positions,
                                         size_t positions_len, int64_t *pixels,

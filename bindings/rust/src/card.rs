@@ -1,11 +1,12 @@
 use crate::raw;
 use crate::refusal::{answer, Refusal};
+use crate::series::Series;
 use crate::zone::Spacing;
 
 /// The length of an image card in bytes.
 pub const CARD_LENGTH: usize = 98;
 
-/// What a card says of its image, beside scale and zone.
+/// What a card says of its image, beside scale, factor and zone.
 #[derive(Clone, Copy, Debug, PartialEq, Eq)]
 pub struct Record {
     /// The origin in tiles north of the Equator, -B/512 to B/512.
@@ -33,16 +34,17 @@ pub struct Record {
 /// An accepted card: its spacing and its record.
 #[derive(Clone, Copy, Debug, PartialEq, Eq)]
 pub struct Card {
-    /// A and B of the card's scale and zone.
+    /// A and B of the card's scale, factor and zone.
     pub spacing: Spacing,
     /// The record; writing it gives the card's bytes back, from 1:10,000 up.
     pub record: Record,
 }
 
-/// Reads a card of 98 bytes at its scale and zone. Refuses 1, 2, 3, 6, 7 and 8, 9, 10, 11.
-pub fn read_card(scale: u64, zone: u64, card: &[u8]) -> Result<Card, Refusal> {
+/// Reads a card of 98 bytes at its scale, factor and zone. Refuses 1, 17, 1, 2, 3, 6, 7 and 8, 9,
+/// 10, 11.
+pub fn read_card(series: Series, card: &[u8]) -> Result<Card, Refusal> {
     // SAFETY: the pointer and length are those of one slice, which is only read.
-    let given = unsafe { raw::fordcask_read_card(scale, zone, card.as_ptr(), card.len()) };
+    let given = unsafe { raw::fordcask_read_card(series, card.as_ptr(), card.len()) };
     let record = Record {
         n: given.n,
         m: given.m,
@@ -61,9 +63,9 @@ pub fn read_card(scale: u64, zone: u64, card: &[u8]) -> Result<Card, Refusal> {
 
 /// Writes a record as the first 98 bytes of `out`; the rest stays, and all of it in a refusal.
 ///
-/// Refuses 1, 24, 2, 3, 6 (`out` under 98 bytes), 8 at 62 (NFL), 8 at 65 (NFC), 7 at 85 (BAD), 10,
-/// 11.
-pub fn write_card(scale: u64, zone: u64, record: &Record, out: &mut [u8]) -> Result<(), Refusal> {
+/// Refuses 1, 24, 17, 1, 2, 3, 6 (`out` under 98 bytes), 8 at 62 (NFL), 8 at 65 (NFC), 7 at 85
+/// (BAD), 10, 11.
+pub fn write_card(series: Series, record: &Record, out: &mut [u8]) -> Result<(), Refusal> {
     let record = raw::Record {
         n: record.n,
         m: record.m,
@@ -77,7 +79,6 @@ pub fn write_card(scale: u64, zone: u64, record: &Record, out: &mut [u8]) -> Res
         tif: u8::from(record.tif),
     };
     // SAFETY: the pointer and length are those of one slice, lent for writing.
-    let given =
-        unsafe { raw::fordcask_write_card(scale, zone, record, out.as_mut_ptr(), out.len()) };
+    let given = unsafe { raw::fordcask_write_card(series, record, out.as_mut_ptr(), out.len()) };
     answer(given.number, given.at, ())
 }

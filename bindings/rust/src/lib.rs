@@ -6,11 +6,11 @@
 //! handed in; a [`Refusal`] carries the number of document 01 or 02 and a place.
 //!
 //! ```
-//! use fordcask::{Pixel, Position, Refusal, Sheet};
+//! use fordcask::{Pixel, Position, Refusal, Series, Sheet};
 //!
 //! let card = b"30036966400400384-0022935.07+113032.23000000000127000255000000\
 //!              00200100012800012801008BASE0101.IMGN";
-//! let sheet = Sheet { scale: 1_000_000, zone: 1, card };
+//! let sheet = Sheet { series: Series::chart(1_000_000, 1), card };
 //! let position = sheet.position(Pixel { row: 1, column: 1 })?;
 //! assert_eq!(position, Position { lat: 4_142_899, lon: -897_156 });
 //! assert_eq!(sheet.pixel(position)?, Pixel { row: 1, column: 1 });
@@ -25,6 +25,7 @@ mod card;
 mod position;
 pub mod raw;
 mod refusal;
+mod series;
 mod sheet;
 mod tiles;
 mod zone;
@@ -32,6 +33,7 @@ mod zone;
 pub use card::{read_card, write_card, Card, Record, CARD_LENGTH};
 pub use position::{offset, Offset, Pixel, Place, Position};
 pub use refusal::Refusal;
+pub use series::Series;
 pub use sheet::Sheet;
 pub use tiles::{Bands, Tiles, Window, TILE_LENGTH};
 pub use zone::{

@@ -9,53 +9,64 @@
 #![allow(missing_docs)]
 
 mod blocks;
+pub use crate::series::Series;
 pub use blocks::*;
 
 unsafe extern "C" {
-    pub safe fn fordcask_spacing(scale: u64, zone: u64) -> Spacing;
+    pub safe fn fordcask_spacing(series: Series) -> Spacing;
     pub safe fn fordcask_basic_zone(lat: i64) -> Zone;
-    pub safe fn fordcask_cover(scale: u64, lat: i64) -> Cover;
-    pub safe fn fordcask_rectangle(scale: u64, south: i64, north: i64) -> Rectangle;
-    pub safe fn fordcask_align(scale: u64, zone: u64, lat: i64, lon: i64) -> Origin;
+    pub safe fn fordcask_cover(scale: u64, factor: u64, lat: i64) -> Cover;
+    pub safe fn fordcask_rectangle(
+        scale: u64,
+        factor: u64,
+        south: i64,
+        north: i64,
+    ) -> Rectangle;
+    pub safe fn fordcask_align(series: Series, lat: i64, lon: i64) -> Origin;
     pub safe fn fordcask_offset(lat: i64, lon: i64, centre_lat: i64, centre_lon: i64) -> Offset;
 
-    pub fn fordcask_read_card(scale: u64, zone: u64, card: *const u8, card_len: usize) -> Card;
+    pub fn fordcask_read_card(series: Series, card: *const u8, card_len: usize) -> Card;
     pub fn fordcask_write_card(
-        scale: u64,
-        zone: u64,
+        series: Series,
         record: Record,
         out: *mut u8,
         out_len: usize,
     ) -> Refusal;
 
     pub fn fordcask_place(
-        scale: u64,
-        zone: u64,
+        series: Series,
         card: *const u8,
         card_len: usize,
         row: i64,
         column: i64,
     ) -> Place;
     pub fn fordcask_position(
-        scale: u64,
-        zone: u64,
+        series: Series,
         card: *const u8,
         card_len: usize,
         row: i64,
         column: i64,
     ) -> Position;
     pub fn fordcask_pixel(
-        scale: u64,
-        zone: u64,
+        series: Series,
         card: *const u8,
         card_len: usize,
         lat: i64,
         lon: i64,
     ) -> Pixel;
+    pub fn fordcask_overview_pixel(
+        series: Series,
+        card: *const u8,
+        card_len: usize,
+        overview: Series,
+        overview_card: *const u8,
+        overview_card_len: usize,
+        row: i64,
+        column: i64,
+    ) -> Pixel;
 
     pub fn fordcask_index_check(
-        scale: u64,
-        zone: u64,
+        series: Series,
         card: *const u8,
         card_len: usize,
         index: *const u32,
@@ -65,8 +76,7 @@ unsafe extern "C" {
         marks_len: usize,
     ) -> Refusal;
     pub fn fordcask_tile(
-        scale: u64,
-        zone: u64,
+        series: Series,
         card: *const u8,
         card_len: usize,
         index: *const u32,
@@ -78,8 +88,7 @@ unsafe extern "C" {
         column: i64,
     ) -> Tile;
     pub fn fordcask_bands(
-        scale: u64,
-        zone: u64,
+        series: Series,
         card: *const u8,
         card_len: usize,
         index: *const u32,
@@ -91,8 +100,7 @@ unsafe extern "C" {
         column: i64,
     ) -> Bands;
     pub fn fordcask_window(
-        scale: u64,
-        zone: u64,
+        series: Series,
         card: *const u8,
         card_len: usize,
         index: *const u32,
@@ -105,8 +113,7 @@ unsafe extern "C" {
     ) -> Window;
 
     pub fn fordcask_positions(
-        scale: u64,
-        zone: u64,
+        series: Series,
         card: *const u8,
         card_len: usize,
         pixels: *const i64,
@@ -117,8 +124,7 @@ unsafe extern "C" {
         numbers_len: usize,
     ) -> Refusal;
     pub fn fordcask_pixels(
-        scale: u64,
-        zone: u64,
+        series: Series,
         card: *const u8,
         card_len: usize,
         positions: *const i64,

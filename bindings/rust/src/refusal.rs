@@ -1,12 +1,12 @@
 use std::fmt;
 
-/// A refusal: its number, 1 to 16 of document 01 or 24 of document 02, and its place.
+/// A refusal: its number, 1 to 16 of document 01 or 17 or 24 of document 02, and its place.
 ///
 /// The place is the subfield's offset for 7 and 8, the entry of the index for 15 (the index
 /// length where a stored tile is never named), else 0.
 #[derive(Clone, Copy, Debug, PartialEq, Eq, Hash)]
 pub struct Refusal {
-    /// The number, 1 to 16 or 24.
+    /// The number, 1 to 17 or 24.
     pub number: u32,
     /// The place.
     pub at: u64,
@@ -16,7 +16,7 @@ impl Refusal {
     /// A short English text for the number.
     pub fn text(&self) -> &'static str {
         match self.number {
-            1 => "the scale is not from 5,000 to 20,000,000",
+            1 => "the scale, or scale times factor, is not from 5,000 to 20,000,000",
             2 => "the zone is not from 1 to 18",
             3 => "the zone is polar (9 or 18)",
             4 => "the latitude is outside its range",
@@ -24,7 +24,7 @@ impl Refusal {
             6 => "a card, output, index, count, marks, store or list of the wrong length",
             7 => "a byte of the subfield is of the wrong kind",
             8 => "the subfield has a wrong value",
-            9 => "ARV or BRV is not that of the scale and zone",
+            9 => "ARV or BRV is not that of the scale, factor and zone",
             10 => "the origin is not on the tile grid or outside it",
             11 => "an extent is broken",
             12 => "the pixel or window is outside the tiles",
@@ -32,6 +32,7 @@ impl Refusal {
             14 => "the tile is not stored",
             15 => "an index entry is above the count or repeated, or a stored tile is never named",
             16 => "the south edge is not below the north edge",
+            17 => "the factor is not from 1 to 64",
             24 => "at a town scale, 5,000 to 9,999, no card is written and no origin aligned",
             _ => "unknown refusal",
         }

@@ -2,16 +2,15 @@ use crate::card::{read_card, Card};
 use crate::position::{Pixel, Place, Position};
 use crate::raw;
 use crate::refusal::{answer, Refusal};
+use crate::series::Series;
 
-/// A card with its scale and zone, to which the questions on an image are put.
+/// A card with its scale, factor and zone, to which the questions on an image are put.
 ///
 /// Each question gives the refusals of [`read_card`] first, then its own.
 #[derive(Clone, Copy, Debug, PartialEq, Eq)]
 pub struct Sheet<'a> {
-    /// The scale 1:S, 5,000 to 20,000,000.
-    pub scale: u64,
-    /// The zone, 1 to 8 or 10 to 17.
-    pub zone: u64,
+    /// Scale, factor and zone; the zone is 1 to 8 or 10 to 17.
+    pub series: Series,
     /// The 98 bytes of the card.
     pub card: &'a [u8],
 }
@@ -19,7 +18,7 @@ pub struct Sheet<'a> {
 impl Sheet<'_> {
     /// The card's values.
     pub fn read(&self) -> Result<Card, Refusal> {
-        read_card(self.scale, self.zone, self.card)
+        read_card(self.series, self.card)
     }
 
     /// The zone grid place of a pixel of the tiles, padding included. Refuses 12.
@@ -27,8 +26,7 @@ impl Sheet<'_> {
         // SAFETY: the pointer and length are those of one slice, which is only read.
         let given = unsafe {
             raw::fordcask_place(
-                self.scale,
-                self.zone,
+                self.series,
                 self.card.as_ptr(),
                 self.card.len(),
                 pixel.row,
@@ -44,8 +42,7 @@ impl Sheet<'_> {
         // SAFETY: the pointer and length are those of one slice, which is only read.
         let given = unsafe {
             raw::fordcask_position(
-                self.scale,
-                self.zone,
+                self.series,
                 self.card.as_ptr(),
                 self.card.len(),
                 pixel.row,
@@ -61,12 +58,32 @@ impl Sheet<'_> {
         // SAFETY: the pointer and length are those of one slice, which is only read.
         let given = unsafe {
             raw::fordcask_pixel(
-                self.scale,
-                self.zone,
+                self.series,
                 self.card.as_ptr(),
                 self.card.len(),
                 position.lat,
                 position.lon,
+            )
+        };
+        let value = Pixel { row: given.row, column: given.column };
+        answer(given.number, given.at, value)
+    }
+
+    /// The pixel of `overview` at the position of a pixel of this sheet, the chart. Any two sheets
+    /// are answered. The refusals of [`read_card`] for the chart's card, then for the overview's;
+    /// then 12, 13 of the chart, then 12, 13 of the overview.
+    pub fn overview_pixel(&self, overview: &Sheet, pixel: Pixel) -> Result<Pixel, Refusal> {
+        // SAFETY: each pointer and length are those of one slice, which is only read.
+        let given = unsafe {
+            raw::fordcask_overview_pixel(
+                self.series,
+                self.card.as_ptr(),
+                self.card.len(),
+                overview.series,
+                overview.card.as_ptr(),
+                overview.card.len(),
+                pixel.row,
+                pixel.column,
             )
         };
         let value = Pixel { row: given.row, column: given.column };
@@ -87,8 +104,7 @@ impl Sheet<'_> {
         // i64 each, with the alignment of i64; the two slices written to are lent for writing.
         let given = unsafe {
             raw::fordcask_positions(
-                self.scale,
-                self.zone,
+                self.series,
                 self.card.as_ptr(),
                 self.card.len(),
                 pixels.as_ptr().cast::<i64>(),
@@ -116,8 +132,7 @@ impl Sheet<'_> {
         // i64 each, with the alignment of i64; the two slices written to are lent for writing.
         let given = unsafe {
             raw::fordcask_pixels(
-                self.scale,
-                self.zone,
+                self.series,
                 self.card.as_ptr(),
                 self.card.len(),
                 positions.as_ptr().cast::<i64>(),

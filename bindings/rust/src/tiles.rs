@@ -50,8 +50,7 @@ impl Sheet<'_> {
         // SAFETY: each pointer and length are those of one slice; marks are lent for writing.
         let given = unsafe {
             raw::fordcask_index_check(
-                self.scale,
-                self.zone,
+                self.series,
                 self.card.as_ptr(),
                 self.card.len(),
                 tiles.index.as_ptr(),
@@ -85,8 +84,7 @@ impl Sheet<'_> {
         // SAFETY: each pointer and length are those of one slice, which is only read.
         let given = unsafe {
             raw::fordcask_tile(
-                self.scale,
-                self.zone,
+                self.series,
                 self.card.as_ptr(),
                 self.card.len(),
                 tiles.index.as_ptr(),
@@ -106,8 +104,7 @@ impl Sheet<'_> {
         // SAFETY: each pointer and length are those of one slice, which is only read.
         let given = unsafe {
             raw::fordcask_bands(
-                self.scale,
-                self.zone,
+                self.series,
                 self.card.as_ptr(),
                 self.card.len(),
                 tiles.index.as_ptr(),
@@ -130,8 +127,7 @@ impl Sheet<'_> {
         // SAFETY: each pointer and length are those of one slice, which is only read.
         let given = unsafe {
             raw::fordcask_window(
-                self.scale,
-                self.zone,
+                self.series,
                 self.card.as_ptr(),
                 self.card.len(),
                 tiles.index.as_ptr(),

@@ -1,5 +1,6 @@
 use crate::raw;
 use crate::refusal::{answer, Refusal};
+use crate::series::Series;
 
 /// The pixel spacing constants A (along a parallel) and B (along a meridian): pixels in the circle.
 #[derive(Clone, Copy, Debug, PartialEq, Eq)]
@@ -43,9 +44,9 @@ impl<const N: usize> Zones<N> {
     }
 }
 
-/// A and B at scale 1:`scale` in a zone, 1 to 18. Refuses 1, 2.
-pub fn spacing(scale: u64, zone: u64) -> Result<Spacing, Refusal> {
-    let given = raw::fordcask_spacing(scale, zone);
+/// A and B of a zone, 1 to 18, at scale 1:(S × k). Refuses 1, 17, 1, 2.
+pub fn spacing(series: Series) -> Result<Spacing, Refusal> {
+    let given = raw::fordcask_spacing(series);
     let value = Spacing { a: given.a, b: given.b };
     answer(given.number, given.at, value)
 }
@@ -56,24 +57,24 @@ pub fn basic_zone(lat: i64) -> Result<u64, Refusal> {
     answer(given.number, given.at, given.zone)
 }
 
-/// The zones covering a latitude at scale 1:`scale`. Refuses 1, 4.
-pub fn cover(scale: u64, lat: i64) -> Result<Cover, Refusal> {
-    let given = raw::fordcask_cover(scale, lat);
+/// The zones covering a latitude at scale 1:(S × k). Refuses 1, 17, 1, 4.
+pub fn cover(scale: u64, factor: u64, lat: i64) -> Result<Cover, Refusal> {
+    let given = raw::fordcask_cover(scale, factor, lat);
     let value = Zones { zones: given.zones, length: given.length as usize };
     answer(given.number, given.at, value)
 }
 
 /// The zones that share a stretch of latitude of more than zero height with `south` to `north`, a
-/// zone's overlap belonging to it; in ascending number. Refuses 1, 4, 16.
-pub fn rectangle(scale: u64, south: i64, north: i64) -> Result<Rectangle, Refusal> {
-    let given = raw::fordcask_rectangle(scale, south, north);
+/// zone's overlap belonging to it, at scale 1:(S × k); in ascending number. Refuses 1, 17, 1, 4, 16.
+pub fn rectangle(scale: u64, factor: u64, south: i64, north: i64) -> Result<Rectangle, Refusal> {
+    let given = raw::fordcask_rectangle(scale, factor, south, north);
     let value = Zones { zones: given.zones, length: given.length as usize };
     answer(given.number, given.at, value)
 }
 
-/// The origin of a card with this upper left point, in hundredths. Refuses 1, 24, 2, 3, 4, 5.
-pub fn align(scale: u64, zone: u64, lat: i64, lon: i64) -> Result<Origin, Refusal> {
-    let given = raw::fordcask_align(scale, zone, lat, lon);
+/// The origin of a card with this upper left point, in hundredths. Refuses 1, 24, 17, 1, 2, 3, 4, 5.
+pub fn align(series: Series, lat: i64, lon: i64) -> Result<Origin, Refusal> {
+    let given = raw::fordcask_align(series, lat, lon);
     let value = Origin { n: given.n, m: given.m, pso: given.pso, lso: given.lso };
     answer(given.number, given.at, value)
 }

@@ -7,11 +7,14 @@ use Prim.Native.Nat.{ℕ, _≤_}
 use native.Mathlib.Omega.{arith}
 use borrow.Author.Tests.{leb-true}
 use lib.Dec.{leb}
+use Rattle.arc.specs.declared.Series.{Series}
+use Rattle.arc.specs.declared.ScaleAnswer.{ScaleAnswer}
 use Rattle.arc.specs.declared.ConstantAnswer.{ConstantAnswer}
 use Rattle.arc.specs.declared.SpacingAnswer.{SpacingAnswer}
-use Rattle.arc.specs.Refusals.{refusal}
 use Rattle.arc.specs.Zones.{Row, table, hasZone, rowIn, tableRow}
-use Rattle.arc.specs.Spacing.{isScale, spacingAt, rowUnit, columnsIn, rowsOf, onConstant, spacingOf, SpacingUnit, GridsIs}
+use Rattle.arc.specs.Scales.{overviewScale, onScale, OverviewOf}
+use Rattle.arc.specs.Spacing.{spacingAt, rowUnit, columnsIn, rowsFor, rowsOf, onConstant, spacingOf, SpacingUnit, GridsIs}
+use Rattle.arc.proofs.Scales.{scale-is}
 use Rattle.arc.proofs.Spaced.{grid}
 
 -- the units of a table are in range
@@ -35,40 +38,42 @@ unit-in (r ∷ rs) zone e =
     go true false t f g p k = let z : _≡_ {A = ℕ} 0 1 = cc in absurd (omega arith)
     go false y t f g p k = let z : _≡_ {A = ℕ} 0 1 = cc in absurd (omega arith)
 
--- an answer that is no refusal comes from a good scale and a row
-pub record From (s zone a b : ℕ) : Type 0 where
-  pub scale : isScale s ≡ true
+-- an answer that is no refusal comes from a scale, a factor and a row
+pub record From (series : Series) (a b : ℕ) : Type 0 where
+  pub t : ℕ
+  pub of : OverviewOf (series .scale) (series .factor) t
   pub of-row : Row
-  pub is-row : tableRow zone ≡ some of-row
-  pub is-a : a ≡ spacingAt (of-row .unit) s
-  pub is-b : b ≡ spacingAt rowUnit s
+  pub is-row : tableRow (series .zone) ≡ some of-row
+  pub is-a : a ≡ spacingAt (of-row .unit) t
+  pub is-b : b ≡ spacingAt rowUnit t
 
-pub answered-from : (s zone a b : ℕ) → spacingOf s zone ≡ SpacingAnswer.Constants a b → From s zone a b
-answered-from s zone a b e = go (isScale s) (tableRow zone) refl refl e
+pub answered-from : (series : Series) (a b : ℕ) → spacingOf series ≡ SpacingAnswer.Constants a b → From series a b
+answered-from series a b e = go (overviewScale (series .scale) (series .factor)) (tableRow (series .zone)) refl refl e
   where
-    go : (t : Bool) (o : Option Row) → isScale s ≡ t → tableRow zone ≡ o
-        → onConstant (cond t (ConstantAnswer.Pixels (spacingAt rowUnit s)) (ConstantAnswer.Refused (refusal 1))) SpacingAnswer.Refused (λ y.
-        onConstant (columnsIn s o) SpacingAnswer.Refused (λ x. SpacingAnswer.Constants x y)) ≡ SpacingAnswer.Constants a b
-        → From s zone a b
-    go true (some r) p q k = record { scale = p; of-row = r; is-row = q; is-a = cc; is-b = cc }
-    go true none p q k = let z : _≡_ {A = ℕ} 0 1 = cc in absurd (omega arith)
-    go false o p q k = let z : _≡_ {A = ℕ} 0 1 = cc in absurd (omega arith)
+    go : (x : ScaleAnswer) (o : Option Row) → overviewScale (series .scale) (series .factor) ≡ x → tableRow (series .zone) ≡ o
+        → onScale x SpacingAnswer.Refused (λ t.
+        onConstant (columnsIn t o) SpacingAnswer.Refused (λ y. SpacingAnswer.Constants y (spacingAt rowUnit t))) ≡ SpacingAnswer.Constants a b
+        → From series a b
+    go (ScaleAnswer.Scale t) (some r) p q k =
+        record { t = t; of = scale-is (series .scale) (series .factor) t p; of-row = r; is-row = q; is-a = cc; is-b = cc }
+    go (ScaleAnswer.Scale t) none p q k = let z : _≡_ {A = ℕ} 0 1 = cc in absurd (omega arith)
+    go (ScaleAnswer.Refused r) o p q k = let z : _≡_ {A = ℕ} 0 1 = cc in absurd (omega arith)
 
 pub answered-grids : GridsIs
-answered-grids s zone a b e =
-    let f = answered-from s zone a b e in
-    let u : UnitOf (some (f .of-row)) = rw (f .is-row) at (unit-in table zone refl) in
+answered-grids series a b e =
+    let f = answered-from series a b e in
+    let u : UnitOf (some (f .of-row)) = rw (f .is-row) at (unit-in table (series .zone) refl) in
     record {
-      columns = rw (f .is-a) (grid (f .of-row .unit) s (f .scale) u);
-      rows = rw (f .is-b) (grid rowUnit s (f .scale) (record { least = omega arith; most = omega arith }));
+      columns = rw (f .is-a) (grid (f .of-row .unit) (f .t) (f .of .served) u);
+      rows = rw (f .is-b) (grid rowUnit (f .t) (f .of .served) (record { least = omega arith; most = omega arith }));
     }
 
 -- B alone
-pub rows-from : (s b : ℕ) → rowsOf s ≡ ConstantAnswer.Pixels b → (isScale s ≡ true) × (b ≡ spacingAt rowUnit s)
-rows-from s b e = go (isScale s) refl e
+pub rows-from : (s factor b : ℕ) → rowsOf s factor ≡ ConstantAnswer.Pixels b → (t : ℕ) × OverviewOf s factor t × (b ≡ spacingAt rowUnit t)
+rows-from s factor b e = go (overviewScale s factor) refl e
   where
-    go : (t : Bool) → isScale s ≡ t
-        → cond t (ConstantAnswer.Pixels (spacingAt rowUnit s)) (ConstantAnswer.Refused (refusal 1)) ≡ ConstantAnswer.Pixels b
-        → (isScale s ≡ true) × (b ≡ spacingAt rowUnit s)
-    go true p k = (p, cc)
-    go false p k = let z : _≡_ {A = ℕ} 0 1 = cc in absurd (omega arith)
+    go : (x : ScaleAnswer) → overviewScale s factor ≡ x
+        → rowsFor x ≡ ConstantAnswer.Pixels b
+        → (t : ℕ) × OverviewOf s factor t × (b ≡ spacingAt rowUnit t)
+    go (ScaleAnswer.Scale t) p f = (t, scale-is s factor t p, cc)
+    go (ScaleAnswer.Refused r) p f = let z : _≡_ {A = ℕ} 0 1 = cc in absurd (omega arith)

@@ -1,3 +1,4 @@
+pub mod Scales
 pub mod Spaced
 pub mod Table
 pub mod AsPrinted

@@ -1,23 +1,16 @@
 -- Laws of the spacing constants (001, 3.4.6), for every unit and every scale: the smallest whole number not below n / s is q
 -- with n ≤ q s < n + s. Assumes nothing.
 use mathlib.Core.Path.{_≡_, ap, _∙_}
-use mathlib.Core.Bool.{true, and-eq-true-iff}
+use mathlib.Core.Bool.{true}
 use Prim.Native.Nat.{ℕ, _+_, _-_, _*_, _/_, _≤_, _<_}
 use native.Mathlib.Nat.{div-add-mod', mod-lt, mul-assoc, lt-of-mul-lt-mul-right, add-mul, mul-le-mul-left, zero-mul, div-zero, add-div-right}
 use native.Mathlib.Omega.{arith}
-use borrow.Author.Tests.{leb-true}
-use lib.Dec.{leb}
 use lib.IntN.{pos, natAbs}
 use Rattle.whole.specs.Whole.{floorDiv, ceilDiv}
 use Rattle.whole.proofs.Signed.{Is, is-nat, is-same, is-ceil, is-size}
-use Rattle.arc.specs.Spacing.{isScale, spacingAt, SpacingUnit, Spaced, Grid, SpacingIs, SpacingFalls, RowsAtLeast}
-
--- the test's two ends
-pub scale-least : (s : ℕ) → isScale s ≡ true → 5000 ≤ s
-scale-least s g = leb-true 5000 s (and-eq-true-iff (leb 5000 s) (leb s 20000000) .0 g .0)
-
-pub scale-most : (s : ℕ) → isScale s ≡ true → s ≤ 20000000
-scale-most s g = leb-true s 20000000 (and-eq-true-iff (leb 5000 s) (leb s 20000000) .0 g .1)
+use Rattle.arc.specs.Scales.{isScale}
+use Rattle.arc.specs.Spacing.{spacingAt, SpacingUnit, Spaced, Grid, SpacingIs, SpacingFalls, RowsAtLeast}
+use Rattle.arc.proofs.Scales.{scale-least, scale-most}
 
 -- the constant as a quotient of naturals
 pub divides : (u s : ℕ) → 0 < s → spacingAt u s ≡ 512 * ((u * 1000000 + (s - 1)) / s)

@@ -1,32 +1,31 @@
--- Pixel spacing constants at scale 1:S (001, 3.4.6; 01, "Units and the zone table"). Definitions, and what they are held to.
+-- Pixel spacing constants (001, 3.4.6; 01, "Units and the zone table"), read from S × k (02, E4). Definitions, and what they are held to.
 --     001 | here
 --     Asz | a        pixels round a parallel, 360° of longitude
 --     Bs  | b        pixels round a meridian, 360° of latitude
 --     S   | scale
---     isScale S          5,000 to 20,000,000
 --     spacingAt u S      A or B at 1:S, where A / 512 or B / 512 at 1:1,000,000 is u
 --     columnsOf S zone   what is answered for A, the scale being good: refusal 2
---     rowsOf S           what `b_constant` answers: refusal 1
+--     rowsFor x, spacingFor x zone   B, and A and B, where x is what is answered of the scale
+--     rowsOf S factor    what `b_constant` answers: refusals 1, 17, 1
 --     onConstant a f g   f of the refusal, else g of the constant
---     spacingOf S zone   what `spacing` answers: refusals 1, 2
+--     spacingOf series   what `spacing` answers: refusals 1, 17, 1, 2
 use mathlib.Core.Path.{_≡_}
-use mathlib.Core.Bool.{Bool, true, cond, _&&_}
+use mathlib.Core.Bool.{true}
 use mathlib.Core.List.{[], _∷_}
 use mathlib.Core.Option.{Option, some, none}
 use Prim.Native.Nat.{ℕ, _+_, _*_, _/_, _≤_, _<_}
-use lib.Dec.{leb}
 use lib.IntN.{pos, natAbs}
 use Rattle.whole.specs.Whole.{ceilDiv}
 use Rattle.arc.specs.declared.Refusal.{Refusal}
+use Rattle.arc.specs.declared.Series.{Series}
+use Rattle.arc.specs.declared.ScaleAnswer.{ScaleAnswer}
 use Rattle.arc.specs.declared.ConstantAnswer.{ConstantAnswer}
 use Rattle.arc.specs.declared.SpacingAnswer.{SpacingAnswer}
 use Rattle.arc.specs.declared.parts.ConstantParts.{ConstantParts}
 use Rattle.arc.specs.declared.parts.SpacingParts.{SpacingParts}
 use Rattle.arc.specs.Refusals.{refusal, Report, answered, refusedWith}
 use Rattle.arc.specs.Zones.{circle, Row, tableRow}
-
-abbrev pub isScale : ℕ → Bool
-isScale s = leb 5000 s && leb s 20000000
+use Rattle.arc.specs.Scales.{isScale, overviewScale, onScale}
 
 -- 512 times the smallest whole number not below u × 1,000,000 / S
 unfoldable pub spacingAt : ℕ → ℕ → ℕ
@@ -43,19 +42,28 @@ columnsIn s none = ConstantAnswer.Refused (refusal 2)
 abbrev pub columnsOf : ℕ → ℕ → ConstantAnswer
 columnsOf s zone = columnsIn s (tableRow zone)
 
-abbrev pub rowsOf : ℕ → ConstantAnswer
-rowsOf s = cond (isScale s) (ConstantAnswer.Pixels (spacingAt rowUnit s)) (ConstantAnswer.Refused (refusal 1))
+-- the scale's refusals, else B
+abbrev pub rowsFor : ScaleAnswer → ConstantAnswer
+rowsFor x = onScale x ConstantAnswer.Refused (λ t. ConstantAnswer.Pixels (spacingAt rowUnit t))
+
+-- 1, 17, 1
+abbrev pub rowsOf : ℕ → ℕ → ConstantAnswer
+rowsOf s factor = rowsFor (overviewScale s factor)
 
 -- what was refused before comes first
 abbrev pub onConstant : {A : Type 0} → ConstantAnswer → (Refusal → A) → (ℕ → A) → A
 onConstant (ConstantAnswer.Pixels n) f g = g n
 onConstant (ConstantAnswer.Refused r) f g = f r
 
--- 1, 2
-abbrev pub spacingOf : ℕ → ℕ → SpacingAnswer
-spacingOf s zone =
-    onConstant (rowsOf s) SpacingAnswer.Refused (λ b.
-    onConstant (columnsOf s zone) SpacingAnswer.Refused (λ a. SpacingAnswer.Constants a b))
+-- the scale's refusals, then 2
+abbrev pub spacingFor : ScaleAnswer → ℕ → SpacingAnswer
+spacingFor x zone =
+    onScale x SpacingAnswer.Refused (λ t.
+    onConstant (columnsOf t zone) SpacingAnswer.Refused (λ a. SpacingAnswer.Constants a (spacingAt rowUnit t)))
+
+-- 1, 17, 1, 2: the spacing is that of scale 1:(S × k)
+abbrev pub spacingOf : Series → SpacingAnswer
+spacingOf series = spacingFor (overviewScale (series .scale) (series .factor)) (series .zone)
 
 -- ---- the paper's number, place and values: of an answer, and as `into_parts` tells them
 
@@ -99,7 +107,7 @@ pub record Grids (a b : ℕ) : Type 0 where
   pub rows : Grid b
 
 abbrev pub GridsIs : Type 0
-GridsIs = (s zone a b : ℕ) → spacingOf s zone ≡ SpacingAnswer.Constants a b → Grids a b
+GridsIs = (series : Series) (a b : ℕ) → spacingOf series ≡ SpacingAnswer.Constants a b → Grids a b
 
 abbrev pub SpacingIs : Type 0
 SpacingIs = (u s : ℕ) → SpacingUnit u → isScale s ≡ true → Spaced u s (spacingAt u s)

@@ -1,6 +1,7 @@
 // The ARC system's zones and pixel spacing (001, Table 3-1, 3.4.6).
 ghost use mathlib.Core.Path.{_≡_};
 ghost use Rattle.arc.specs.Refusals.{refusal};
+ghost use Rattle.arc.specs.Scales.{overviewScale};
 ghost use Rattle.arc.specs.Spacing.{rowsOf, spacingOf};
 ghost use Rattle.arc.specs.TownScales.{spacingForWriting};
 
@@ -39,9 +40,23 @@ pub struct Refusal {
     pub at: u64,
 }
 
+// What the caller states beside a card: the scale 1:S, the factor of an overview, 1 for a chart, and the zone (02, E4).
+#[repr(C)]
+pub struct Series {
+    pub scale: u64,
+    pub factor: u64,
+    pub zone: u64,
+}
+
 // An answer with no value, or whose value holds an array and so stands beside it.
 pub enum Verdict {
     Accepted,
+    Refused(Refusal),
+}
+
+// The scale that a spacing is read from.
+enum ScaleAnswer {
+    Scale(u64),
     Refused(Refusal),
 }
 
@@ -64,35 +79,57 @@ pub fn refused(number: u32) -> Refusal
     Refusal { number, at: 0 }
 }
 
-// B at scale 1:S. Refuses 1.
-pub fn b_constant(scale: u64) -> ConstantAnswer
-    ensures { λ r. ⌜ r ≡ rowsOf scale ⌝ }
+// S × k, the scale that the spacing is read from. Refuses 1, 17, 1; scale and factor are tested before they are multiplied (02, E4).
+fn overview_scale(scale: u64, factor: u64) -> ScaleAnswer
+    ensures { λ r. ⌜ r ≡ overviewScale scale factor ⌝ }
 {
     if !is_scale(scale) {
-        return ConstantAnswer::Refused(refused(1));
+        return ScaleAnswer::Refused(refused(1));
     }
-    ConstantAnswer::Pixels(zone::rows(scale))
+    if !units::is_factor(factor) {
+        return ScaleAnswer::Refused(refused(17));
+    }
+    let product = scale * factor;
+    if Scales::MOST < product {
+        ScaleAnswer::Refused(refused(1))
+    } else {
+        ScaleAnswer::Scale(product)
+    }
 }
 
-// A and B at scale 1:S in a zone. Refuses 1, 2.
-pub fn spacing(scale: u64, zone: u64) -> SpacingAnswer
-    ensures { λ r. ⌜ r ≡ spacingOf scale zone ⌝ }
+// B at a scale and a factor. Refuses 1, 17, 1.
+pub fn b_constant(scale: u64, factor: u64) -> ConstantAnswer
+    ensures { λ r. ⌜ r ≡ rowsOf scale factor ⌝ }
 {
-    match b_constant(scale) {
-        ConstantAnswer::Pixels(b) => match zone::columns(scale, zone) {
-            ConstantAnswer::Pixels(a) => SpacingAnswer::Constants { a, b },
+    match overview_scale(scale, factor) {
+        ScaleAnswer::Scale(product) => ConstantAnswer::Pixels(zone::rows(product)),
+        ScaleAnswer::Refused(r) => ConstantAnswer::Refused(r),
+    }
+}
+
+// A and B. Refuses 1, 17, 1, 2.
+pub fn spacing(series: Series) -> SpacingAnswer
+    ensures { λ r. ⌜ r ≡ spacingOf series ⌝ }
+{
+    match overview_scale(series.scale, series.factor) {
+        ScaleAnswer::Scale(product) => match zone::columns(product, series.zone) {
+            ConstantAnswer::Pixels(a) => SpacingAnswer::Constants {
+                a,
+                b: zone::rows(product),
+            },
             ConstantAnswer::Refused(r) => SpacingAnswer::Refused(r),
         },
-        ConstantAnswer::Refused(r) => SpacingAnswer::Refused(r),
+        ScaleAnswer::Refused(r) => SpacingAnswer::Refused(r),
     }
 }
 
-// A and B for a card to be written, and for an origin to be aligned. Refuses 1, 24, 2 (02, E13): 24 is tested first, since no town scale is refused with 1.
-pub fn spacing_for_writing(scale: u64, zone: u64) -> SpacingAnswer
-    ensures { λ r. ⌜ r ≡ spacingForWriting scale zone ⌝ }
+// A and B for a card to be written, and for an origin to be aligned. Refuses 1, 24, 17, 1, 2 (02, E13, E4): 24 is tested first, since no town scale is
+// refused with 1 before it.
+pub fn spacing_for_writing(series: Series) -> SpacingAnswer
+    ensures { λ r. ⌜ r ≡ spacingForWriting series ⌝ }
 {
-    if units::is_town_scale(scale) {
+    if units::is_town_scale(series.scale) {
         return SpacingAnswer::Refused(refused(24));
     }
-    spacing(scale, zone)
+    spacing(series)
 }

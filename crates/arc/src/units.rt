@@ -1,6 +1,6 @@
 // Constants of the whole system.
 ghost use mathlib.Core.Path.{_≡_};
-ghost use Rattle.arc.specs.Spacing.{isScale};
+ghost use Rattle.arc.specs.Scales.{isScale, isFactor};
 ghost use Rattle.arc.specs.TownScales.{isTownScale};
 ghost use Rattle.arc.specs.Zones.{isPolar};
 
@@ -53,11 +53,25 @@ impl Scales {
     pub const MOST: u64 = 20_000_000;
 }
 
+// The factors of an overview: 1 to MOST (02, E4).
+pub struct Factors;
+
+impl Factors {
+    pub const MOST: u64 = 64;
+}
+
 // 5,000 to 20,000,000.
 pub fn is_scale(scale: u64) -> bool
     ensures { λ r. ⌜ r ≡ isScale scale ⌝ }
 {
     (Scales::LEAST <= scale) & (scale <= Scales::MOST)
+}
+
+// 1 to 64 (02, E4).
+pub fn is_factor(factor: u64) -> bool
+    ensures { λ r. ⌜ r ≡ isFactor factor ⌝ }
+{
+    (1 <= factor) & (factor <= Factors::MOST)
 }
 
 // 5,000 to 9,999 (02, E13).

@@ -1,5 +1,7 @@
 // Words that are taken into a buffer: bytes, a card.
+use crate::series;
 use crate::word;
+use arc::Series;
 ghost use mathlib.Core.Path.{_≡_};
 ghost use Prim.Native.Nat.{_≤_};
 ghost use Rattle.ask.specs.Steps.{Fills};
@@ -10,10 +12,9 @@ pub struct Filled {
     pub next: usize,
 }
 
-// Scale, zone and the length of a card, and where the next word starts.
+// Scale, factor and zone, and the length of a card, and where the next word starts.
 pub struct CardWords {
-    pub scale: u64,
-    pub zone: u64,
+    pub series: Series,
     pub length: usize,
     pub next: usize,
 }
@@ -120,16 +121,15 @@ pub fn bytes(line: &[u8], at: usize, out: &mut [u8]) -> Filled
     }
 }
 
-// Scale, zone and a card, three words.
+// Scale, factor, zone and a card, four words.
 pub fn card(line: &[u8], at: usize, out: &mut [u8]) -> CardWords
     ensures { λ r. ⌜ Fills (r .length) (now (out .exit)) ⌝ }
 {
-    let scale = word::natural(line, at);
-    let zone = word::natural(line, scale.next);
-    let filled = bytes(line, zone.next, out);
+    let w = series::series(line, at);
+    let filled = bytes(line, w.next, out);
+    let series = w.series;
     CardWords {
-        scale: scale.value,
-        zone: zone.value,
+        series,
         length: filled.length,
         next: filled.next,
     }

@@ -1,57 +1,62 @@
 // Questions on a card (01, "The image card, 98 bytes", "Origins and the zone grid").
 use crate::buffer;
 use crate::lent;
+use crate::overview;
 use crate::print;
 use crate::word;
 use arc::Refusal;
+use arc::Series;
 use arc::Verdict;
 
 // Whether the line is one of these questions, well formed; then it is answered.
 pub fn asked(name: &[u8], line: &[u8], at: usize) -> bool {
+    if check::same(name, b"overview_pixel") {
+        return overview::asked(line, at);
+    }
     let mut bytes = lent::bytes();
     let k = buffer::card(line, at, &mut bytes);
     let n = k.length;
     if word::ended(k.next) {
-        return on_card(name, k.scale, k.zone, &bytes[..n]);
+        return on_card(name, k.series, &bytes[..n]);
     }
     let x = word::signed(line, k.next);
     let y = word::signed(line, x.next);
     if word::ended(y.next) {
-        return on_pair(name, k.scale, k.zone, &bytes[..n], x.value, y.value);
+        return on_pair(name, k.series, &bytes[..n], x.value, y.value);
     }
     false
 }
 
-fn on_card(name: &[u8], scale: u64, zone: u64, card: &[u8]) -> bool {
+fn on_card(name: &[u8], series: Series, card: &[u8]) -> bool {
     if check::same(name, b"read_card") {
-        read_card(scale, zone, card);
+        read_card(series, card);
         return true;
     }
     if check::same(name, b"extents") {
-        extents(scale, zone, card);
+        extents(series, card);
         return true;
     }
     false
 }
 
-fn on_pair(name: &[u8], scale: u64, zone: u64, card: &[u8], x: i64, y: i64) -> bool {
+fn on_pair(name: &[u8], series: Series, card: &[u8], x: i64, y: i64) -> bool {
     if check::same(name, b"place") {
-        let r = fordcask::fordcask_place(scale, zone, card, x, y);
+        let r = fordcask::fordcask_place(series, card, x, y);
         print::pair(r.number, r.at, r.row, r.column);
         return true;
     }
     if check::same(name, b"position") {
-        let r = fordcask::fordcask_position(scale, zone, card, x, y);
+        let r = fordcask::fordcask_position(series, card, x, y);
         print::pair(r.number, r.at, r.lat, r.lon);
         return true;
     }
     if check::same(name, b"pixel") {
-        let r = fordcask::fordcask_pixel(scale, zone, card, x, y);
+        let r = fordcask::fordcask_pixel(series, card, x, y);
         print::pair(r.number, r.at, r.row, r.column);
         return true;
     }
     if check::same(name, b"judge_pixel") {
-        let r = judged(scale, zone, card, x, y);
+        let r = judged(series, card, x, y);
         print::refusal(r.number, r.at);
         print::end_line();
         return true;
@@ -59,8 +64,8 @@ fn on_pair(name: &[u8], scale: u64, zone: u64, card: &[u8], x: i64, y: i64) -> b
     false
 }
 
-fn read_card(scale: u64, zone: u64, card: &[u8]) {
-    let k = fordcask::fordcask_read_card(scale, zone, card);
+fn read_card(series: Series, card: &[u8]) {
+    let k = fordcask::fordcask_read_card(series, card);
     let bad = k.bad;
     print::refusal(k.number, k.at);
     print::naturals(&[k.a, k.b]);
@@ -72,8 +77,8 @@ fn read_card(scale: u64, zone: u64, card: &[u8]) {
     print::end_line();
 }
 
-fn extents(scale: u64, zone: u64, card: &[u8]) {
-    let reading = card_text::read_card(scale, zone, card);
+fn extents(series: Series, card: &[u8]) {
+    let reading = card_text::read_card(series, card);
     let verdict = reading.verdict;
     let k = reading.card;
     let r = verdict.refusal();
@@ -82,8 +87,8 @@ fn extents(scale: u64, zone: u64, card: &[u8]) {
 }
 
 // What a pixel is refused with, after reading's own refusals.
-fn judged(scale: u64, zone: u64, card: &[u8], row: i64, column: i64) -> Refusal {
-    let reading = card_text::read_card(scale, zone, card);
+fn judged(series: Series, card: &[u8], row: i64, column: i64) -> Refusal {
+    let reading = card_text::read_card(series, card);
     let verdict = reading.verdict;
     let k = reading.card;
     match verdict {

@@ -5,11 +5,11 @@ use crate::list;
 use crate::look_up;
 use crate::print;
 use crate::word;
+use arc::Series;
 
-// The scale and the zone of a card, and the count of its stored tiles.
+// What is stated beside a card: scale, factor and zone, and the count of its stored tiles.
 pub struct Stated {
-    pub scale: u64,
-    pub zone: u64,
+    pub series: Series,
     pub count: u64,
 }
 
@@ -25,9 +25,9 @@ pub fn asked(name: &[u8], line: &[u8], at: usize, store: &[u8]) -> bool {
     let count = word::natural(line, filled.next);
     let n = k.length;
     let i = filled.length;
+    let series = k.series;
     let s = Stated {
-        scale: k.scale,
-        zone: k.zone,
+        series,
         count: count.value,
     };
     if check::same(name, b"index_check") {
@@ -41,7 +41,7 @@ pub fn asked(name: &[u8], line: &[u8], at: usize, store: &[u8]) -> bool {
 
 // Marks that are lent, and what they then hold.
 fn checked(s: Stated, card: &[u8], index: &[u32], marks: &mut [u8]) {
-    let r = fordcask::fordcask_index_check(s.scale, s.zone, card, index, s.count, marks);
+    let r = fordcask::fordcask_index_check(s.series, card, index, s.count, marks);
     print::refusal(r.number, r.at);
     print::bytes(marks);
     print::end_line();
@@ -70,8 +70,7 @@ fn window(line: &[u8], at: usize, s: Stated, card: &[u8], index: &[u32]) -> bool
         return false;
     }
     let r = fordcask::fordcask_window(
-        s.scale,
-        s.zone,
+        s.series,
         card,
         index,
         s.count,

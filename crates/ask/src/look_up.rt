@@ -56,7 +56,7 @@ fn number_of(
     row: i64,
     column: i64,
 ) -> NumberAnswer {
-    let reading = card_text::read_card(s.scale, s.zone, card);
+    let reading = card_text::read_card(s.series, card);
     let verdict = reading.verdict;
     let k = reading.card;
     match verdict {
@@ -79,7 +79,7 @@ fn part<'a>(
     row: i64,
     column: i64,
 ) -> &'a [u8] {
-    let reading = card_text::read_card(s.scale, s.zone, card);
+    let reading = card_text::read_card(s.series, card);
     let verdict = reading.verdict;
     let k = reading.card;
     match verdict {
@@ -89,7 +89,7 @@ fn part<'a>(
 }
 
 fn tile(s: Stated, card: &[u8], index: &[u32], store: &[u8], row: i64, column: i64) {
-    let r = fordcask::fordcask_tile(s.scale, s.zone, card, index, s.count, store, row, column);
+    let r = fordcask::fordcask_tile(s.series, card, index, s.count, store, row, column);
     print::refusal(r.number, r.at);
     print::naturals(&[r.stored, r.offset, r.length]);
     print::ends(part(s, card, index, store, row, column));
@@ -97,7 +97,7 @@ fn tile(s: Stated, card: &[u8], index: &[u32], store: &[u8], row: i64, column: i
 }
 
 fn bands(s: Stated, card: &[u8], index: &[u32], store: &[u8], row: i64, column: i64) {
-    let r = fordcask::fordcask_bands(s.scale, s.zone, card, index, s.count, store, row, column);
+    let r = fordcask::fordcask_bands(s.series, card, index, s.count, store, row, column);
     print::answer(
         r.number,
         r.at,

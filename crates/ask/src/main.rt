@@ -12,10 +12,12 @@ mod indexes;
 mod lent;
 mod list;
 mod look_up;
+mod overview;
 mod pairs;
 mod plain;
 mod print;
 mod record;
+mod series;
 mod word;
 
 // A band of a tile: 128 rows of 128 (01, "Tiles").

@@ -4,6 +4,7 @@ use crate::lent;
 use crate::list;
 use crate::print;
 use crate::word;
+use arc::Series;
 
 // Whether the line is one of these questions, well formed; then it is answered.
 pub fn asked(name: &[u8], line: &[u8], at: usize) -> bool {
@@ -41,8 +42,7 @@ fn listed(positions: bool, line: &[u8], at: usize) -> bool {
     let mut told = lent::numbers();
     answer(
         positions,
-        k.scale,
-        k.zone,
+        k.series,
         &bytes[..n],
         &given[..i],
         &mut left[..v],
@@ -53,18 +53,17 @@ fn listed(positions: bool, line: &[u8], at: usize) -> bool {
 
 fn answer(
     positions: bool,
-    scale: u64,
-    zone: u64,
+    series: Series,
     card: &[u8],
     given: &[i64],
     values: &mut [i64],
     numbers: &mut [u32],
 ) {
     if positions {
-        let r = fordcask::fordcask_positions(scale, zone, card, given, values, numbers);
+        let r = fordcask::fordcask_positions(series, card, given, values, numbers);
         print::lists(r.number, r.at, values, numbers);
         return;
     }
-    let r = fordcask::fordcask_pixels(scale, zone, card, given, values, numbers);
+    let r = fordcask::fordcask_pixels(series, card, given, values, numbers);
     print::lists(r.number, r.at, values, numbers);
 }

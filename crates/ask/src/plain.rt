@@ -1,5 +1,6 @@
 // Questions on numbers alone (01, "Units and the zone table", "Origins and the zone grid").
 use crate::print;
+use crate::series;
 use crate::word;
 
 // Whether the line is one of these questions, well formed; then it is answered.
@@ -29,22 +30,22 @@ pub fn asked(name: &[u8], line: &[u8], at: usize) -> bool {
 }
 
 fn spacing(line: &[u8], at: usize) -> bool {
-    let scale = word::natural(line, at);
-    let zone = word::natural(line, scale.next);
-    if !word::ended(zone.next) {
+    let w = series::series(line, at);
+    if !word::ended(w.next) {
         return false;
     }
-    let r = fordcask::fordcask_spacing(scale.value, zone.value);
+    let r = fordcask::fordcask_spacing(w.series);
     print::answer(r.number, r.at, &[r.a, r.b]);
     true
 }
 
 fn b_constant(line: &[u8], at: usize) -> bool {
     let scale = word::natural(line, at);
-    if !word::ended(scale.next) {
+    let factor = word::natural(line, scale.next);
+    if !word::ended(factor.next) {
         return false;
     }
-    let r = arc::b_constant(scale.value).into_parts();
+    let r = arc::b_constant(scale.value, factor.value).into_parts();
     print::answer(r.number, r.at, &[r.pixels]);
     true
 }
@@ -61,11 +62,12 @@ fn basic_zone(line: &[u8], at: usize) -> bool {
 
 fn cover(line: &[u8], at: usize) -> bool {
     let scale = word::natural(line, at);
-    let lat = word::signed(line, scale.next);
+    let factor = word::natural(line, scale.next);
+    let lat = word::signed(line, factor.next);
     if !word::ended(lat.next) {
         return false;
     }
-    let r = fordcask::fordcask_cover(scale.value, lat.value);
+    let r = fordcask::fordcask_cover(scale.value, factor.value, lat.value);
     let slots = r.zones;
     print::zones(r.number, r.at, r.length, &slots);
     true
@@ -73,26 +75,26 @@ fn cover(line: &[u8], at: usize) -> bool {
 
 fn rectangle(line: &[u8], at: usize) -> bool {
     let scale = word::natural(line, at);
-    let south = word::signed(line, scale.next);
+    let factor = word::natural(line, scale.next);
+    let south = word::signed(line, factor.next);
     let north = word::signed(line, south.next);
     if !word::ended(north.next) {
         return false;
     }
-    let r = fordcask::fordcask_rectangle(scale.value, south.value, north.value);
+    let r = fordcask::fordcask_rectangle(scale.value, factor.value, south.value, north.value);
     let slots = r.zones;
     print::zones(r.number, r.at, r.length, &slots);
     true
 }
 
 fn align(line: &[u8], at: usize) -> bool {
-    let scale = word::natural(line, at);
-    let zone = word::natural(line, scale.next);
-    let lat = word::signed(line, zone.next);
+    let w = series::series(line, at);
+    let lat = word::signed(line, w.next);
     let lon = word::signed(line, lat.next);
     if !word::ended(lon.next) {
         return false;
     }
-    let r = fordcask::fordcask_align(scale.value, zone.value, lat.value, lon.value);
+    let r = fordcask::fordcask_align(w.series, lat.value, lon.value);
     print::refusal(r.number, r.at);
     print::signed(r.n);
     print::signed(r.m);

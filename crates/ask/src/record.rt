@@ -2,13 +2,14 @@
 use crate::buffer;
 use crate::lent;
 use crate::print;
+use crate::series;
 use crate::word;
+use arc::Series;
 use fordcask::RecordParts;
 
-// Scale, zone and a record, and where the next word starts.
+// Scale, factor, zone and a record, and where the next word starts.
 struct RecordWords {
-    scale: u64,
-    zone: u64,
+    series: Series,
     record: RecordParts,
     next: usize,
 }
@@ -33,9 +34,8 @@ fn name(line: &[u8], at: usize) -> NameWord {
 
 // The words of a record, in the order of the C header.
 fn record(line: &[u8], at: usize) -> RecordWords {
-    let scale = word::natural(line, at);
-    let zone = word::natural(line, scale.next);
-    let n = word::signed(line, zone.next);
+    let w = series::series(line, at);
+    let n = word::signed(line, w.next);
     let m = word::signed(line, n.next);
     let nul = word::natural(line, m.next);
     let nus = word::natural(line, nul.next);
@@ -46,9 +46,9 @@ fn record(line: &[u8], at: usize) -> RecordWords {
     let bad = name(line, nfc.next);
     let tif = word::byte(line, bad.next);
     let value = bad.value;
+    let series = w.series;
     RecordWords {
-        scale: scale.value,
-        zone: zone.value,
+        series,
         record: RecordParts {
             n: n.value,
             m: m.value,
@@ -68,7 +68,8 @@ fn record(line: &[u8], at: usize) -> RecordWords {
 // An output that is lent, and what it then holds.
 fn written(r: RecordWords, out: &mut [u8]) {
     let parts = r.record;
-    let e = fordcask::fordcask_write_card(r.scale, r.zone, parts, out);
+    let series = r.series;
+    let e = fordcask::fordcask_write_card(series, parts, out);
     print::refusal(e.number, e.at);
     print::bytes(out);
     print::end_line();

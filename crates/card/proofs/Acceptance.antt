@@ -9,6 +9,7 @@ use borrow.Author.Tests.{eqb-true, eq-eqb}
 use lib.Dec.{eqb}
 use lib.ListN.{length}
 use lib.IntN.{ℤ}
+use Rattle.arc.specs.declared.Series.{Series}
 use Rattle.arc.specs.declared.Refusal.{Refusal}
 use Rattle.arc.specs.declared.Verdict.{Verdict}
 use Rattle.arc.specs.declared.SpacingAnswer.{SpacingAnswer}
@@ -41,13 +42,13 @@ extentsIn a b n s =
     extentsHold a b n (numberIn NUL s) (numberIn NUS s) (numberIn NLL s) (numberIn NLS s) (numberIn NFL s) (numberIn NFC s)
 
 -- the bytes s are read to k, A and B being the constants, n and m the tiles found
-pub record ReadTo (scale zone : ℕ) (s : List ℕ) (k : Card) : Type 0 where
+pub record ReadTo (series : Series) (s : List ℕ) (k : Card) : Type 0 where
   pub a : ℕ
   pub b : ℕ
   pub n : ℤ
   pub m : ℤ
-  pub spacing : spacingOf scale zone ≡ SpacingAnswer.Constants a b
-  pub not-polar : isPolar zone ≡ false
+  pub spacing : spacingOf series ≡ SpacingAnswer.Constants a b
+  pub not-polar : isPolar (series .zone) ≡ false
   pub long : length s ≡ 98
   pub judged : walk layout s ≡ Verdict.Accepted
   pub arv : numberIn ARV s ≡ a
@@ -55,7 +56,7 @@ pub record ReadTo (scale zone : ℕ) (s : List ℕ) (k : Card) : Type 0 where
   pub n-stored : Stores b (b / 512) (angleOf 2 (bytesOf PSO s)) n
   pub m-stored : Stores a (a / 256) (angleOf 3 (bytesOf LSO s)) m
   pub extents : extentsIn a b n s ≡ true
-  pub card : cardOf scale zone a b n m s ≡ k
+  pub card : cardOf series a b n m s ≡ k
 
 -- a refusal accepts no card
 never : {A : Type 0} (r : Refusal) (k : Card) → refusedCard r ≡ acceptedCard k → A
@@ -63,19 +64,19 @@ never r k e =
     let v : _≡_ {A = Verdict} (Verdict.Refused r) Verdict.Accepted = ap (λ (x : Reading). x .verdict) e in
     let x : _≡_ {A = ℕ} 0 1 = cc in absurd (omega arith)
 
-module _ (scale zone : ℕ) (s : List ℕ) (k : Card) where
+module _ (series : Series) (s : List ℕ) (k : Card) where
   -- by the tests in their order
-  by-origin : (a b : ℕ) → spacingOf scale zone ≡ SpacingAnswer.Constants a b → isPolar zone ≡ false → eqb (length s) 98 ≡ true
+  by-origin : (a b : ℕ) → spacingOf series ≡ SpacingAnswer.Constants a b → isPolar (series .zone) ≡ false → eqb (length s) 98 ≡ true
       → walk layout s ≡ Verdict.Accepted → constantsIn a b s ≡ true
       → (n m : Option ℤ) → rowTile b s ≡ n → columnTile a s ≡ m
-      → withOrigin scale zone a b s n m ≡ acceptedCard k → ReadTo scale zone s k
+      → withOrigin series a b s n m ≡ acceptedCard k → ReadTo series s k
   unfolding cardOf
   by-origin a b sp po wh ju co none m f g e = never (refusal 10) k e
   by-origin a b sp po wh ju co (some n) none f g e = never (refusal 10) k e
   by-origin a b sp po wh ju co (some n) (some m) f g e = go (extentsIn a b n s) refl e
     where
       go : (t : Bool) → extentsIn a b n s ≡ t
-          → cond t (acceptedCard (cardOf scale zone a b n m s)) (refusedCard (refusal 11)) ≡ acceptedCard k → ReadTo scale zone s k
+          → cond t (acceptedCard (cardOf series a b n m s)) (refusedCard (refusal 11)) ≡ acceptedCard k → ReadTo series s k
       go false t e = never (refusal 11) k e
       go true t e =
           let c = and-eq-true-iff (eqb (numberIn ARV s) a) (eqb (numberIn BRV s) b) .0 co in
@@ -96,32 +97,33 @@ module _ (scale zone : ℕ) (s : List ℕ) (k : Card) where
             card = ap (λ (x : Reading). x .card) e;
           }
 
-  by-tests : (a b : ℕ) → spacingOf scale zone ≡ SpacingAnswer.Constants a b → (p w c : Bool) (v : Verdict)
-      → isPolar zone ≡ p → eqb (length s) 98 ≡ w
+  by-tests : (a b : ℕ) → spacingOf series ≡ SpacingAnswer.Constants a b → (p w c : Bool) (v : Verdict)
+      → isPolar (series .zone) ≡ p → eqb (length s) 98 ≡ w
       → walk layout s ≡ v → constantsIn a b s ≡ c
       → cond p (refusedCard (refusal 3))
-      (cond w (onVerdict v refusedCard (cond c (withOrigin scale zone a b s (rowTile b s) (columnTile a s)) (refusedCard (refusal 9))))
+      (cond w (onVerdict v refusedCard (cond c (withOrigin series a b s (rowTile b s) (columnTile a s)) (refusedCard (refusal 9))))
       (refusedCard (refusal 6)))
       ≡ acceptedCard k
-      → ReadTo scale zone s k
+      → ReadTo series s k
   by-tests a b sp true w c v po wh ju co e = never (refusal 3) k e
   by-tests a b sp false false c v po wh ju co e = never (refusal 6) k e
   by-tests a b sp false true c (Verdict.Refused r) po wh ju co e = never r k e
   by-tests a b sp false true false Verdict.Accepted po wh ju co e = never (refusal 9) k e
   by-tests a b sp false true true Verdict.Accepted po wh ju co e = by-origin a b sp po wh ju co _ _ refl refl e
 
-  pub read-to : readOf scale zone s ≡ acceptedCard k → ReadTo scale zone s k
+  pub read-to : readOf series s ≡ acceptedCard k → ReadTo series s k
   unfolding readIn withValues
-  read-to e = go (spacingOf scale zone) refl e
+  read-to e = go (spacingOf series) refl e
     where
-      go : (x : SpacingAnswer) → spacingOf scale zone ≡ x → readIn scale zone x s ≡ acceptedCard k → ReadTo scale zone s k
+      go : (x : SpacingAnswer) → spacingOf series ≡ x → readIn series x s ≡ acceptedCard k → ReadTo series s k
       go (SpacingAnswer.Refused r) sp e = never r k e
-      go (SpacingAnswer.Constants a b) sp e = by-tests a b sp (isPolar zone) (eqb (length s) 98) (constantsIn a b s) (walk layout s) refl refl refl refl e
+      go (SpacingAnswer.Constants a b) sp e =
+          by-tests a b sp (isPolar (series .zone)) (eqb (length s) 98) (constantsIn a b s) (walk layout s) refl refl refl refl e
 
-  pub to-read : ReadTo scale zone s k → readOf scale zone s ≡ acceptedCard k
+  pub to-read : ReadTo series s k → readOf series s ≡ acceptedCard k
   unfolding readIn withValues cardOf
   to-read r =
-      let g = answered-grids scale zone (r .a) (r .b) (r .spacing) in
+      let g = answered-grids series (r .a) (r .b) (r .spacing) in
       rw (
         r .spacing,
         r .not-polar,
@@ -136,16 +138,16 @@ module _ (scale zone : ℕ) (s : List ℕ) (k : Card) where
       (ap acceptedCard (r .card))
 
 -- bytes whose tests pass one by one are an accepted card; n and m are those that store the angles
-module _ (scale zone a b : ℕ) (n m : ℤ) (s : List ℕ) where
-  pub bytes-accepted : spacingOf scale zone ≡ SpacingAnswer.Constants a b → isPolar zone ≡ false → length s ≡ 98
+module _ (series : Series) (a b : ℕ) (n m : ℤ) (s : List ℕ) where
+  pub bytes-accepted : spacingOf series ≡ SpacingAnswer.Constants a b → isPolar (series .zone) ≡ false → length s ≡ 98
       → walk layout s ≡ Verdict.Accepted → numberIn ARV s ≡ a → numberIn BRV s ≡ b
       → outside (b / 512) n ≡ false → storedAngle b n ≡ angleOf 2 (bytesOf PSO s)
       → outside (a / 256) m ≡ false → storedAngle a m ≡ angleOf 3 (bytesOf LSO s)
-      → extentsIn a b n s ≡ true → Accepted scale zone (cardOf scale zone a b n m s)
+      → extentsIn a b n s ≡ true → Accepted series (cardOf series a b n m s)
   bytes-accepted sp po lo ju ar br on ns om ms x =
       record {
         bytes = s;
-        read = to-read scale zone s (cardOf scale zone a b n m s)
+        read = to-read series s (cardOf series a b n m s)
             (record {
               a = a;
               b = b;

@@ -10,6 +10,7 @@ use lib.Dec.{leb}
 use lib.IntN.{ℤ, pos, _+ℤ_, _-ℤ_, _*ℤ_}
 use Rattle.whole.specs.Whole.{near, nearest, modulo, outside, raise}
 use Rattle.whole.proofs.Signed.{Is, is-equal, equal-is, is-raise}
+use Rattle.arc.specs.declared.Series.{Series}
 use Rattle.arc.specs.declared.Verdict.{Verdict}
 use Rattle.arc.specs.Refusals.{refusal}
 use Rattle.arc.specs.Zones.{circle, half}
@@ -120,18 +121,18 @@ turned a x s t p q e =
     ∙ ap (λ (n : ℕ). n % a) (omega arith)
     ∙ add-mul-mod-self-right (x + (a - t)) 2 a
 
-module _ (scale zone : ℕ) (j k : Card) (p : Accepted scale zone j) (q : Accepted scale zone k) where
+module _ (series : Series) (j k : Card) (p : Accepted series j) (q : Accepted series k) where
   l : Laid j
-  l = accepted-laid scale zone j p
+  l = accepted-laid series j p
 
   l′ : Laid k
-  l′ = accepted-laid scale zone k q
+  l′ = accepted-laid series k q
 
   same-a : k .a ≡ j .a
-  same-a = same-spacing scale zone j k p q .0
+  same-a = same-spacing series j k p q .0
 
   same-b : k .b ≡ j .b
-  same-b = same-spacing scale zone j k p q .1
+  same-b = same-spacing series j k p q .1
 
   -- k's columns, on j's constant
   column-place′ : (c : ℕ) → placeColumn k (pos c) ≡ pos ((k .east + c + j .a / 2) % j .a)
@@ -204,7 +205,7 @@ module _ (scale zone : ℕ) (j k : Card) (p : Accepted scale zone j) (q : Accept
     position-answers r c = go (inTiles j r c) (inChart j r c) refl refl
       where
         go : (a b : Bool) → inTiles j r c ≡ a → inChart j r c ≡ b → positionOf j r c ≡ positionOf k r c
-        go true true s t = place-alike scale zone j k p q r c t r c (sym (chart-alike r c) ∙ t) .0 (place-answers r c)
+        go true true s t = place-alike series j k p q r c t r c (sym (chart-alike r c) ∙ t) .0 (place-answers r c)
         go true false s t = rw (s, sym (tiles-alike r c) ∙ s, t, sym (chart-alike r c) ∙ t)
         go false b s t = rw (s, sym (tiles-alike r c) ∙ s)
 
@@ -230,18 +231,18 @@ corner : (k : Card) → Laid k → inTiles k (pos 0) (pos 0) ≡ true
 corner k l = rw (lt-ltb 0 (128 * k .nfl) (omega (arith, l .down-some)), lt-ltb 0 (128 * k .nfc) (omega (arith, l .across-some)))
 
 pub answer-alike : AnswerAlike
-answer-alike scale zone j k p q h =
-    answers scale zone j k p q (ap (λ (n : ℤ). pos 128 *ℤ n -ℤ pos 0) (h .same-n))
-    (ap₂ (λ (m : ℤ) (a : ℕ). modulo (pos 128 *ℤ m +ℤ pos 0) a) (h .same-m) (sym (same-spacing scale zone j k p q .0))) (h .same-extents)
+answer-alike series j k p q h =
+    answers series j k p q (ap (λ (n : ℤ). pos 128 *ℤ n -ℤ pos 0) (h .same-n))
+    (ap₂ (λ (m : ℤ) (a : ℕ). modulo (pos 128 *ℤ m +ℤ pos 0) a) (h .same-m) (sym (same-spacing series j k p q .0))) (h .same-extents)
 
 pub alike-exactly : AlikeExactly
-alike-exactly scale zone j k p q =
-    let x = accepted-laid scale zone j p in
-    let y = accepted-laid scale zone k q in (
+alike-exactly series j k p q =
+    let x = accepted-laid series j p in
+    let y = accepted-laid series k q in (
       (λ h. (h .place (pos 0) (pos 0), extents-alike j k x y h)),
       (λ h.
           let e = sym (placed j (pos 0) (pos 0) (corner j x)) ∙ h .0 ∙ placed k (pos 0) (pos 0) (corner k y) in
           let row : placeRow j (pos 0) ≡ placeRow k (pos 0) = cc in
           let column : placeColumn j (pos 0) ≡ placeColumn k (pos 0) = cc in
-          answers scale zone j k p q row column (h .1)),
+          answers series j k p q row column (h .1)),
     )

@@ -27,10 +27,14 @@ accepted-in k r c = go (inTiles k r c) (inChart k r c)
     go true false e = let y : _≡_ {A = ℕ} 0 1 = cc in absurd (omega arith)
     go false j e = let y : _≡_ {A = ℕ} 0 1 = cc in absurd (omega arith)
 
+-- a question put to a pair of numbers as the machine holds them
+pub pair-asked : {A : Type 0} (f : ℤ → ℤ → A) {u v : ℤ} → SFits w64 u → SFits w64 v → f (toZ w64 (ofZ w64 u)) (toZ w64 (ofZ w64 v)) ≡ f u v
+pair-asked f {u} {v} fu fv = ap₂ f (toZ-ofZ w64 u fu) (toZ-ofZ w64 v fv)
+
 -- ---- a pixel's verdict, asked of what the machine holds
 module _ (k : Card) (r c : ℤ) (f : SFits w64 r) (g : SFits w64 c) {v : Verdict} (e : v ≡ verdictOf k (toZ w64 (ofZ w64 r)) (toZ w64 (ofZ w64 c))) where
   plain-verdict : v ≡ verdictOf k r c
-  plain-verdict = e ∙ ap₂ (verdictOf k) (toZ-ofZ w64 r f) (toZ-ofZ w64 c g)
+  plain-verdict = e ∙ pair-asked (verdictOf k) f g
 
   -- a question that asks the same of the pixel has the same refusal
   pub judged-refused : {A : Type 0} (F : Refusal → A) (x : A) {n : Refusal} → v ≡ Verdict.Refused n → F n ≡ onVerdict (verdictOf k r c) F x
@@ -49,7 +53,7 @@ module _ (k : Card) (r c : ℤ) (f : SFits w64 r) (g : SFits w64 c) {v : Verdict
 -- a test of two numbers, likewise
 pub tested : (P : ℤ → ℤ → Bool) (r c : ℤ) → SFits w64 r → SFits w64 c → {x t : Bool}
     → x ≡ P (toZ w64 (ofZ w64 r)) (toZ w64 (ofZ w64 c)) → x ≡ t → P r c ≡ t
-tested P r c f g e h = sym (ap₂ P (toZ-ofZ w64 r f) (toZ-ofZ w64 c g)) ∙ sym e ∙ h
+tested P r c f g e h = sym (pair-asked P f g) ∙ sym e ∙ h
 
 -- a number that is a natural below n, cast to an unsigned one
 module _ (n : ℕ) (z : ℤ) (f : SFits w64 z) (i : Within 0 n z) where

@@ -1,6 +1,6 @@
--- Demand 3 says something: document 01's own card and another of its scale and zone, and two at 1:5,000, are accepted, and
--- positions go from card to card, also past a refusal. Every test is computed, and the tiles are those that store the angles.
--- Assumes nothing.
+-- Demand 3 says something: document 01's own card and another of its scale and zone, two at 1:5,000, and two overviews of factor 16 are
+-- accepted, and positions go from card to card, also past a refusal; a pixel of 01's card has one on an overview. Every test is computed,
+-- and the tiles are those that store the angles. Assumes nothing.
 use mathlib.Core.Path.{_≡_, refl}
 use mathlib.Core.List.{List, [] as []ᴸ, _∷_ as _∷ᴸ_}
 use Prim.Native.Nat.{ℕ}
@@ -8,16 +8,20 @@ use Prim.Native.Char.{code}
 use Prim.Native.String.{String, [], _∷_}
 use lib.IntN.{ℤ, pos, negsuc}
 use Rattle.whole.specs.Whole.{floorDiv, ceilDiv, nearest, modulo}
+use Rattle.arc.specs.declared.Series.{Series}
 use Rattle.arc.specs.Refusals.{refusal}
+use Rattle.arc.specs.Scales.{chartSeries}
 use Rattle.arc.specs.Spacing.{spacingAt}
 use Rattle.origin.specs.Origin.{storedAngle}
 use Rattle.card.specs.declared.Card.{Card}
 use Rattle.card.specs.declared.PositionAnswer.{PositionAnswer}
+use Rattle.card.specs.declared.PixelAnswer.{PixelAnswer}
 use Rattle.text.specs.Text.{number, angleLaid, degrees, minutes, seconds, hundredths, angleSize, angleOf, angleValid, nameLaid}
 use Rattle.card.specs.Layout.{layout, judgeField}
 use Rattle.card.specs.Extents.{extentsHold}
 use Rattle.card.specs.Read.{cardOf, Accepted}
 use Rattle.card.specs.Grid.{latitudeOf, longitudeOf, rowOf, columnOf, positionOf, pixelOf}
+use Rattle.card.specs.Overview.{overviewPixelOf}
 use Rattle.card.specs.NoDrift.{Visit, gave, refused, visits, NoDriftFrom}
 use Rattle.card.proofs.Acceptance.{bytes-accepted}
 use Rattle.card.proofs.Chain.{no-drift}
@@ -41,29 +45,57 @@ town = bytes "37393280080076800-0000044.88+000327.160000000001270002550000000020
 abbrev townBeside : List ℕ
 townBeside = bytes "37393280080076800-0000047.12+000329.2300006400019100031900006400300200012800012801008TOWN0102.IMGY"
 
+-- over all of document 01's card, and another cut of that
+abbrev over : List ℕ
+over = bytes "30002355200025088-0035446.96+125125.7100000000025500025500000000200200012800012801008OVER0101.IMGN"
+
+abbrev overBeside : List ℕ
+overBeside = bytes "30002355200025088-0055210.43+144137.9600006400031900031900006400300300012800012801008OVER0102.IMGY"
+
+abbrev paperSeries : Series
+paperSeries = chartSeries 1000000 1
+
+abbrev townSeries : Series
+townSeries = chartSeries 5000 1
+
+abbrev overSeries : Series
+overSeries = record { scale = 1000000; factor = 16; zone = 1 }
+
 abbrev paperCard : Card
-paperCard = cardOf 1000000 1 369664 400384 (pos 100) (negsuc 19) paper
+paperCard = cardOf paperSeries 369664 400384 (pos 100) (negsuc 19) paper
 
 abbrev besideCard : Card
-besideCard = cardOf 1000000 1 369664 400384 (pos 101) (negsuc 20) beside
+besideCard = cardOf paperSeries 369664 400384 (pos 101) (negsuc 20) beside
 
 abbrev townCard : Card
-townCard = cardOf 5000 1 73932800 80076800 (pos 100) (negsuc 19) town
+townCard = cardOf townSeries 73932800 80076800 (pos 100) (negsuc 19) town
 
 abbrev townBesideCard : Card
-townBesideCard = cardOf 5000 1 73932800 80076800 (pos 101) (negsuc 20) townBeside
+townBesideCard = cardOf townSeries 73932800 80076800 (pos 101) (negsuc 20) townBeside
 
-pub all-accepted : (Accepted 1000000 1 paperCard × Accepted 1000000 1 besideCard) × (Accepted 5000 1 townCard × Accepted 5000 1 townBesideCard)
+abbrev overCard : Card
+overCard = cardOf overSeries 23552 25088 (pos 7) (negsuc 1) over
+
+abbrev overBesideCard : Card
+overBesideCard = cardOf overSeries 23552 25088 (pos 8) (negsuc 2) overBeside
+
+pub all-accepted : (Accepted paperSeries paperCard × Accepted paperSeries besideCard)
+    × (Accepted townSeries townCard × Accepted townSeries townBesideCard)
+    × (Accepted overSeries overCard × Accepted overSeries overBesideCard)
 unfolding spacingAt ceilDiv floorDiv nearest storedAngle number angleLaid degrees minutes seconds hundredths angleSize angleOf angleValid
     nameLaid layout judgeField extentsHold
 all-accepted = (
   (
-    bytes-accepted 1000000 1 369664 400384 (pos 100) (negsuc 19) paper refl refl refl refl refl refl refl refl refl refl refl,
-    bytes-accepted 1000000 1 369664 400384 (pos 101) (negsuc 20) beside refl refl refl refl refl refl refl refl refl refl refl,
+    bytes-accepted paperSeries 369664 400384 (pos 100) (negsuc 19) paper refl refl refl refl refl refl refl refl refl refl refl,
+    bytes-accepted paperSeries 369664 400384 (pos 101) (negsuc 20) beside refl refl refl refl refl refl refl refl refl refl refl,
   ),
   (
-    bytes-accepted 5000 1 73932800 80076800 (pos 100) (negsuc 19) town refl refl refl refl refl refl refl refl refl refl refl,
-    bytes-accepted 5000 1 73932800 80076800 (pos 101) (negsuc 20) townBeside refl refl refl refl refl refl refl refl refl refl refl,
+    bytes-accepted townSeries 73932800 80076800 (pos 100) (negsuc 19) town refl refl refl refl refl refl refl refl refl refl refl,
+    bytes-accepted townSeries 73932800 80076800 (pos 101) (negsuc 20) townBeside refl refl refl refl refl refl refl refl refl refl refl,
+  ),
+  (
+    bytes-accepted overSeries 23552 25088 (pos 7) (negsuc 1) over refl refl refl refl refl refl refl refl refl refl refl,
+    bytes-accepted overSeries 23552 25088 (pos 8) (negsuc 2) overBeside refl refl refl refl refl refl refl refl refl refl refl,
   ),
 )
 
@@ -73,20 +105,26 @@ pub paper-walked : NoDriftFrom paperCard (besideCard ∷ᴸ paperCard ∷ᴸ []�
     × NoDriftFrom paperCard (besideCard ∷ᴸ paperCard ∷ᴸ []ᴸ) (pos 200) (pos 100)
 unfolding cardOf number
 paper-walked =
-    let go = no-drift 1000000 1 paperCard (besideCard ∷ᴸ paperCard ∷ᴸ []ᴸ) (all-accepted .0 .0, (all-accepted .0 .1, (all-accepted .0 .0, tt))) in
+    let go = no-drift paperSeries paperCard (besideCard ∷ᴸ paperCard ∷ᴸ []ᴸ) (all-accepted .0 .0, (all-accepted .0 .1, (all-accepted .0 .0, tt))) in
     (go (pos 0) (pos 0) refl, go (pos 200) (pos 100) refl)
 
 pub beside-walked : NoDriftFrom besideCard (paperCard ∷ᴸ besideCard ∷ᴸ []ᴸ) (pos 64) (pos 64)
 unfolding cardOf number
 beside-walked =
-    no-drift 1000000 1 besideCard (paperCard ∷ᴸ besideCard ∷ᴸ []ᴸ)
+    no-drift paperSeries besideCard (paperCard ∷ᴸ besideCard ∷ᴸ []ᴸ)
     (all-accepted .0 .1, (all-accepted .0 .0, (all-accepted .0 .1, tt))) (pos 64) (pos 64) refl
 
 pub town-walked : NoDriftFrom townCard (townBesideCard ∷ᴸ townCard ∷ᴸ []ᴸ) (pos 1) (pos 1)
 unfolding cardOf number
 town-walked =
-    no-drift 5000 1 townCard (townBesideCard ∷ᴸ townCard ∷ᴸ []ᴸ)
+    no-drift townSeries townCard (townBesideCard ∷ᴸ townCard ∷ᴸ []ᴸ)
     (all-accepted .1 .0, (all-accepted .1 .1, (all-accepted .1 .0, tt))) (pos 1) (pos 1) refl
+
+pub over-walked : NoDriftFrom overCard (overBesideCard ∷ᴸ overCard ∷ᴸ []ᴸ) (pos 94) (pos 35)
+unfolding cardOf number
+over-walked =
+    no-drift overSeries overCard (overBesideCard ∷ᴸ overCard ∷ᴸ []ᴸ)
+    (all-accepted .2 .0, (all-accepted .2 .1, (all-accepted .2 .0, tt))) (pos 94) (pos 35) refl
 
 -- ---- the same walks, computed: a pixel each time; 13, then a pixel; 12, then a pixel
 
@@ -101,5 +139,12 @@ pub visited : (visits (pos 4143223) (negsuc 897506) (besideCard ∷ᴸ paperCard
     ≡ refused (refusal 12) ∷ᴸ gives (pos 64) (pos 64) (pos 4163939) (negsuc 919944) ∷ᴸ []ᴸ)
     × (visits (pos 20714) (negsuc 4485) (townBesideCard ∷ᴸ townCard ∷ᴸ []ᴸ)
     ≡ gives (pos 129) (pos 129) (pos 20714) (negsuc 4485) ∷ᴸ gives (pos 1) (pos 1) (pos 20714) (negsuc 4485) ∷ᴸ []ᴸ)
+    × (visits (pos 4142985) (negsuc 1216100) (overBesideCard ∷ᴸ overCard ∷ᴸ []ᴸ)
+    ≡ gives (pos 222) (pos 163) (pos 4142985) (negsuc 1216100) ∷ᴸ gives (pos 94) (pos 35) (pos 4142985) (negsuc 1216100) ∷ᴸ []ᴸ)
 unfolding cardOf number floorDiv nearest modulo latitudeOf longitudeOf rowOf columnOf positionOf pixelOf
-visited = (refl, refl, refl, refl)
+visited = (refl, refl, refl, refl, refl)
+
+-- the overview pixel of the worked example's third
+pub overviewed : overviewPixelOf paperCard overCard (pos 255) (pos 127) ≡ PixelAnswer.At (pos 110) (pos 101)
+unfolding cardOf number floorDiv nearest modulo latitudeOf longitudeOf rowOf columnOf positionOf pixelOf overviewPixelOf
+overviewed = refl

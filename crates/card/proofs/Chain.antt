@@ -12,6 +12,7 @@ use lib.IntN.{ℤ, pos, subℕ, _+ℤ_, _*ℤ_}
 use Rattle.whole.specs.Whole.{near, nearest, outside}
 use Rattle.whole.proofs.Signed.{Is, over, under, is-parts, is-same, is-equal, equal-is, is-sub, is-add, is-minus, is-mul}
 use Rattle.whole.proofs.Near.{near-le, near-shift}
+use Rattle.arc.specs.declared.Series.{Series}
 use Rattle.arc.specs.declared.Verdict.{Verdict}
 use Rattle.arc.specs.Refusals.{refusal, onVerdict}
 use Rattle.arc.specs.Zones.{circle, half, quarter}
@@ -45,7 +46,7 @@ module _ (a v s : ℕ) (g : Grid a) (h : s ≤ a) where
       ∙ ap (λ (n : ℕ). n % a) (omega (arith, g .whole))
       ∙ add-mul-mod-self-right (v + (a - s)) 1 a
 
-  same-place : (c : ℕ) → c ≡ (v + (a - s)) % a → (s + c + a / 2) % a ≡ (v + a / 2) % a
+  pub same-place : (c : ℕ) → c ≡ (v + (a - s)) % a → (s + c + a / 2) % a ≡ (v + a / 2) % a
   same-place c e =
       ap (λ (n : ℕ). n % a) (omega arith)
       ∙ mod-add c (v + (a - s)) (s + a / 2) a (ap (λ (n : ℕ). n % a) e ∙ mod-mod (v + (a - s)) a)
@@ -249,13 +250,13 @@ module _ (a b : ℕ) (u w lat lon : ℤ) (t : Thread a b u w lat lon) where
             (down ks (h .1)),
       )
 
-  every-of : (scale zone : ℕ) (first : Card) → first .a ≡ a → first .b ≡ b → Accepted scale zone first
-      → (ks : List Card) → Every (Accepted scale zone) ks → Every Of ks
+  every-of : (series : Series) (first : Card) → first .a ≡ a → first .b ≡ b → Accepted series first
+      → (ks : List Card) → Every (Accepted series) ks → Every Of ks
   unfolding Of
-  every-of scale zone first p q f [] h = tt
-  every-of scale zone first p q f (k ∷ ks) h =
-      let e = same-spacing scale zone first k f (h .0) in
-      ((accepted-laid scale zone k (h .0), e .0 ∙ p, e .1 ∙ q), every-of scale zone first p q f ks (h .1))
+  every-of series first p q f [] h = tt
+  every-of series first p q f (k ∷ ks) h =
+      let e = same-spacing series first k f (h .0) in
+      ((accepted-laid series k (h .0), e .0 ∙ p, e .1 ∙ q), every-of series first p q f ks (h .1))
 
 -- ---- the first card, and its pixel (r, c)
 module _ (k : Card) (l : Laid k) (r c : ℕ) (h : r ≤ k .north) where
@@ -286,8 +287,8 @@ module _ (k : Card) (l : Laid k) (r c : ℕ) (h : r ≤ k .north) where
       }
 
 pub no-drift : NoDrift
-no-drift scale zone first rest all r c e =
-    let l = accepted-laid scale zone first (all .0) in
+no-drift series first rest all r c e =
+    let l = accepted-laid series first (all .0) in
     let i = chart-tiles first r c l e in
     let n = tiles-inside first r c i in
     let h : n .row .at ≤ first .north = omega (arith, n .row .below, down-high first l) in
@@ -295,4 +296,4 @@ no-drift scale zone first rest all r c e =
     (walked first l (n .row .at) (n .column .at) h rest
     (ap₂ (inTiles first) (sym (n .row .same)) (sym (n .column .same)) ∙ i)
     (ap₂ (inChart first) (sym (n .row .same)) (sym (n .column .same)) ∙ e)
-    (every-of (first .a) (first .b) _ _ _ _ (thread first l (n .row .at) (n .column .at) h) scale zone first refl refl (all .0) rest (all .1)))
+    (every-of (first .a) (first .b) _ _ _ _ (thread first l (n .row .at) (n .column .at) h) series first refl refl (all .0) rest (all .1)))

@@ -14,6 +14,7 @@ use lib.IntN.{ℤ, natAbs, _-ℤ_}
 use Rattle.whole.specs.Whole.{near}
 use Rattle.whole.proofs.Signed.{under, is-minus, is-size}
 use Rattle.whole.proofs.Near.{near-low, near-high}
+use Rattle.arc.specs.declared.Series.{Series}
 use Rattle.arc.specs.declared.Verdict.{Verdict}
 use Rattle.arc.specs.Refusals.{refusal}
 use Rattle.arc.specs.Spacing.{Grid}
@@ -47,13 +48,13 @@ module _ (k : Card) (r c : ℤ) where
   unfolding placeOf
   placed t = rw t
 
-module _ (scale zone : ℕ) (j k : Card) (p : Accepted scale zone j) (q : Accepted scale zone k) (r c : ℤ) (i : inChart j r c ≡ true)
+module _ (series : Series) (j k : Card) (p : Accepted series j) (q : Accepted series k) (r c : ℤ) (i : inChart j r c ≡ true)
     (r′ c′ : ℤ) (i′ : inChart k r′ c′ ≡ true) where
   place-at : placeOf j r c ≡ PlaceAnswer.At (placeRow j r) (placeColumn j c)
-  place-at = placed j r c (chart-tiles j r c (accepted-laid scale zone j p) i)
+  place-at = placed j r c (chart-tiles j r c (accepted-laid series j p) i)
 
   tiles′ : inTiles k r′ c′ ≡ true
-  tiles′ = chart-tiles k r′ c′ (accepted-laid scale zone k q) i′
+  tiles′ = chart-tiles k r′ c′ (accepted-laid series k q) i′
 
   place-at′ : placeOf k r′ c′ ≡ PlaceAnswer.At (placeRow k r′) (placeColumn k c′)
   place-at′ = placed k r′ c′ tiles′
@@ -66,7 +67,7 @@ module _ (scale zone : ℕ) (j k : Card) (p : Accepted scale zone j) (q : Accept
         let x : placeRow k r′ ≡ placeRow j r = cc in
         let y : placeColumn k c′ ≡ placeColumn j c = cc in
         let at : HasPlace k (placeRow j r) (placeColumn j c) r′ c′ = record { row = x; column = y } in
-        go (told-by-place scale zone j p r c i lat lon e k q) at
+        go (told-by-place series j p r c i lat lon e k q) at
       where
         go : Told k (placeRow j r) (placeColumn j c) lat lon → HasPlace k (placeRow j r) (placeColumn j c) r′ c′ → positionOf j r c ≡ positionOf k r′ c′
         go t at = given (t .gives .1 (record { r = r′; c = c′; within = i′; at = at }))
@@ -79,32 +80,32 @@ module _ (scale zone : ℕ) (j k : Card) (p : Accepted scale zone j) (q : Accept
     -- k gives one pixel for the position, and it has the places of both
     one-place : positionOf j r c ≡ positionOf k r′ c′ → placeOf j r c ≡ placeOf k r′ c′
     one-place f =
-        let t = told-by-place scale zone j p r c i lat lon e k q in
-        let t′ = told-by-place scale zone k q r′ c′ i′ lat lon (sym f ∙ e) k q in
+        let t = told-by-place series j p r c i lat lon e k q in
+        let t′ = told-by-place series k q r′ c′ i′ lat lon (sym f ∙ e) k q in
         let n = t′ .gives .1 (record { r = r′; c = c′; within = i′; at = record { row = refl; column = refl } }) in
         let at = t .only (n .r) (n .c) (n .given) .0 in
         let at′ = t′ .only (n .r) (n .c) (n .given) .0 in
         place-at ∙ ap₂ PlaceAnswer.At (sym (at .row) ∙ at′ .row) (sym (at .column) ∙ at′ .column) ∙ sym place-at′
 
 pub place-alike : PlaceAlike
-place-alike scale zone j k p q r c i r′ c′ i′ =
-    let w = no-drift scale zone j [] (p, tt) r c i in (
-      one-position scale zone j k p q r c i r′ c′ i′ (w .lat) (w .lon) (w .answered),
-      one-place scale zone j k p q r c i r′ c′ i′ (w .lat) (w .lon) (w .answered),
+place-alike series j k p q r c i r′ c′ i′ =
+    let w = no-drift series j [] (p, tt) r c i in (
+      one-position series j k p q r c i r′ c′ i′ (w .lat) (w .lon) (w .answered),
+      one-place series j k p q r c i r′ c′ i′ (w .lat) (w .lon) (w .answered),
     )
 
 -- ---- bytes
 
 pub bytes-alike : BytesAlike
 unfolding cardOf
-bytes-alike scale zone s t j k p q (lso, (pso, (nul, (nus, (nll, (nls, (nfl, (nfc, end)))))))) =
-    let x = read-to scale zone s j p in
-    let y = read-to scale zone t k q in
+bytes-alike series s t j k p q (lso, (pso, (nul, (nus, (nll, (nls, (nfl, (nfc, end)))))))) =
+    let x = read-to series s j p in
+    let y = read-to series t k q in
     let e = x .spacing in
     let f = y .spacing in
     let a : x .a ≡ y .a = cc in
     let b : x .b ≡ y .b = cc in
-    let g = answered-grids scale zone (x .a) (x .b) e in
+    let g = answered-grids series (x .a) (x .b) e in
     subst₂ Copies (x .card) (y .card)
     (record {
       same-n =
@@ -184,29 +185,29 @@ module _ (s t : List ℕ) where
       (ap₂ orElse (sym (judged-same BRV brv) ∙ third .0)
       (ap (orElse (judgeField LSO t)) (ap (orElse (judgeField PSO t)) past ∙ orElse-accepted (judgeField PSO t)))))
 
-no-column : (scale zone a b : ℕ) (t : List ℕ) (n : Option ℤ) → withOrigin scale zone a b t n none ≡ refusedCard (refusal 10)
-no-column scale zone a b t none = refl
-no-column scale zone a b t (some n) = refl
+no-column : (series : Series) (a b : ℕ) (t : List ℕ) (n : Option ℤ) → withOrigin series a b t n none ≡ refusedCard (refusal 10)
+no-column series a b t none = refl
+no-column series a b t (some n) = refl
 
 -- the angle that stored a tile, moved, stores none
 moved-none : (x : ℕ) → Grid x → (t : ℕ) (y z k : ℤ) → Stores x t y k → Moved y z → tileStoring x t z ≡ none
 moved-none x g t y z k e h = rounded-again x g t k z (subst⁻¹ (λ (y : ℤ). Moved y z) (e .same) h)
 
-module _ (scale zone : ℕ) (s t : List ℕ) (k : Card) (x : ReadTo scale zone s k) where
+module _ (series : Series) (s t : List ℕ) (k : Card) (x : ReadTo series s k) where
   no-origin : LSOMoved s t ⊎ PSOMoved s t
-      → withOrigin scale zone (x .a) (x .b) t (rowTile (x .b) t) (columnTile (x .a) t) ≡ refusedCard (refusal 10)
+      → withOrigin series (x .a) (x .b) t (rowTile (x .b) t) (columnTile (x .a) t) ≡ refusedCard (refusal 10)
   no-origin (inl h) =
-      let g = answered-grids scale zone (x .a) (x .b) (x .spacing) in
+      let g = answered-grids series (x .a) (x .b) (x .spacing) in
       rw (moved-none (x .a) (g .columns) (x .a / 256) _ (angleOf 3 (bytesOf LSO t)) (x .m) (x .m-stored) h)
-      (no-column scale zone (x .a) (x .b) t (rowTile (x .b) t))
+      (no-column series (x .a) (x .b) t (rowTile (x .b) t))
   no-origin (inr h) =
-      let g = answered-grids scale zone (x .a) (x .b) (x .spacing) in
+      let g = answered-grids series (x .a) (x .b) (x .spacing) in
       rw (moved-none (x .b) (g .rows) (x .b / 512) _ (angleOf 2 (bytesOf PSO t)) (x .n) (x .n-stored) h)
 
 pub moved-refused : MovedRefused
 unfolding readIn withValues
-moved-refused scale zone s t k p l h m =
-    let x = read-to scale zone s k p in
+moved-refused series s t k p l h m =
+    let x = read-to series s k p in
     rw (
       x .spacing,
       x .not-polar,
@@ -214,5 +215,5 @@ moved-refused scale zone s t k p l h m =
       walk-origin s t (x .judged) h,
       eq-eqb (numberIn ARV t) (x .a) (ap number (sym (h .1 .0)) ∙ x .arv),
       eq-eqb (numberIn BRV t) (x .b) (ap number (sym (h .1 .1 .0)) ∙ x .brv),
-      no-origin scale zone s t k x m,
+      no-origin series s t k x m,
     )

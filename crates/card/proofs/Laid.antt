@@ -7,6 +7,7 @@ use native.Mathlib.Omega.{arith}
 use lib.IntN.{pos, negℤ, _-ℤ_}
 use Rattle.whole.specs.Whole.{raise}
 use Rattle.whole.proofs.Signed.{Is, is-nat, is-neg, is-minus, le-is, is-raise, raise-high}
+use Rattle.arc.specs.declared.Series.{Series}
 use Rattle.arc.specs.declared.SpacingAnswer.{SpacingAnswer}
 use Rattle.arc.specs.Spacing.{Grid, spacingOf}
 use Rattle.arc.proofs.Answered.{answered-grids}
@@ -39,10 +40,10 @@ pub record Laid (k : Card) : Type 0 where
   pub left-right : k .nls ≤ k .nus
   pub right : k .nus < 128 * k .nfc
 
-read-laid : (scale zone : ℕ) (s : List ℕ) (k : Card) → ReadTo scale zone s k → Laid k
+read-laid : (series : Series) (s : List ℕ) (k : Card) → ReadTo series s k → Laid k
 unfolding cardOf layout
-read-laid scale zone s k r =
-    let g = answered-grids scale zone (r .a) (r .b) (r .spacing) in
+read-laid series s k r =
+    let g = answered-grids series (r .a) (r .b) (r .spacing) in
     let N : ℕ = raise (r .b / 512) (r .n) in
     let n : Is (r .n) N (r .b / 512) = is-raise (r .b / 512) (r .n) (r .n-stored .on-grid) in
     let nfl = between 1 (numberIn NFL s) 999 (right-in s (r .judged) 9 (omega arith) .1) in
@@ -78,27 +79,26 @@ read-laid scale zone s k r =
       right = x .columns .1;
     })
 
-pub accepted-laid : (scale zone : ℕ) (k : Card) → Accepted scale zone k → Laid k
-accepted-laid scale zone k h = read-laid scale zone (h .bytes) k (read-to scale zone (h .bytes) k (h .read))
+pub accepted-laid : (series : Series) (k : Card) → Accepted series k → Laid k
+accepted-laid series k h = read-laid series (h .bytes) k (read-to series (h .bytes) k (h .read))
 
 pub known-laid : (k : Card) → Known k → Laid k
-known-laid k h = accepted-laid (h .scale) (h .zone) k (h .is-read)
+known-laid k h = accepted-laid (h .series) k (h .is-read)
 
--- a card's constants are those of its scale and zone
-pub record Spacing (scale zone : ℕ) (k : Card) : Type 0 where
-  pub constants : spacingOf scale zone ≡ SpacingAnswer.Constants (k .a) (k .b)
-  pub same-scale : k .scale ≡ scale
-  pub same-zone : k .zone ≡ zone
+-- a card's constants are those of its scale, factor and zone
+pub record Spacing (series : Series) (k : Card) : Type 0 where
+  pub constants : spacingOf series ≡ SpacingAnswer.Constants (k .a) (k .b)
+  pub same-series : k .series ≡ series
 
-pub accepted-spacing : (scale zone : ℕ) (k : Card) → Accepted scale zone k → Spacing scale zone k
+pub accepted-spacing : (series : Series) (k : Card) → Accepted series k → Spacing series k
 unfolding cardOf
-accepted-spacing scale zone k h =
-    let r = read-to scale zone (h .bytes) k (h .read) in
-    subst (Spacing scale zone) (r .card) (record { constants = r .spacing; same-scale = refl; same-zone = refl })
+accepted-spacing series k h =
+    let r = read-to series (h .bytes) k (h .read) in
+    subst (Spacing series) (r .card) (record { constants = r .spacing; same-series = refl })
 
--- two cards of one scale and zone have the same
-pub same-spacing : (scale zone : ℕ) (j k : Card) → Accepted scale zone j → Accepted scale zone k → (k .a ≡ j .a) × (k .b ≡ j .b)
-same-spacing scale zone j k p q =
-    let e = accepted-spacing scale zone j p .constants in
-    let f = accepted-spacing scale zone k q .constants in
+-- two cards of one scale, factor and zone have the same
+pub same-spacing : (series : Series) (j k : Card) → Accepted series j → Accepted series k → (k .a ≡ j .a) × (k .b ≡ j .b)
+same-spacing series j k p q =
+    let e = accepted-spacing series j p .constants in
+    let f = accepted-spacing series k q .constants in
     (cc, cc)

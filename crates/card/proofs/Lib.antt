@@ -15,4 +15,5 @@ pub mod Ranges
 pub mod Doubles
 pub mod Applied
 pub mod Answered
+pub mod Nearest
 pub mod Questions

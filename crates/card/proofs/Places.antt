@@ -8,6 +8,7 @@ use Prim.Native.Nat.{ℕ, _+_, _*_, _/_, _%_}
 use native.Mathlib.Omega.{arith}
 use lib.IntN.{ℤ, pos, _*ℤ_}
 use Rattle.whole.proofs.Signed.{over, under, is-parts, is-equal, equal-is, is-minus}
+use Rattle.arc.specs.declared.Series.{Series}
 use Rattle.arc.specs.declared.Refusal.{Refusal}
 use Rattle.arc.specs.Refusals.{refusal}
 use Rattle.card.specs.declared.Card.{Card}
@@ -106,18 +107,18 @@ module _ (k : Card) (l : Laid k) (u v lat lon : ℤ) where
       }
 
 -- the walk over one later card
-module _ (scale zone : ℕ) (first : Card) (p : Accepted scale zone first) (r c : ℤ) (within : inChart first r c ≡ true)
+module _ (series : Series) (first : Card) (p : Accepted series first) (r c : ℤ) (within : inChart first r c ≡ true)
     (lat lon : ℤ) (answered : positionOf first r c ≡ PositionAnswer.At lat lon) where
-  visit-right : (k : Card) → Accepted scale zone k → Right (placeRow first r) (placeColumn first c) lat lon k (visit k lat lon)
+  visit-right : (k : Card) → Accepted series k → Right (placeRow first r) (placeColumn first c) lat lon k (visit k lat lon)
   visit-right k q =
-      let w = no-drift scale zone first (k ∷ []) (p, (q, tt)) r c within in
+      let w = no-drift series first (k ∷ []) (p, (q, tt)) r c within in
       let e = w .answered in
       let x : w .lat ≡ lat = cc in
       let y : w .lon ≡ lon = cc in
       subst₂ (λ (x y : ℤ). Right (placeRow first r) (placeColumn first c) x y k (visit k x y)) x y (w .each .0)
 
-  pub told-by-place : (k : Card) → Accepted scale zone k → Told k (placeRow first r) (placeColumn first c) lat lon
-  told-by-place k q = told k (accepted-laid scale zone k q) _ _ lat lon (pixelOf k lat lon) refl (visit-right k q)
+  pub told-by-place : (k : Card) → Accepted series k → Told k (placeRow first r) (placeColumn first c) lat lon
+  told-by-place k q = told k (accepted-laid series k q) _ _ lat lon (pixelOf k lat lon) refl (visit-right k q)
 
   -- the position that goes on is the same
   kept : (k : Card) (x : Visit) → Right (placeRow first r) (placeColumn first c) lat lon k x
@@ -128,7 +129,7 @@ module _ (scale zone : ℕ) (first : Card) (p : Accepted scale zone first) (r c 
   )
   kept k (refused e) h = (refl, refl)
 
-  alike : (rest : List Card) → Every (Accepted scale zone) rest → visits lat lon rest ≡ map (λ k. visit k lat lon) rest
+  alike : (rest : List Card) → Every (Accepted series) rest → visits lat lon rest ≡ map (λ k. visit k lat lon) rest
   alike [] h = refl
   alike (k ∷ rest) h =
       let e = kept k (visit k lat lon) (visit-right k (h .0)) in
@@ -141,8 +142,8 @@ every f [] h = tt
 every f (k ∷ ks) h = (f k (h .0), every f ks (h .1))
 
 each : {P : Card → ℤ → ℤ → ℤ → ℤ → Type 0} → ((k : Card) (u v lat lon : ℤ) → Told k u v lat lon → P k u v lat lon) → EachLater P
-each f scale zone first rest all r c i lat lon a =
-    every (λ k q. f k _ _ lat lon (told-by-place scale zone first (all .0) r c i lat lon a k q)) rest (all .1)
+each f series first rest all r c i lat lon a =
+    every (λ k q. f k _ _ lat lon (told-by-place series first (all .0) r c i lat lon a k q)) rest (all .1)
 
 pub gives-exactly : GivesExactly
 gives-exactly = each (λ k u v lat lon t. t .gives)
@@ -154,4 +155,4 @@ pub refuses-exactly : RefusesExactly
 refuses-exactly = each (λ k u v lat lon t. t .refuses)
 
 pub asked-alike : AskedAlike
-asked-alike scale zone first rest all r c i lat lon a = alike scale zone first (all .0) r c i lat lon a rest (all .1)
+asked-alike series first rest all r c i lat lon a = alike series first (all .0) r c i lat lon a rest (all .1)

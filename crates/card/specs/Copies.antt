@@ -2,9 +2,9 @@
 -- (01, "Origins and the zone grid"). Definitions and claims; the proof is proofs/Copies.antt, and of AnswerAlike and AlikeExactly proofs/Alike.antt.
 --     Copies j k             the same n and m, and the same extents: BAD and TIF may differ
 --     Alike j k              every question on a pixel or a position is answered alike
---     AnswerAlike            copies of one scale and zone answer alike
---     AlikeExactly           cards of one scale and zone answer alike exactly where their upper left pixels have one place and the extents are the same
---     PlaceAlike             on any two cards of one scale and zone, pixels of one place have one position, and pixels of one position one place
+--     AnswerAlike            copies of one scale, zone and factor answer alike
+--     AlikeExactly           cards of one scale, zone and factor answer alike exactly where their upper left pixels have one place and the extents are the same
+--     PlaceAlike             on any two cards of one scale, zone and factor, pixels of one place have one position, and pixels of one position one place
 --     SameIn fs s t          s and t have the same bytes in each of the subfields fs
 --     BytesAlike             the same bytes in LSO, PSO and the extents make copies
 --     Moved y z              the angle z is not y, and is at most two seconds of arc from it
@@ -18,6 +18,7 @@ use mathlib.Core.Option.{none}
 use Prim.Native.Nat.{ℕ, _≤_}
 use lib.IntN.{ℤ, pos, natAbs, _-ℤ_}
 use lib.ListN.{length}
+use Rattle.arc.specs.declared.Series.{Series}
 use Rattle.arc.specs.Refusals.{refusal, onVerdict}
 use Rattle.arc.specs.Spacing.{Grid}
 use Rattle.origin.specs.Origin.{storedAngle}
@@ -42,18 +43,18 @@ pub record Alike (j k : Card) : Type 0 where
   pub verdict : (r c : ℤ) → verdictOf j r c ≡ verdictOf k r c
 
 abbrev pub AnswerAlike : Type 0
-AnswerAlike = (scale zone : ℕ) (j k : Card) → Accepted scale zone j → Accepted scale zone k → Copies j k → Alike j k
+AnswerAlike = (series : Series) (j k : Card) → Accepted series j → Accepted series k → Copies j k → Alike j k
 
 -- the same, in both directions: n is the same and 128m is the same modulo A, so m may also be A/256 on one card and −A/256 on the other
 abbrev pub AlikeExactly : Type 0
 AlikeExactly =
-    (scale zone : ℕ) (j k : Card) → Accepted scale zone j → Accepted scale zone k
+    (series : Series) (j k : Card) → Accepted series j → Accepted series k
     → Alike j k ↔ ((placeOf j (pos 0) (pos 0) ≡ placeOf k (pos 0) (pos 0)) × (extentsOf j ≡ extentsOf k))
 
 -- two cuts, each with its own n, m and extents, and a pixel of each one's chart rectangle
 abbrev pub PlaceAlike : Type 0
 PlaceAlike =
-    (scale zone : ℕ) (j k : Card) → Accepted scale zone j → Accepted scale zone k
+    (series : Series) (j k : Card) → Accepted series j → Accepted series k
     → (r c : ℤ) → inChart j r c ≡ true → (r′ c′ : ℤ) → inChart k r′ c′ ≡ true
     → placeOf j r c ≡ placeOf k r′ c′ ↔ positionOf j r c ≡ positionOf k r′ c′
 
@@ -63,7 +64,7 @@ SameIn (f ∷ fs) s t = (bytesOf f s ≡ bytesOf f t) × SameIn fs s t
 
 abbrev pub BytesAlike : Type 0
 BytesAlike =
-    (scale zone : ℕ) (s t : List ℕ) (j k : Card) → readOf scale zone s ≡ acceptedCard j → readOf scale zone t ≡ acceptedCard k
+    (series : Series) (s t : List ℕ) (j k : Card) → readOf series s ≡ acceptedCard j → readOf series t ≡ acceptedCard k
     → SameIn (LSO ∷ PSO ∷ NUL ∷ NUS ∷ NLL ∷ NLS ∷ NFL ∷ NFC ∷ []) s t → Copies j k
 
 -- ---- stored angles rounded again
@@ -73,7 +74,7 @@ pub record Moved (y z : ℤ) : Type 0 where
   pub other : 1 ≤ natAbs (z -ℤ y)
   pub little : natAbs (z -ℤ y) ≤ 200
 
--- x is A or B of any scale and zone, k any tile, and the tiles looked through are those from −t to t
+-- x is A or B of any scale, factor and zone, k any tile, and the tiles looked through are those from −t to t
 abbrev pub RoundedAgain : Type 0
 RoundedAgain = (x : ℕ) → Grid x → (t : ℕ) (k z : ℤ) → Moved (storedAngle x k) z → tileStoring x t z ≡ none
 
@@ -91,6 +92,6 @@ PSOMoved s t = Moved (angleOf 2 (bytesOf PSO s)) (angleOf 2 (bytesOf PSO t))
 -- its LSO or PSO is not of the right kind or value
 abbrev pub MovedRefused : Type 0
 MovedRefused =
-    (scale zone : ℕ) (s t : List ℕ) (k : Card) → readOf scale zone s ≡ acceptedCard k
+    (series : Series) (s t : List ℕ) (k : Card) → readOf series s ≡ acceptedCard k
     → length t ≡ length s → SameIn others s t → LSOMoved s t ⊎ PSOMoved s t
-    → readOf scale zone t ≡ onVerdict (orElse (judgeField LSO t) (judgeField PSO t)) refusedCard (refusedCard (refusal 10))
+    → readOf series t ≡ onVerdict (orElse (judgeField LSO t) (judgeField PSO t)) refusedCard (refusedCard (refusal 10))

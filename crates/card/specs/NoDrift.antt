@@ -1,5 +1,5 @@
--- Demand 3: down any list of accepted cards of one scale and zone a pixel's position goes from card to card with no drift
--- (01, "Origins and the zone grid"). The claim is `NoDrift`; the proof is proofs/Chain.antt.
+-- Demand 3: down any list of accepted cards of one scale, one zone and one factor a pixel's position goes from card to card with no drift
+-- (01, "Origins and the zone grid"; 02, E4). The claim is `NoDrift`; the proof is proofs/Chain.antt.
 --     HasPlace k u v r c         pixel (r, c) has the place (u, v) of the zone grid
 --     TilesHave, ChartHas        a pixel of the card's tiles, of its chart rectangle, has the place
 --     Close a b u v lat lon      the position is within half a hundredth of the exact place
@@ -12,6 +12,7 @@ use mathlib.Core.List.{List, [], _∷_}
 use mathlib.Core.Logic.{_⊎_}
 use Prim.Native.Nat.{ℕ, _*_, _≤_}
 use lib.IntN.{ℤ, pos, natAbs, _+ℤ_, _-ℤ_, _*ℤ_}
+use Rattle.arc.specs.declared.Series.{Series}
 use Rattle.arc.specs.declared.Refusal.{Refusal}
 use Rattle.arc.specs.Refusals.{refusal}
 use Rattle.arc.specs.Zones.{circle}
@@ -100,8 +101,8 @@ pub record NoDriftFrom (first : Card) (rest : List Card) (r c : ℤ) : Type 0 wh
   pub close : Close (first .a) (first .b) (placeRow first r) (placeColumn first c) lat lon
   pub each : Each (Right (placeRow first r) (placeColumn first c) lat lon) rest (visits lat lon rest)
 
--- any list of one or more accepted cards of one scale and one zone, and any pixel in the first card's chart rectangle
+-- any list of one or more accepted cards of one scale, one zone and one factor, and any pixel in the first card's chart rectangle
 abbrev pub NoDrift : Type 0
 NoDrift =
-    (scale zone : ℕ) (first : Card) (rest : List Card) → Every (Accepted scale zone) (first ∷ rest)
+    (series : Series) (first : Card) (rest : List Card) → Every (Accepted series) (first ∷ rest)
     → (r c : ℤ) → inChart first r c ≡ true → NoDriftFrom first rest r c

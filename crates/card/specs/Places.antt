@@ -12,8 +12,8 @@ use mathlib.Core.Path.{_≡_}
 use mathlib.Core.Bool.{true}
 use mathlib.Core.List.{List, _∷_, map}
 use mathlib.Core.Logic.{_↔_}
-use Prim.Native.Nat.{ℕ}
 use lib.IntN.{ℤ}
+use Rattle.arc.specs.declared.Series.{Series}
 use Rattle.arc.specs.Refusals.{refusal}
 use Rattle.card.specs.declared.Card.{Card}
 use Rattle.card.specs.declared.PositionAnswer.{PositionAnswer}
@@ -27,11 +27,11 @@ pub record GivesPixel (k : Card) (lat lon : ℤ) : Type 0 where
   pub c : ℤ
   pub given : pixelOf k lat lon ≡ PixelAnswer.At r c
 
--- Q holds of the later cards of any list of accepted cards of one scale and zone, with the place and the position of any pixel in the
--- first card's chart rectangle
+-- Q holds of the later cards of any list of accepted cards of one scale, zone and factor, with the place and the position of any pixel in
+-- the first card's chart rectangle
 abbrev pub AlongList : (List Card → ℤ → ℤ → ℤ → ℤ → Type 0) → Type 0
 AlongList Q =
-    (scale zone : ℕ) (first : Card) (rest : List Card) → Every (Accepted scale zone) (first ∷ rest)
+    (series : Series) (first : Card) (rest : List Card) → Every (Accepted series) (first ∷ rest)
     → (r c : ℤ) → inChart first r c ≡ true → (lat lon : ℤ) → positionOf first r c ≡ PositionAnswer.At lat lon
     → Q rest (placeRow first r) (placeColumn first c) lat lon
 

@@ -1,8 +1,8 @@
--- Reading a card: 1, 2, 3, 6, the subfields left to right with 7 before 8 in each, 9, 10, 11 (01, "Numbers given in refusal").
+-- Reading a card: 1, 17, 1 (02, E4), 2, 3, 6, the subfields left to right with 7 before 8 in each, 9, 10, 11 (01, "Numbers given in refusal").
 -- Definitions only.
 --     tileStoring x t angle  the whole number from −t to t whose stored angle this is; the angle fixes it
 --     cardOf ..              the value of a card that is not refused
---     readOf S zone s        what reading answers
+--     readOf series s        what reading answers
 --     Accepted, Known        some bytes are read to this card
 --     onCard x f g           a question on a card as it was read: reading's refusal first, then the question's own answer
 use mathlib.Core.Path.{_≡_}
@@ -15,6 +15,7 @@ use lib.ListN.{length, getD, replicate}
 use lib.IntN.{ℤ, pos, negsuc, negℤ, sucℤ}
 use Rattle.whole.specs.Whole.{raise}
 use Rattle.whole.specs.Lists.{firstFrom}
+use Rattle.arc.specs.declared.Series.{Series}
 use Rattle.arc.specs.declared.Refusal.{Refusal}
 use Rattle.arc.specs.declared.Verdict.{Verdict}
 use Rattle.arc.specs.declared.SpacingAnswer.{SpacingAnswer}
@@ -42,11 +43,10 @@ abbrev pub numberIn : Subfield → List ℕ → ℕ
 numberIn f s = number (bytesOf f s)
 
 -- north and east: 128 n and 128 m counted from the South Pole and from 180° west
-unfoldable pub cardOf : ℕ → ℕ → ℕ → ℕ → ℤ → ℤ → List ℕ → Card
-cardOf scale zone a b n m s =
+unfoldable pub cardOf : Series → ℕ → ℕ → ℤ → ℤ → List ℕ → Card
+cardOf series a b n m s =
     record {
-      scale = scale;
-      zone = zone;
+      series = series;
       a = a;
       b = b;
       n = n;
@@ -67,8 +67,7 @@ cardOf scale zone a b n m s =
 abbrev pub noCard : Card
 noCard =
     record {
-      scale = 0;
-      zone = 0;
+      series = record { scale = 0; factor = 0; zone = 0 };
       a = 0;
       b = 0;
       n = pos 0;
@@ -97,39 +96,38 @@ withExtents k =
     cond (extentsHold (k .a) (k .b) (k .n) (k .nul) (k .nus) (k .nll) (k .nls) (k .nfl) (k .nfc)) (acceptedCard k) (refusedCard (refusal 11))
 
 -- 10, 11
-abbrev pub withOrigin : ℕ → ℕ → ℕ → ℕ → List ℕ → Option ℤ → Option ℤ → Reading
-withOrigin scale zone a b s (some n) (some m) = withExtents (cardOf scale zone a b n m s)
-withOrigin scale zone a b s (some n) none = refusedCard (refusal 10)
-withOrigin scale zone a b s none m = refusedCard (refusal 10)
+abbrev pub withOrigin : Series → ℕ → ℕ → List ℕ → Option ℤ → Option ℤ → Reading
+withOrigin series a b s (some n) (some m) = withExtents (cardOf series a b n m s)
+withOrigin series a b s (some n) none = refusedCard (refusal 10)
+withOrigin series a b s none m = refusedCard (refusal 10)
 
 -- 9, 10, 11
-unfoldable pub withValues : ℕ → ℕ → ℕ → ℕ → List ℕ → Reading
-withValues scale zone a b s =
+unfoldable pub withValues : Series → ℕ → ℕ → List ℕ → Reading
+withValues series a b s =
     cond (eqb (numberIn ARV s) a && eqb (numberIn BRV s) b)
-    (withOrigin scale zone a b s (tileStoring b (b / 512) (angleOf 2 (bytesOf PSO s))) (tileStoring a (a / 256) (angleOf 3 (bytesOf LSO s))))
+    (withOrigin series a b s (tileStoring b (b / 512) (angleOf 2 (bytesOf PSO s))) (tileStoring a (a / 256) (angleOf 3 (bytesOf LSO s))))
     (refusedCard (refusal 9))
 
 -- 3, 6, then 7, 8, then these
-unfoldable pub readIn : ℕ → ℕ → SpacingAnswer → List ℕ → Reading
-readIn scale zone (SpacingAnswer.Constants a b) s =
-    cond (isPolar zone) (refusedCard (refusal 3))
-    (cond (eqb (length s) 98) (onVerdict (walk layout s) refusedCard (withValues scale zone a b s)) (refusedCard (refusal 6)))
-readIn scale zone (SpacingAnswer.Refused r) s = refusedCard r
+unfoldable pub readIn : Series → SpacingAnswer → List ℕ → Reading
+readIn series (SpacingAnswer.Constants a b) s =
+    cond (isPolar (series .zone)) (refusedCard (refusal 3))
+    (cond (eqb (length s) 98) (onVerdict (walk layout s) refusedCard (withValues series a b s)) (refusedCard (refusal 6)))
+readIn series (SpacingAnswer.Refused r) s = refusedCard r
 
--- 1, 2, then these
-abbrev pub readOf : ℕ → ℕ → List ℕ → Reading
-readOf scale zone s = readIn scale zone (spacingOf scale zone) s
+-- 1, 17, 1, 2, then these
+abbrev pub readOf : Series → List ℕ → Reading
+readOf series s = readIn series (spacingOf series) s
 
 -- a card is accepted when reading does not refuse it (01, "Origins and the zone grid")
-pub record Accepted (scale zone : ℕ) (k : Card) : Type 0 where
+pub record Accepted (series : Series) (k : Card) : Type 0 where
   pub bytes : List ℕ
-  pub read : readOf scale zone bytes ≡ acceptedCard k
+  pub read : readOf series bytes ≡ acceptedCard k
 
 -- some accepted card gives the value
 pub record Known (k : Card) : Type 0 where
-  pub scale : ℕ
-  pub zone : ℕ
-  pub is-read : Accepted scale zone k
+  pub series : Series
+  pub is-read : Accepted series k
 
 -- a question on a card as it was read: reading's refusal first, then the question's own answer
 abbrev pub onCard : {A : Type 0} → Reading → (Refusal → A) → (Card → A) → A

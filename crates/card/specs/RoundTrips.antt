@@ -13,6 +13,7 @@ use mathlib.Core.Bool.{false}
 use mathlib.Core.List.{List}
 use Prim.Native.Nat.{ℕ, _≤_, _<_}
 use lib.ListN.{length, take}
+use Rattle.arc.specs.declared.Series.{Series}
 use Rattle.arc.specs.declared.Verdict.{Verdict}
 use Rattle.arc.specs.declared.SpacingAnswer.{SpacingAnswer}
 use Rattle.arc.specs.Refusals.{refusal}
@@ -38,57 +39,56 @@ recordOf k =
       tif = k .tif;
     }
 
--- the card read from what was written: accepted, of this scale and zone, and with this record
-pub record ReadBack (scale zone : ℕ) (r : Record) (s : List ℕ) : Type 0 where
+-- the card read from what was written: accepted, of this scale, factor and zone, and with this record
+pub record ReadBack (series : Series) (r : Record) (s : List ℕ) : Type 0 where
   pub card : Card
-  pub read : readOf scale zone s ≡ acceptedCard card
-  pub of-scale : card .scale ≡ scale
-  pub of-zone : card .zone ≡ zone
+  pub read : readOf series s ≡ acceptedCard card
+  pub of-series : card .series ≡ series
   pub same : recordOf card ≡ r
 
 -- BAD has twelve bytes, as the record's array holds it
 abbrev pub ReadsBack : Type 0
 ReadsBack =
-    (scale zone : ℕ) (r : Record) (out : List ℕ) → length (r .bad) ≡ 12 → writeOf scale zone r out ≡ Verdict.Accepted
-    → ReadBack scale zone r (take 98 (outOf scale zone r out))
+    (series : Series) (r : Record) (out : List ℕ) → length (r .bad) ≡ 12 → writeOf series r out ≡ Verdict.Accepted
+    → ReadBack series r (take 98 (outOf series r out))
 
 -- written into any output of 98 bytes or more
-pub record WrittenBack (scale zone : ℕ) (k : Card) (s out : List ℕ) : Type 0 where
-  pub written : writeOf scale zone (recordOf k) out ≡ Verdict.Accepted
-  pub same : take 98 (outOf scale zone (recordOf k) out) ≡ s
+pub record WrittenBack (series : Series) (k : Card) (s out : List ℕ) : Type 0 where
+  pub written : writeOf series (recordOf k) out ≡ Verdict.Accepted
+  pub same : take 98 (outOf series (recordOf k) out) ≡ s
 
 -- from 10,000 up (02, E13)
 abbrev pub WritesBack : Type 0
 WritesBack =
-    (scale zone : ℕ) (s : List ℕ) (k : Card) (out : List ℕ) → readOf scale zone s ≡ acceptedCard k → 10000 ≤ scale → 98 ≤ length out
-    → WrittenBack scale zone k s out
+    (series : Series) (s : List ℕ) (k : Card) (out : List ℕ) → readOf series s ≡ acceptedCard k → 10000 ≤ series .scale → 98 ≤ length out
+    → WrittenBack series k s out
 
 -- ---- the scales that are written (02, E13)
 
 abbrev pub WrittenScale : Type 0
-WrittenScale = (scale zone : ℕ) (r : Record) (out : List ℕ) → writeOf scale zone r out ≡ Verdict.Accepted → 10000 ≤ scale
+WrittenScale = (series : Series) (r : Record) (out : List ℕ) → writeOf series r out ≡ Verdict.Accepted → 10000 ≤ series .scale
 
 -- writing is refused with 24, and the output stays
-pub record NotWritten (scale zone : ℕ) (r : Record) (out : List ℕ) : Type 0 where
-  pub refused : writeOf scale zone r out ≡ Verdict.Refused (refusal 24)
-  pub left : outOf scale zone r out ≡ out
+pub record NotWritten (series : Series) (r : Record) (out : List ℕ) : Type 0 where
+  pub refused : writeOf series r out ≡ Verdict.Refused (refusal 24)
+  pub left : outOf series r out ≡ out
 
--- any record, zone and output
+-- any record, factor, zone and output
 abbrev pub TownNotWritten : Type 0
-TownNotWritten = (scale zone : ℕ) (r : Record) (out : List ℕ) → 5000 ≤ scale → scale < 10000 → NotWritten scale zone r out
+TownNotWritten = (series : Series) (r : Record) (out : List ℕ) → 5000 ≤ series .scale → series .scale < 10000 → NotWritten series r out
 
 -- what was read
 abbrev pub HeldNotWritten : Type 0
 HeldNotWritten =
-    (scale zone : ℕ) (s : List ℕ) (k : Card) (out : List ℕ) → readOf scale zone s ≡ acceptedCard k → scale < 10000
-    → NotWritten scale zone (recordOf k) out
+    (series : Series) (s : List ℕ) (k : Card) (out : List ℕ) → readOf series s ≡ acceptedCard k → series .scale < 10000
+    → NotWritten series (recordOf k) out
 
 -- ---- at every scale that is read, the town scales too: a card's text and its record (02, E13)
 
 abbrev pub TextReadBack : Type 0
 TextReadBack =
-    (scale zone a b : ℕ) (r : Record) → length (r .bad) ≡ 12 → spacingOf scale zone ≡ SpacingAnswer.Constants a b → isPolar zone ≡ false
-    → first (recordTests a b r) ≡ Verdict.Accepted → ReadBack scale zone r (cardText a b r)
+    (series : Series) (a b : ℕ) (r : Record) → length (r .bad) ≡ 12 → spacingOf series ≡ SpacingAnswer.Constants a b → isPolar (series .zone) ≡ false
+    → first (recordTests a b r) ≡ Verdict.Accepted → ReadBack series r (cardText a b r)
 
 abbrev pub ReadIsText : Type 0
-ReadIsText = (scale zone : ℕ) (s : List ℕ) (k : Card) → readOf scale zone s ≡ acceptedCard k → cardText (k .a) (k .b) (recordOf k) ≡ s
+ReadIsText = (series : Series) (s : List ℕ) (k : Card) → readOf series s ≡ acceptedCard k → cardText (k .a) (k .b) (recordOf k) ≡ s

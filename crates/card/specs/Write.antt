@@ -1,9 +1,9 @@
--- Writing a card: 1, 24 (02, E13), 2, 3, 6, then NFL, NFC (8), BAD (7), then 10, 11 (01, "Numbers given in refusal"). Definitions only.
+-- Writing a card: 1, 24 (02, E13), 17, 1 (02, E4), 2, 3, 6, then NFL, NFC (8), BAD (7), then 10, 11 (01, "Numbers given in refusal"). Definitions only.
 --     Value                  what a subfield holds
 --     valuesOf a b r         the record's values in the layout's order
 --     cardText a b r         the 98 bytes
---     writeOf S zone r out   what writing answers
---     outOf S zone r out     what the output then holds
+--     writeOf series r out   what writing answers
+--     outOf series r out     what the output then holds
 use Prim.Native.Nat.{ℕ}
 use mathlib.Core.List.{List, [], _∷_, _++_}
 use mathlib.Core.Bool.{Bool, cond, _&&_}
@@ -12,6 +12,7 @@ use lib.ListN.{length}
 use lib.IntN.{ℤ}
 use Rattle.whole.specs.Lists.{over}
 use Rattle.text.specs.Text.{nameLaid, digits, angleText}
+use Rattle.arc.specs.declared.Series.{Series}
 use Rattle.arc.specs.declared.Verdict.{Verdict}
 use Rattle.arc.specs.declared.SpacingAnswer.{SpacingAnswer}
 use Rattle.arc.specs.Refusals.{refusal, refusalAt}
@@ -76,9 +77,9 @@ writeIn zone (SpacingAnswer.Constants a b) r n =
     (cond (leb 98 n) (first (recordTests a b r)) (Verdict.Refused (refusal 6)))
 writeIn zone (SpacingAnswer.Refused e) r n = Verdict.Refused e
 
--- 1, 24, 2, then these (02, E13)
-unfoldable pub writeOf : ℕ → ℕ → Record → List ℕ → Verdict
-writeOf scale zone r out = writeIn zone (spacingForWriting scale zone) r (length out)
+-- 1, 24, 17, 1, 2, then these (02, E13, E4)
+unfoldable pub writeOf : Series → Record → List ℕ → Verdict
+writeOf series r out = writeIn (series .zone) (spacingForWriting series) r (length out)
 
 abbrev pub textFor : SpacingAnswer → Record → List ℕ
 textFor (SpacingAnswer.Constants a b) r = cardText a b r
@@ -89,5 +90,5 @@ abbrev pub outAfter : Verdict → List ℕ → List ℕ → List ℕ
 outAfter Verdict.Accepted card out = over card out
 outAfter (Verdict.Refused e) card out = out
 
-unfoldable pub outOf : ℕ → ℕ → Record → List ℕ → List ℕ
-outOf scale zone r out = outAfter (writeOf scale zone r out) (textFor (spacingForWriting scale zone) r) out
+unfoldable pub outOf : Series → Record → List ℕ → List ℕ
+outOf series r out = outAfter (writeOf series r out) (textFor (spacingForWriting series) r) out

@@ -1,11 +1,13 @@
 // The card value, and the questions put to it (001, 3.4.3 to 3.4.5; 002, 3.17.1).
 use arc::Refusal;
+use arc::Series;
 use arc::Verdict;
 ghost use mathlib.Core.Path.{_≡_};
 ghost use Rattle.card.specs.Read.{noCard};
 
 mod centre;
 mod grid;
+mod overview;
 mod parts;
 mod range;
 
@@ -20,8 +22,7 @@ pub use range::count_position;
 
 // The value of an accepted card. "Card" and "chart" are document 01's words.
 pub struct Card {
-    pub scale: u64,
-    pub zone: u64,
+    pub series: Series,
     pub a: u64,
     pub b: u64,
     pub n: i64,
@@ -44,8 +45,11 @@ pub fn no_card() -> Card
     ensures { λ r. ⌜ r ≡ noCard ⌝ }
 {
     Card {
-        scale: 0,
-        zone: 0,
+        series: Series {
+            scale: 0,
+            factor: 0,
+            zone: 0,
+        },
         a: 0,
         b: 0,
         n: 0,

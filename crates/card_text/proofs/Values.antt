@@ -9,6 +9,7 @@ use lib.ListN.{getD}
 use lib.IntN.{ℤ, pos, _-ℤ_}
 use Rattle.whole.specs.declared.Counted.{Counted}
 use Rattle.whole.proofs.Signed.{Is, is-difference}
+use Rattle.arc.specs.declared.Series.{Series}
 use Rattle.arc.specs.Refusals.{refusal}
 use Rattle.arc.specs.Spacing.{Grid}
 use Rattle.origin.proofs.Axis.{latitudes, longitudes}
@@ -78,22 +79,22 @@ module _ {a b : ℕ} (ga : Grid a) (gb : Grid b) {s values : List ℕ} (w : Walk
   unfolding layout valueIn
   brv-value = kept-at w 2
 
-  pub values-are : (scale zone : ℕ) → withValues scale zone a b s
+  pub values-are : (series : Series) → withValues series a b s
       ≡ cond (eqb (getD values 1 0) a && eqb (getD values 2 0) b)
-      (withOrigin scale zone a b s (tileAt (b / 512) (foundAt b (getD values 4 0))) (tileAt (a / 256) (foundAt a (getD values 3 0))))
+      (withOrigin series a b s (tileAt (b / 512) (foundAt b (getD values 4 0))) (tileAt (a / 256) (foundAt a (getD values 3 0))))
       (refusedCard (refusal 9))
   unfolding withValues
-  values-are scale zone =
+  values-are series =
       let n = found-is (latitudes b gb) gb (angleOf 2 (bytesOf PSO s)) (getD values 4 0) pso-value pso-kept in
       let m = found-is (longitudes a ga) ga (angleOf 3 (bytesOf LSO s)) (getD values 3 0) lso-value lso-kept in
       rw (arv-value, brv-value, n, m)
 
 -- ---- the card, its origin counted
-module _ (scale zone a b north east : ℕ) (s : List ℕ) (r : Record) (ok : Bool) where
+module _ (series : Series) (a b north east : ℕ) (s : List ℕ) (r : Record) (ok : Bool) where
   pub extents-are : r ≡ recordIn (pos north -ℤ pos (b / 512)) (pos east -ℤ pos (a / 256)) s
       → ok ≡ extentsAt a north (r .nul) (r .nus) (r .nll) (r .nls) (r .nfl) (r .nfc)
-      → withOrigin scale zone a b s (tileAt (b / 512) (Counted.From north)) (tileAt (a / 256) (Counted.From east))
-      ≡ cond ok (acceptedCard (cardFrom scale zone a b north east r)) (refusedCard (refusal 11))
+      → withOrigin series a b s (tileAt (b / 512) (Counted.From north)) (tileAt (a / 256) (Counted.From east))
+      ≡ cond ok (acceptedCard (cardFrom series a b north east r)) (refusedCard (refusal 11))
   unfolding cardOf
   extents-are er eo =
       let n : ℤ = pos north -ℤ pos (b / 512) in

@@ -16,6 +16,7 @@ use lib.ListN.{length, getD}
 use lib.IntN.{ℤ, pos, _-ℤ_}
 use Rattle.whole.specs.declared.Counted.{Counted}
 use Rattle.whole.specs.Whole.{near}
+use Rattle.arc.specs.declared.Series.{Series}
 use Rattle.arc.specs.declared.Verdict.{Verdict}
 use Rattle.arc.specs.Zones.{circle, tile}
 use Rattle.card.specs.declared.Card.{Card}
@@ -56,11 +57,10 @@ recordIn n m s =
       tif = eqb (getD (bytesOf TIF s) 0 0) 89;
     }
 
-abbrev pub cardFrom : ℕ → ℕ → ℕ → ℕ → ℕ → ℕ → Record → Card
-cardFrom scale zone a b north east r =
+abbrev pub cardFrom : Series → ℕ → ℕ → ℕ → ℕ → Record → Card
+cardFrom series a b north east r =
     record {
-      scale = scale;
-      zone = zone;
+      series = series;
       a = a;
       b = b;
       n = r .n;

@@ -1,4 +1,5 @@
 // Reads and writes the 98 bytes of the image card (002, 3.17.1; 01, "The image card, 98 bytes").
+use arc::Series;
 use arc::SpacingAnswer;
 use arc::Verdict;
 use card::Reading;
@@ -16,11 +17,11 @@ mod stored;
 mod write;
 
 // Reading, the spacing being known. Refuses 3, 6, the subfields' 7 and 8, 9, 10, 11.
-fn read_spaced(scale: u64, zone: u64, a: u64, b: u64, bytes: &[u8]) -> Reading
+fn read_spaced(series: Series, a: u64, b: u64, bytes: &[u8]) -> Reading
     requires { ⌜ Grid a ⌝ ∗ ⌜ Grid b ⌝ }
-    ensures { λ r. ⌜ r ≡ readIn scale zone (SpacingAnswer.Constants a b) (now (bytes .entry)) ⌝ }
+    ensures { λ r. ⌜ r ≡ readIn series (SpacingAnswer.Constants a b) (now (bytes .entry)) ⌝ }
 {
-    if arc::is_polar(zone) {
+    if arc::is_polar(series.zone) {
         return read::refused_with(arc::refused(3));
     }
     if bytes.len() != 98 {
@@ -30,27 +31,27 @@ fn read_spaced(scale: u64, zone: u64, a: u64, b: u64, bytes: &[u8]) -> Reading
     let verdict = f.verdict;
     let values = f.values;
     match verdict {
-        Verdict::Accepted => read::read_values(scale, zone, a, b, bytes, values),
+        Verdict::Accepted => read::read_values(series, a, b, bytes, values),
         Verdict::Refused(r) => read::refused_with(r),
     }
 }
 
-// Reads a card of scale 1:S and a zone. Refuses 1, 2, 3, 6, the subfields' 7 and 8, 9, 10, 11.
-pub fn read_card(scale: u64, zone: u64, bytes: &[u8]) -> Reading
-    ensures { λ r. ⌜ r ≡ readOf scale zone (now (bytes .entry)) ⌝ }
+// Reads a card. Refuses 1, 17, 1, 2, 3, 6, the subfields' 7 and 8, 9, 10, 11.
+pub fn read_card(series: Series, bytes: &[u8]) -> Reading
+    ensures { λ r. ⌜ r ≡ readOf series (now (bytes .entry)) ⌝ }
 {
-    match arc::spacing(scale, zone) {
-        SpacingAnswer::Constants { a, b } => read_spaced(scale, zone, a, b, bytes),
+    match arc::spacing(series) {
+        SpacingAnswer::Constants { a, b } => read_spaced(series, a, b, bytes),
         SpacingAnswer::Refused(r) => read::refused_with(r),
     }
 }
 
-// Writes a record as a card of scale 1:S and a zone. Refuses 1, 24, 2, 3, 6, NFL, NFC (8), BAD (7), 10, 11; on a refusal the output stays.
-pub fn write_card(scale: u64, zone: u64, r: Record, out: &mut [u8]) -> Verdict
-    ensures { λ v. ⌜ (v ≡ writeOf scale zone r (now (out .entry))) × (now (out .exit) ≡ outOf scale zone r (now (out .entry))) ⌝ }
+// Writes a record as a card. Refuses 1, 24, 17, 1, 2, 3, 6, NFL, NFC (8), BAD (7), 10, 11; on a refusal the output stays.
+pub fn write_card(series: Series, r: Record, out: &mut [u8]) -> Verdict
+    ensures { λ v. ⌜ (v ≡ writeOf series r (now (out .entry))) × (now (out .exit) ≡ outOf series r (now (out .entry))) ⌝ }
 {
-    match arc::spacing_for_writing(scale, zone) {
-        SpacingAnswer::Constants { a, b } => write::write_spaced(zone, a, b, r, out),
+    match arc::spacing_for_writing(series) {
+        SpacingAnswer::Constants { a, b } => write::write_spaced(series.zone, a, b, r, out),
         SpacingAnswer::Refused(e) => Verdict::Refused(e),
     }
 }

@@ -1,6 +1,7 @@
 // From the values of a card to its record and its value (01, "The image card, 98 bytes", "Numbers given in refusal").
 use crate::stored;
 use arc::Refusal;
+use arc::Series;
 use arc::Verdict;
 use card::Card;
 use card::Reading;
@@ -91,14 +92,13 @@ pub fn extents_hold(a: u64, north: u64, r: Record) -> bool
 }
 
 // The card of a record, its origin counted from the South Pole and from 180° west.
-fn card_of(scale: u64, zone: u64, a: u64, b: u64, north: u64, east: u64, r: Record) -> Card
+fn card_of(series: Series, a: u64, b: u64, north: u64, east: u64, r: Record) -> Card
     requires { ⌜ north ≤ 1000000 ⌝ ∗ ⌜ east ≤ 1000000 ⌝ }
-    ensures { λ k. ⌜ k ≡ cardFrom scale zone a b north east r ⌝ }
+    ensures { λ k. ⌜ k ≡ cardFrom series a b north east r ⌝ }
 {
     let bad = r.bad;
     Card {
-        scale,
-        zone,
+        series,
         a,
         b,
         n: r.n,
@@ -117,9 +117,9 @@ fn card_of(scale: u64, zone: u64, a: u64, b: u64, north: u64, east: u64, r: Reco
 }
 
 // The card, its subfields being right. Refuses 9, 10, 11.
-pub fn read_values(scale: u64, zone: u64, a: u64, b: u64, s: &[u8], values: [u64; 20]) -> Reading
+pub fn read_values(series: Series, a: u64, b: u64, s: &[u8], values: [u64; 20]) -> Reading
     requires { ⌜ Grid a ⌝ ∗ ⌜ Grid b ⌝ ∗ ⌜ Walked (now s) values ⌝ }
-    ensures { λ r. ⌜ r ≡ withValues scale zone a b (now (s .entry)) ⌝ }
+    ensures { λ r. ⌜ r ≡ withValues series a b (now (s .entry)) ⌝ }
 {
     if !((values[ARV] == a) & (values[BRV] == b)) {
         return refused_with(arc::refused(9));
@@ -138,6 +138,6 @@ pub fn read_values(scale: u64, zone: u64, a: u64, b: u64, s: &[u8], values: [u64
     }
     Reading {
         verdict: Verdict::Accepted,
-        card: card_of(scale, zone, a, b, north, east, r),
+        card: card_of(series, a, b, north, east, r),
     }
 }

@@ -1,6 +1,7 @@
 // Questions on a card and its tile index (01, "Tiles").
 use crate::parts::TileParts;
 use arc::Refusal;
+use arc::Series;
 use arc::Tile;
 use arc::Verdict;
 use tiles::BandsAnswer;
@@ -24,19 +25,18 @@ ghost use Rattle.fordcask.specs.Entry.{tileParts};
 // Whether each number 1 to count occurs exactly once. Refuses reading's numbers, then 6, 15; on those and 6 the marks stay.
 #[no_mangle]
 pub extern "C" fn fordcask_index_check(
-    scale: u64,
-    zone: u64,
+    series: Series,
     card: &[u8],
     index: &[u32],
     count: u64,
     marks: &mut [u8],
 ) -> Refusal
-    ensures answer { λ r. ⌜ r ≡ refusalOf (onCard (readOf scale zone (now (card .entry))) Verdict.Refused
+    ensures answer { λ r. ⌜ r ≡ refusalOf (onCard (readOf series (now (card .entry))) Verdict.Refused
         (λ k. checkOf k (now (index .entry)) count (now (marks .entry)))) ⌝ }
-    ensures left { λ _. ⌜ now (marks .exit) ≡ onCard (readOf scale zone (now (card .entry))) (λ e. now (marks .entry))
+    ensures left { λ _. ⌜ now (marks .exit) ≡ onCard (readOf series (now (card .entry))) (λ e. now (marks .entry))
         (λ k. marksOf k (now (index .entry)) count (now (marks .entry))) ⌝ }
 {
-    let reading = card_text::read_card(scale, zone, card);
+    let reading = card_text::read_card(series, card);
     let verdict = reading.verdict;
     let k = reading.card;
     match verdict {
@@ -48,8 +48,7 @@ pub extern "C" fn fordcask_index_check(
 // The stored number of a pixel's tile, and where its bytes stand in the store. Refuses reading's numbers, then 6, 12, 13, 14, 15.
 #[no_mangle]
 pub extern "C" fn fordcask_tile(
-    scale: u64,
-    zone: u64,
+    series: Series,
     card: &[u8],
     index: &[u32],
     count: u64,
@@ -57,10 +56,10 @@ pub extern "C" fn fordcask_tile(
     row: i64,
     column: i64,
 ) -> TileParts
-    ensures { λ r. ⌜ r ≡ tileParts (onCard (readOf scale zone (now (card .entry))) NumberAnswer.Refused
+    ensures { λ r. ⌜ r ≡ tileParts (onCard (readOf series (now (card .entry))) NumberAnswer.Refused
         (λ k. numberOf k (now (index .entry)) count (now (store .entry)) row column)) ⌝ }
 {
-    let reading = card_text::read_card(scale, zone, card);
+    let reading = card_text::read_card(series, card);
     let verdict = reading.verdict;
     let k = reading.card;
     match verdict {
@@ -94,8 +93,7 @@ fn no_tile(e: Refusal) -> TileParts
 // The band values of a pixel. Refuses reading's numbers, then 6, 12, 13, 14, 15.
 #[no_mangle]
 pub extern "C" fn fordcask_bands(
-    scale: u64,
-    zone: u64,
+    series: Series,
     card: &[u8],
     index: &[u32],
     count: u64,
@@ -103,10 +101,10 @@ pub extern "C" fn fordcask_bands(
     row: i64,
     column: i64,
 ) -> BandsParts
-    ensures { λ r. ⌜ bandsTold r ≡ bandsReport (onCard (readOf scale zone (now (card .entry))) BandsAnswer.Refused
+    ensures { λ r. ⌜ bandsTold r ≡ bandsReport (onCard (readOf series (now (card .entry))) BandsAnswer.Refused
         (λ k. bandsOf k (now (index .entry)) count (now (store .entry)) row column)) ⌝ }
 {
-    let reading = card_text::read_card(scale, zone, card);
+    let reading = card_text::read_card(series, card);
     let verdict = reading.verdict;
     let k = reading.card;
     match verdict {
@@ -118,8 +116,7 @@ pub extern "C" fn fordcask_bands(
 // The first tile of a window, in reading order, that is not stored. Refuses reading's numbers, then 6, 12, 15.
 #[no_mangle]
 pub extern "C" fn fordcask_window(
-    scale: u64,
-    zone: u64,
+    series: Series,
     card: &[u8],
     index: &[u32],
     count: u64,
@@ -128,10 +125,10 @@ pub extern "C" fn fordcask_window(
     height: u64,
     width: u64,
 ) -> WindowParts
-    ensures { λ r. ⌜ windowTold r ≡ windowReport (onCard (readOf scale zone (now (card .entry))) WindowAnswer.Refused
+    ensures { λ r. ⌜ windowTold r ≡ windowReport (onCard (readOf series (now (card .entry))) WindowAnswer.Refused
         (λ k. windowOf k (now (index .entry)) count top left height width)) ⌝ }
 {
-    let reading = card_text::read_card(scale, zone, card);
+    let reading = card_text::read_card(series, card);
     let verdict = reading.verdict;
     let k = reading.card;
     match verdict {

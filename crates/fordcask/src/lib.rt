@@ -4,6 +4,7 @@ mod indexes;
 mod parts;
 mod plain;
 
+pub use cards::fordcask_overview_pixel;
 pub use cards::fordcask_pixel;
 pub use cards::fordcask_pixels;
 pub use cards::fordcask_place;

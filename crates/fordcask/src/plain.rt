@@ -1,6 +1,7 @@
 // Questions on numbers alone (01, "Units and the zone table", "Origins and the zone grid").
 use crate::parts::CoverParts;
 use crate::parts::RectangleParts;
+use arc::Series;
 use arc::SpacingParts;
 use card::OffsetParts;
 use origin::OriginParts;
@@ -14,12 +15,12 @@ ghost use Rattle.origin.specs.Origin.{alignOf, originReport, originTold};
 ghost use Rattle.card.specs.Offset.{offsetOf, offsetParts};
 ghost use Rattle.fordcask.specs.Entry.{coverParts, rectangleParts};
 
-// A and B. Refuses 1, 2.
+// A and B. Refuses 1, 17, 1, 2.
 #[no_mangle]
-pub extern "C" fn fordcask_spacing(scale: u64, zone: u64) -> SpacingParts
-    ensures { λ r. ⌜ spacingTold r ≡ spacingReport (spacingOf scale zone) ⌝ }
+pub extern "C" fn fordcask_spacing(series: Series) -> SpacingParts
+    ensures { λ r. ⌜ spacingTold r ≡ spacingReport (spacingOf series) ⌝ }
 {
-    arc::spacing(scale, zone).into_parts()
+    arc::spacing(series).into_parts()
 }
 
 // The basic zone of a latitude. Refuses 4.
@@ -30,12 +31,12 @@ pub extern "C" fn fordcask_basic_zone(lat: i64) -> ZoneParts
     zones::basic_zone(lat).into_parts()
 }
 
-// The zones that cover a latitude, the basic zone first, then equatorward. Refuses 1, 4.
+// The zones that cover a latitude, the basic zone first, then equatorward. Refuses 1, 17, 1, 4.
 #[no_mangle]
-pub extern "C" fn fordcask_cover(scale: u64, lat: i64) -> CoverParts
-    ensures { λ r. ⌜ r ≡ coverParts (coverOf scale lat) ⌝ }
+pub extern "C" fn fordcask_cover(scale: u64, factor: u64, lat: i64) -> CoverParts
+    ensures { λ r. ⌜ r ≡ coverParts (coverOf scale factor lat) ⌝ }
 {
-    let answer = zones::cover(scale, lat);
+    let answer = zones::cover(scale, factor, lat);
     let verdict = answer.verdict;
     let refusal = verdict.refusal();
     let zones = answer.zones;
@@ -47,12 +48,17 @@ pub extern "C" fn fordcask_cover(scale: u64, lat: i64) -> CoverParts
     }
 }
 
-// The zones of a rectangle, in ascending number. Refuses 1, south 4, north 4, 16.
+// The zones of a rectangle, in ascending number. Refuses 1, 17, 1, south 4, north 4, 16.
 #[no_mangle]
-pub extern "C" fn fordcask_rectangle(scale: u64, south: i64, north: i64) -> RectangleParts
-    ensures { λ r. ⌜ r ≡ rectangleParts (rectangleOf scale south north) ⌝ }
+pub extern "C" fn fordcask_rectangle(
+    scale: u64,
+    factor: u64,
+    south: i64,
+    north: i64,
+) -> RectangleParts
+    ensures { λ r. ⌜ r ≡ rectangleParts (rectangleOf scale factor south north) ⌝ }
 {
-    let answer = rectangle::rectangle(scale, south, north);
+    let answer = rectangle::rectangle(scale, factor, south, north);
     let verdict = answer.verdict;
     let refusal = verdict.refusal();
     let zones = answer.zones;
@@ -64,12 +70,12 @@ pub extern "C" fn fordcask_rectangle(scale: u64, south: i64, north: i64) -> Rect
     }
 }
 
-// The origin of an upper left point. Refuses 1, 24, 2, 3, 4, 5.
+// The origin of an upper left point. Refuses 1, 24, 17, 1, 2, 3, 4, 5.
 #[no_mangle]
-pub extern "C" fn fordcask_align(scale: u64, zone: u64, lat: i64, lon: i64) -> OriginParts
-    ensures { λ r. ⌜ originTold r ≡ originReport (alignOf scale zone lat lon) ⌝ }
+pub extern "C" fn fordcask_align(series: Series, lat: i64, lon: i64) -> OriginParts
+    ensures { λ r. ⌜ originTold r ≡ originReport (alignOf series lat lon) ⌝ }
 {
-    origin::align(scale, zone, lat, lon).into_parts()
+    origin::align(series, lat, lon).into_parts()
 }
 
 // Position minus centre. Refuses 4, 5 of the position, then 4, 5 of the centre.

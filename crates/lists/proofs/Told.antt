@@ -1,16 +1,13 @@
--- A question put to a pair, and what is told of it, each signed number as the machine holds it. Assumes nothing.
-use mathlib.Core.Path.{_≡_, ap₂, _∙_}
+-- What is told of a question put to a pair, each signed number as the machine holds it. Assumes nothing.
+use mathlib.Core.Path.{_≡_, _∙_}
 use mathlib.Core.List.{[], _∷_}
 use Prim.Native.Nat.{ℕ}
 use lib.IntN.{ℤ}
 use mir.Syntax.{w64}
 use mir.Val.{SFits, toZ, ofZ}
-use mir.ValLaws.{toZ-ofZ}
 use Rattle.lists.specs.Steps.{pairTold}
 use Rattle.arc.specs.Refusals.{Report}
-
-pub pair-asked : {A : Type 0} (f : ℤ → ℤ → A) {u v : ℤ} → SFits w64 u → SFits w64 v → f (toZ w64 (ofZ w64 u)) (toZ w64 (ofZ w64 v)) ≡ f u v
-pair-asked f {u} {v} fu fv = ap₂ f (toZ-ofZ w64 u fu) (toZ-ofZ w64 v fv)
+use Rattle.card.proofs.Answers.{pair-asked}
 
 -- f is the question, x and y the value parts of its answer
 pub pair-told : (f : ℤ → ℤ → Report) {n at : ℕ} {u v x y : ℤ} → SFits w64 u → SFits w64 v → SFits w64 x → SFits w64 y

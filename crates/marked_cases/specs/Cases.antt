@@ -1,4 +1,4 @@
--- The twelve cases marked P (01, "Figures on both sides of each edge"). A claim: the proof is proofs/AllHold.antt.
+-- The twelve cases marked P, the factor being 1 (01, "Figures on both sides of each edge"). A claim: the proof is proofs/AllHold.antt.
 --     Case               what the definitions give, and what document 01 states
 --     AllAs cs           in each case the two are the same
 --     card               the bytes of document 01's card, as its two parts
@@ -9,6 +9,7 @@ use Prim.Native.Nat.{ℕ}
 use lib.IntN.{ℤ, pos, negℤ}
 use lib.ListN.{take}
 use Rattle.arc.specs.declared.SpacingAnswer.{SpacingAnswer}
+use Rattle.arc.specs.Scales.{chartSeries}
 use Rattle.arc.specs.Spacing.{spacingOf, spacingReport, rowsOf, constantReport}
 use Rattle.zones.specs.Basic.{basicZoneOf, zoneReport}
 use Rattle.zones.specs.Cover.{coverOf, coverReport}
@@ -35,16 +36,16 @@ card =
 
 -- the length of a cover list and its members, as document 01 writes it
 abbrev pub cover : ℕ → ℤ → List ℤ
-cover scale lat = coverReport (coverOf scale lat) .values
+cover scale lat = coverReport (coverOf scale 1 lat) .values
 
 abbrev pub zone : ℤ → List ℤ
 zone lat = zoneReport (basicZoneOf lat) .values
 
 abbrev pub aOf : ℕ → ℕ → List ℤ
-aOf scale zone = take 1 (spacingReport (spacingOf scale zone) .values)
+aOf scale zone = take 1 (spacingReport (spacingOf (chartSeries scale zone)) .values)
 
 abbrev pub bOf : ℕ → List ℤ
-bOf scale = constantReport (rowsOf scale) .values
+bOf scale = constantReport (rowsOf scale 1) .values
 
 -- the stored angles of n and of m
 abbrev pub storedRow : SpacingAnswer → ℤ → List ℤ
@@ -77,11 +78,11 @@ cases =
     -- at 1:5,000,000, 27,360,000 is covered by 8, 7, 6
     case (cover 5000000 (pos 27360000)) (map pos (3 ∷ 8 ∷ 7 ∷ 6 ∷ 0 ∷ 0 ∷ 0 ∷ [])) ∷
     -- at 1:1,000,000 zone 1, n = 100 stores 4,143,223
-    case (storedRow (spacingOf 1000000 1) (pos 100)) (pos 4143223 ∷ []) ∷
+    case (storedRow (spacingOf (chartSeries 1000000 1)) (pos 100)) (pos 4143223 ∷ []) ∷
     -- m = −20 stores −897,507
-    case (storedColumn (spacingOf 1000000 1) (negℤ (pos 20))) (negℤ (pos 897507) ∷ []) ∷
+    case (storedColumn (spacingOf (chartSeries 1000000 1)) (negℤ (pos 20))) (negℤ (pos 897507) ∷ []) ∷
     -- the card's pixel (1, 1) is 4,142,899 and −897,156
-    case (positionReport (positionOf (readOf 1000000 1 card .card) (pos 1) (pos 1)) .values) (pos 4142899 ∷ negℤ (pos 897156) ∷ []) ∷
+    case (positionReport (positionOf (readOf (chartSeries 1000000 1) card .card) (pos 1) (pos 1)) .values) (pos 4142899 ∷ negℤ (pos 897156) ∷ []) ∷
     []
 
 -- the statement

@@ -48,14 +48,14 @@ aligned-on-grid a b ga gb lat lon p q =
     (is-inside (columnTiles a lon) _ (a / 256) (column-is columns lon east (is-raise half lon q)) (column-high columns east (raise-high half lon q)))
 
 pub aligned-from : AlignedFrom
-aligned-from s zone lat lon h = rw (written-from s zone h)
+aligned-from series lat lon h = rw (written-from series h)
 
 pub aligned-scale : AlignedScale
-aligned-scale s zone lat lon o e = go (spacingForWriting s zone) refl e
+aligned-scale series lat lon o e = go (spacingForWriting series) refl e
   where
-    go : (x : SpacingAnswer) → spacingForWriting s zone ≡ x → alignIn zone x lat lon ≡ OriginAnswer.Aligned o → 10000 ≤ s
-    go (SpacingAnswer.Constants a b) p q = only-from s zone a b p
+    go : (x : SpacingAnswer) → spacingForWriting series ≡ x → alignIn (series .zone) x lat lon ≡ OriginAnswer.Aligned o → 10000 ≤ series .scale
+    go (SpacingAnswer.Constants a b) p q = only-from series a b p
     go (SpacingAnswer.Refused r) p q = let z : _≡_ {A = ℕ} 0 1 = cc in absurd (omega arith)
 
 pub town-not-aligned : TownNotAligned
-town-not-aligned s zone lat lon p q = rw (town-refused s zone p q)
+town-not-aligned series lat lon p q = rw (town-refused series p q)

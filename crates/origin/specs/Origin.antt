@@ -6,7 +6,7 @@
 --     columnTiles a lon  m, the greatest whole number with 128 × m × H ≤ lon × A
 --     storedAngle x k    the nearest hundredth to 128 × k × H / x, x being A or B
 --     originOf a b lat lon     the origin of an upper left point
---     alignOf S zone lat lon   what `align` answers: refusals 1, 24, 2, 3, 4, 5
+--     alignOf series lat lon   what `align` answers: refusals 1, 24, 17, 1, 2, 3, 4, 5
 --     onGrid a b n m     −B/512 ≤ n ≤ B/512 and −A/256 ≤ m ≤ A/256
 use mathlib.Core.Path.{_≡_}
 use mathlib.Core.Bool.{Bool, true, false, cond, not, _&&_}
@@ -15,6 +15,7 @@ use Prim.Native.Nat.{ℕ, _*_, _/_, _≤_, _<_}
 use lib.IntN.{ℤ, pos, _*ℤ_}
 use lib.Signed.{_≤ℤ_}
 use Rattle.whole.specs.Whole.{floorDiv, nearest, ceilDiv, outside, Greatest, Smallest}
+use Rattle.arc.specs.declared.Series.{Series}
 use Rattle.arc.specs.declared.SpacingAnswer.{SpacingAnswer}
 use Rattle.arc.specs.Refusals.{refusal, Report, answered, refusedWith}
 use Rattle.arc.specs.Zones.{circle, half, quarter, tile, isPolar}
@@ -51,9 +52,9 @@ alignIn zone (SpacingAnswer.Constants a b) lat lon =
     (OriginAnswer.Aligned (originOf a b lat lon))))
 alignIn zone (SpacingAnswer.Refused r) lat lon = OriginAnswer.Refused r
 
--- 1, 24, 2, then these (02, E13)
-abbrev pub alignOf : ℕ → ℕ → ℤ → ℤ → OriginAnswer
-alignOf s zone lat lon = alignIn zone (spacingForWriting s zone) lat lon
+-- 1, 24, 17, 1, 2, then these (02, E13, E4)
+abbrev pub alignOf : Series → ℤ → ℤ → OriginAnswer
+alignOf series lat lon = alignIn (series .zone) (spacingForWriting series) lat lon
 
 -- accepted: −B/512 ≤ n ≤ B/512 and −A/256 ≤ m ≤ A/256
 abbrev pub onGrid : ℕ → ℕ → ℤ → ℤ → Bool
@@ -86,17 +87,18 @@ AlignedOnGrid =
     (a b : ℕ) → Grid a → Grid b → (lat lon : ℤ) → outside quarter lat ≡ false → outside half lon ≡ false
     → onGrid a b (originOf a b lat lon .n) (originOf a b lat lon .m) ≡ true
 
--- from 10,000 up alignment is 01's (02, E13)
+-- from 10,000 up alignment goes by the spacing alone (02, E13)
 abbrev pub AlignedFrom : Type 0
-AlignedFrom = (s zone : ℕ) (lat lon : ℤ) → 10000 ≤ s → alignOf s zone lat lon ≡ alignIn zone (spacingOf s zone) lat lon
+AlignedFrom = (series : Series) (lat lon : ℤ) → 10000 ≤ series .scale → alignOf series lat lon ≡ alignIn (series .zone) (spacingOf series) lat lon
 
 -- what was aligned has a scale from 10,000 up (02, E13)
 abbrev pub AlignedScale : Type 0
-AlignedScale = (s zone : ℕ) (lat lon : ℤ) (o : Origin) → alignOf s zone lat lon ≡ OriginAnswer.Aligned o → 10000 ≤ s
+AlignedScale = (series : Series) (lat lon : ℤ) (o : Origin) → alignOf series lat lon ≡ OriginAnswer.Aligned o → 10000 ≤ series .scale
 
--- at a town scale no point is aligned, whatever the zone (02, E13)
+-- at a town scale no point is aligned, whatever the factor and the zone (02, E13)
 abbrev pub TownNotAligned : Type 0
-TownNotAligned = (s zone : ℕ) (lat lon : ℤ) → 5000 ≤ s → s < 10000 → alignOf s zone lat lon ≡ OriginAnswer.Refused (refusal 24)
+TownNotAligned =
+    (series : Series) (lat lon : ℤ) → 5000 ≤ series .scale → series .scale < 10000 → alignOf series lat lon ≡ OriginAnswer.Refused (refusal 24)
 
 -- a stored angle fixes its tile
 abbrev pub StoredFixes : Type 0

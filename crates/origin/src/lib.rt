@@ -1,6 +1,7 @@
 // Origins: a whole number of 128-pixel tiles from the Equator and from the zero meridian (001, 3.4.5).
 use arc::Circle;
 use arc::Refusal;
+use arc::Series;
 use arc::SpacingAnswer;
 use arc::Tile;
 use whole::Counted;
@@ -73,12 +74,12 @@ fn align_in(a: u64, b: u64, zone: u64, lat: i64, lon: i64) -> OriginAnswer
     OriginAnswer::Aligned(origin_at(a, b, north, east))
 }
 
-// The origin of an upper left point, at scale 1:S in a zone. Refuses 1, 24, 2, 3, 4, 5.
-pub fn align(scale: u64, zone: u64, lat: i64, lon: i64) -> OriginAnswer
-    ensures { λ r. ⌜ r ≡ alignOf scale zone lat lon ⌝ }
+// The origin of an upper left point. Refuses 1, 24, 17, 1, 2, 3, 4, 5.
+pub fn align(series: Series, lat: i64, lon: i64) -> OriginAnswer
+    ensures { λ r. ⌜ r ≡ alignOf series lat lon ⌝ }
 {
-    match arc::spacing_for_writing(scale, zone) {
-        SpacingAnswer::Constants { a, b } => align_in(a, b, zone, lat, lon),
+    match arc::spacing_for_writing(series) {
+        SpacingAnswer::Constants { a, b } => align_in(a, b, series.zone, lat, lon),
         SpacingAnswer::Refused(r) => OriginAnswer::Refused(r),
     }
 }

@@ -12,6 +12,7 @@ use lib.ListN.{length, drop, drop-of-length-le, length-drop}
 use lib.Seq.{drop-drop}
 use borrow.Author.Tests.{ltb-true, ltb-false, leb-true, leb-false}
 use Rattle.arc.specs.declared.Verdict.{Verdict}
+use Rattle.arc.specs.Scales.{chartSeries}
 use Rattle.card.specs.declared.Card.{Card}
 use Rattle.card.specs.Read.{readOf}
 use Rattle.printing.specs.Lines.{intoFirst, linesOf, TwoNumbers, numbersOf}
@@ -58,7 +59,7 @@ from-lines k s (suc n) at h = turn (ltb at (length s)) refl (λ g. from-lines k 
 opened-card : (o : Option TwoNumbers) (card : List ℕ) (next end : ℕ) (s : List ℕ) (ls : List (List ℕ))
     → ((k : Card) → fromOn k s next (length s) ≡ linesFor k ls) → runFrom (openedCard o card next end) s ≡ withCard o card ls
 opened-card none card next end s ls more = refl
-opened-card (some p) card next end s ls more = verdict (readOf (p .left) (p .right) card .verdict) (readOf (p .left) (p .right) card .card)
+opened-card (some p) card next end s ls more = let r = readOf (chartSeries (p .left) (p .right)) card in verdict (r .verdict) (r .card)
   where
     verdict : (v : Verdict) (k : Card) → runFrom (openedWith v k next end) s ≡ cardOut v k ls
     verdict Verdict.Accepted k = rw (more k)

@@ -11,6 +11,7 @@ use lib.ListN.{length, length-append}
 use borrow.Author.Tests.{ltb-false}
 use Rattle.arc.specs.declared.Refusal.{Refusal}
 use Rattle.arc.specs.declared.Verdict.{Verdict}
+use Rattle.arc.specs.Scales.{chartSeries}
 use Rattle.text.specs.Text.{bytes, decimal}
 use Rattle.card.specs.declared.Card.{Card}
 use Rattle.card.specs.declared.PositionAnswer.{PositionAnswer}
@@ -73,13 +74,14 @@ shut s x h = record { short = h; known = λ e. absurd (false≢true e); small = 
 
 with-card : (s : List ℕ) → length s ≤ 65536 → (o : Option TwoNumbers) (card : List ℕ) (next : ℕ) → Opening s (openedCard o card next (length s))
 with-card s h none card next = shut s badLine (omega arith)
-with-card s h (some p) card next = verdict (readOf (p .left) (p .right) card .verdict) (readOf (p .left) (p .right) card .card) refl
+with-card s h (some p) card next = let r = readOf (chartSeries (p .left) (p .right)) card in verdict (r .verdict) (r .card) refl
   where
-    verdict : (v : Verdict) (k : Card) → readOf (p .left) (p .right) card ≡ record { verdict = v; card = k } → Opening s (openedWith v k next (length s))
+    verdict : (v : Verdict) (k : Card) → readOf (chartSeries (p .left) (p .right)) card ≡ record { verdict = v; card = k }
+        → Opening s (openedWith v k next (length s))
     verdict Verdict.Accepted k e =
         record {
           short = omega arith;
-          known = λ m. record { scale = p .left; zone = p .right; is-read = record { bytes = card; read = e } };
+          known = λ m. record { series = chartSeries (p .left) (p .right); is-read = record { bytes = card; read = e } };
           small = λ m. h;
         }
     verdict (Verdict.Refused n) k e =

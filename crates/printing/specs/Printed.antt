@@ -9,6 +9,7 @@ use lib.Dec.{ltb}
 use lib.ListN.{length}
 use lib.IntN.{pos}
 use Rattle.arc.specs.declared.Verdict.{Verdict}
+use Rattle.arc.specs.Scales.{chartSeries}
 use Rattle.card.specs.declared.Card.{Card}
 use Rattle.card.specs.declared.PositionAnswer.{PositionAnswer}
 use Rattle.text.specs.Text.{bytes, decimal, angleText}
@@ -52,9 +53,9 @@ cardOut Verdict.Accepted k ls = header ++ linesFor k ls
 cardOut (Verdict.Refused e) k ls =
     bytes "card refused " ++ decimal (e .number) ++ bytes " " ++ decimal (e .at) ++ bytes "\n"
 
--- a bad first line prints only that
+-- a bad first line prints only that; k = 1 is what the printing program uses (02, E4)
 abbrev pub withCard : Option TwoNumbers → List ℕ → List (List ℕ) → List ℕ
-withCard (some p) card ls = let r = readOf (p .left) (p .right) card in cardOut (r .verdict) (r .card) ls
+withCard (some p) card ls = let r = readOf (chartSeries (p .left) (p .right)) card in cardOut (r .verdict) (r .card) ls
 withCard none card ls = badLine
 
 -- a line with scale and zone, a line with the card, then lines of row and column; no second line prints only "bad line"

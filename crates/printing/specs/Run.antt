@@ -16,6 +16,7 @@ use mathlib.Core.Option.{Option, some, none}
 use lib.Dec.{ltb, leb}
 use lib.ListN.{length, drop}
 use Rattle.arc.specs.declared.Verdict.{Verdict}
+use Rattle.arc.specs.Scales.{chartSeries}
 use Rattle.card.specs.declared.Card.{Card}
 use Rattle.card.specs.Read.{readOf, noCard}
 use Rattle.printing.specs.Lines.{upTo, TwoNumbers, numbersOf}
@@ -47,7 +48,7 @@ openedWith Verdict.Accepted k next end = record { text = header; more = true; ca
 openedWith (Verdict.Refused e) k next end = closed (cardOut (Verdict.Refused e) k []) end
 
 abbrev pub openedCard : Option TwoNumbers → List ℕ → ℕ → ℕ → Opened
-openedCard (some p) card next end = let r = readOf (p .left) (p .right) card in openedWith (r .verdict) (r .card) next end
+openedCard (some p) card next end = let r = readOf (chartSeries (p .left) (p .right)) card in openedWith (r .verdict) (r .card) next end
 openedCard none card next end = closed badLine end
 
 -- no second line where the first one reaches the end of the input

@@ -3,6 +3,7 @@ use crate::OpeningAnswer;
 use crate::parse::Numbers;
 use crate::parse::{self};
 use arc::Refusal;
+use arc::Series;
 use arc::Verdict;
 use card::Card;
 ghost use mathlib.Core.Path.{_≡_};
@@ -73,14 +74,20 @@ fn stop_with(out: &mut [u8], line: &[u8], end: usize) -> OpeningAnswer
     stop(length, end)
 }
 
-// The scale and the zone of the first line, the card of the second; the other lines start at `next`, and the input ends at `end`.
+// The scale and the zone of the first line, the factor being 1 (02, E4), and the card of the second; the other lines start at `next`, and the input
+// ends at `end`.
 fn two_lines(out: &mut [u8], first: &[u8], second: &[u8], next: usize, end: usize) -> OpeningAnswer
     requires { ⌜ 64 ≤ length (now out) ⌝ }
     ensures { λ r. ⌜ Opens (openedCard (numbersOf (now (first .entry))) (now (second .entry)) next end) (now (out .entry)) (now (out .exit)) r ⌝ }
 {
     match parse::numbers_in(first) {
         Numbers::Pair { left, right } => {
-            let r = card_text::read_card(left, right, second);
+            let series = Series {
+                scale: left,
+                factor: 1,
+                zone: right,
+            };
+            let r = card_text::read_card(series, second);
             let verdict = r.verdict;
             let card = r.card;
             opened(out, verdict, card, next, end)

@@ -22,7 +22,8 @@ use lib.Signed.{_≤ℤ_, _<ℤ_}
 use Rattle.whole.specs.Whole.{outside}
 use Rattle.whole.specs.Lists.{occurs}
 use Rattle.arc.specs.Zones.{circle, quarter, Row, tableRow, isPolar, from, to}
-use Rattle.arc.specs.Spacing.{isScale, rowUnit, spacingAt}
+use Rattle.arc.specs.Scales.{isScale}
+use Rattle.arc.specs.Spacing.{rowUnit, spacingAt}
 use Rattle.zones.specs.Basic.{zoneOn}
 use Rattle.zones.specs.Cover.{covers}
 use Rattle.rectangle.specs.Stretch.{Stretch, zoneStretch, shares}

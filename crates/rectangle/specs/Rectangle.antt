@@ -1,6 +1,6 @@
 -- The zones of a rectangle, south to north (01, "Units and the zone table", as 02, E3 changes it). Definitions only; what they are held to is in Points.antt.
 --     rectangleZones b south north     every zone that shares a stretch of more than zero height with the rectangle, in ascending zone number
---     rectangleOf S south north        what `rectangle` answers: refusals 1, 4, 4, 16
+--     rectangleOf S factor south north what `rectangle` answers: refusals 1, 17, 1, 4, 4, 16
 use Prim.Native.Nat.{ℕ}
 use mathlib.Core.Bool.{cond, not}
 use mathlib.Core.List.{List}
@@ -35,6 +35,6 @@ rectangleAt b south north =
     (cond (not (ltZ south north)) (refusedRectangle (refusal 16))
     (acceptedRectangle (rectangleZones b south north))))
 
--- 1, south 4, north 4, 16
-abbrev pub rectangleOf : ℕ → ℤ → ℤ → RectangleAnswer
-rectangleOf s south north = onConstant (rowsOf s) refusedRectangle (λ b. rectangleAt b south north)
+-- 1, 17, 1, then south 4, north 4, 16 (02, E4)
+abbrev pub rectangleOf : ℕ → ℕ → ℤ → ℤ → RectangleAnswer
+rectangleOf s factor south north = onConstant (rowsOf s factor) refusedRectangle (λ b. rectangleAt b south north)

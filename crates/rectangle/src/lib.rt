@@ -117,11 +117,12 @@ fn rectangle_at(b: u64, south: i64, north: i64) -> RectangleAnswer
     zones_of(b, s, n)
 }
 
-// The zones that share a stretch of latitude with the rectangle from south to north, in ascending number, at scale 1:S. Refuses 1, south 4, north 4, 16.
-pub fn rectangle(scale: u64, south: i64, north: i64) -> RectangleAnswer
-    ensures { λ r. ⌜ r ≡ rectangleOf scale south north ⌝ }
+// The zones that share a stretch of latitude with the rectangle from south to north, in ascending number, at a scale and a factor.
+// Refuses 1, 17, 1, south 4, north 4, 16.
+pub fn rectangle(scale: u64, factor: u64, south: i64, north: i64) -> RectangleAnswer
+    ensures { λ r. ⌜ r ≡ rectangleOf scale factor south north ⌝ }
 {
-    match arc::b_constant(scale) {
+    match arc::b_constant(scale, factor) {
         ConstantAnswer::Pixels(b) => rectangle_at(b, south, north),
         ConstantAnswer::Refused(r) => no_rectangle(r),
     }

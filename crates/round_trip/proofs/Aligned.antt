@@ -9,6 +9,7 @@ use lib.IntN.{ℤ}
 use lib.ListN.{length, take}
 use borrow.Author.Tests.{le-leb}
 use Rattle.whole.specs.Whole.{outside}
+use Rattle.arc.specs.declared.Series.{Series}
 use Rattle.arc.specs.declared.SpacingAnswer.{SpacingAnswer}
 use Rattle.arc.specs.Refusals.{refusal}
 use Rattle.arc.specs.Zones.{half, quarter, isPolar}
@@ -49,11 +50,11 @@ answered zone a b lat lon o e = go (isPolar zone) (outside quarter lat) (outside
     go false false false x y z e = record { no-pole = x; lat-in = y; lon-in = z; is-origin = cc }
 
 module _
-    (scale zone a b : ℕ) (lat lon : ℤ) (o : Origin) (r : Record)
-    (s : spacingOf scale zone ≡ SpacingAnswer.Constants a b) (l : 10000 ≤ scale) (n : Answered zone a b lat lon o) (f : Fits a b o r)
+    (series : Series) (a b : ℕ) (lat lon : ℤ) (o : Origin) (r : Record)
+    (s : spacingOf series ≡ SpacingAnswer.Constants a b) (l : 10000 ≤ series .scale) (n : Answered (series .zone) a b lat lon o) (f : Fits a b o r)
   where
     grids : Grids a b
-    grids = answered-grids scale zone a b s
+    grids = answered-grids series a b s
 
     on-grid : onGrid a b (o .n) (o .m) ≡ true
     on-grid = rw (n .is-origin) at (aligned-on-grid a b (grids .columns) (grids .rows) lat lon (n .lat-in) (n .lon-in))
@@ -71,8 +72,8 @@ module _
           extents-hold = f .extents-hold;
         }
 
-    reads : ReadBack scale zone r (cardText a b r)
-    reads = read-back a b r grids good (f .bad-twelve) scale zone s (n .no-pole)
+    reads : ReadBack series r (cardText a b r)
+    reads = read-back a b r grids good (f .bad-twelve) series s (n .no-pole)
 
     lso-same : bytesOf LSO (cardText a b r) ≡ angleText 3 (o .lso)
     lso-same = lso-text a b r grids good (f .bad-twelve) ∙ ap (angleText 3) (ap (storedAngle a) (f .at-m) ∙ sym (angles .lso-stored))
@@ -80,12 +81,12 @@ module _
     pso-same : bytesOf PSO (cardText a b r) ≡ angleText 2 (o .pso)
     pso-same = pso-text a b r grids good (f .bad-twelve) ∙ ap (angleText 2) (ap (storedAngle b) (f .at-n) ∙ sym (angles .pso-stored))
 
-    carried : (out : List ℕ) → 98 ≤ length out → Carried scale zone o r out (take 98 (outOf scale zone r out))
+    carried : (out : List ℕ) → 98 ≤ length out → Carried series o r out (take 98 (outOf series r out))
     carried out h =
-        let w : Writes scale zone r out a b = record { spacing = written-from scale zone l ∙ s; no-pole = n .no-pole; room = h; is-good = good } in
-        rw (text-out scale zone r out a b w (long a b r grids good (f .bad-twelve)))
+        let w : Writes series r out a b = record { spacing = written-from series l ∙ s; no-pole = n .no-pole; room = h; is-good = good } in
+        rw (text-out series r out a b w (long a b r grids good (f .bad-twelve)))
         (record {
-          written = is-written scale zone r out a b w;
+          written = is-written series r out a b w;
           back = reads;
           same-n = ap (λ (x : Record). x .n) (reads .same) ∙ f .at-n;
           same-m = ap (λ (x : Record). x .m) (reads .same) ∙ f .at-m;
@@ -94,6 +95,6 @@ module _
         })
 
 pub aligned-back : AlignedBack
-aligned-back scale zone a b lat lon o r out s e f h =
-    let l = aligned-scale scale zone lat lon o e in
-    carried scale zone a b lat lon o r s l (answered zone a b lat lon o (rw (written-from scale zone l ∙ s) at e)) f out h
+aligned-back series a b lat lon o r out s e f h =
+    let l = aligned-scale series lat lon o e in
+    carried series a b lat lon o r s l (answered (series .zone) a b lat lon o (rw (written-from series l ∙ s) at e)) f out h

@@ -10,6 +10,7 @@ use lib.Dec.{eqb}
 use lib.IntN.{ℤ, natAbs}
 use lib.ListN.{length, getD}
 use Rattle.whole.specs.Whole.{outside}
+use Rattle.arc.specs.declared.Series.{Series}
 use Rattle.arc.specs.declared.Verdict.{Verdict}
 use Rattle.arc.specs.declared.SpacingAnswer.{SpacingAnswer}
 use Rattle.arc.specs.Zones.{half, quarter, isPolar}
@@ -105,9 +106,9 @@ module _ (a b : ℕ) (r : Record) (g : Grids a b) (ok : Good a b r) (twelve : le
   unfolding layout valuesOf
   brv-back = digits-back BRV b (text 2 (omega arith)) (omega (arith, g .rows .most))
 
-  module _ (scale zone : ℕ) where
+  module _ (series : Series) where
     abbrev k : Card
-    k = cardOf scale zone a b (r .n) (r .m) card
+    k = cardOf series a b (r .n) (r .m) card
 
     same : recordOf k ≡ r
     unfolding cardOf layout valuesOf
@@ -131,12 +132,12 @@ module _ (a b : ℕ) (r : Record) (g : Grids a b) (ok : Good a b r) (twelve : le
     unfolding cardOf
     extents-back = ap (extents a b) same ∙ ok .extents-hold
 
-    pub read-back : spacingOf scale zone ≡ SpacingAnswer.Constants a b → isPolar zone ≡ false → ReadBack scale zone r card
+    pub read-back : spacingOf series ≡ SpacingAnswer.Constants a b → isPolar (series .zone) ≡ false → ReadBack series r card
     unfolding cardOf
     read-back e p =
         record {
           card = k;
-          read = to-read scale zone card k
+          read = to-read series card k
               (record {
                 a = a;
                 b = b;
@@ -153,19 +154,18 @@ module _ (a b : ℕ) (r : Record) (g : Grids a b) (ok : Good a b r) (twelve : le
                 extents = extents-back;
                 card = refl;
               });
-          of-scale = refl;
-          of-zone = refl;
+          of-series = refl;
           same = same;
         }
 
 pub reads-back : ReadsBack
-reads-back scale zone r out twelve e =
-    let v = inverted scale zone r out e in
+reads-back series r out twelve e =
+    let v = inverted series r out e in
     let w = v .writes in
-    let g = writing-grids scale zone (v .a) (v .b) (w .spacing) in
-    let sp = writing-spacing scale zone (v .a) (v .b) (w .spacing) in
-    rw (text-out scale zone r out (v .a) (v .b) w (long (v .a) (v .b) r g (w .is-good) twelve))
-    (read-back (v .a) (v .b) r g (w .is-good) twelve scale zone sp (w .no-pole))
+    let g = writing-grids series (v .a) (v .b) (w .spacing) in
+    let sp = writing-spacing series (v .a) (v .b) (w .spacing) in
+    rw (text-out series r out (v .a) (v .b) w (long (v .a) (v .b) r g (w .is-good) twelve))
+    (read-back (v .a) (v .b) r g (w .is-good) twelve series sp (w .no-pole))
 
 pub text-read-back : TextReadBack
-text-read-back scale zone a b r twelve s p e = read-back a b r (answered-grids scale zone a b s) (good a b r e) twelve scale zone s p
+text-read-back series a b r twelve s p e = read-back a b r (answered-grids series a b s) (good a b r e) twelve series s p

@@ -10,6 +10,7 @@ use lib.ListN.{length, take, drop}
 use lib.Seq.{take-at}
 use borrow.Author.Tests.{leb-true, le-leb, not-true}
 use Rattle.whole.specs.Whole.{outside}
+use Rattle.arc.specs.declared.Series.{Series}
 use Rattle.arc.specs.declared.Verdict.{Verdict}
 use Rattle.arc.specs.declared.SpacingAnswer.{SpacingAnswer}
 use Rattle.arc.specs.Refusals.{refusal}
@@ -78,38 +79,38 @@ sizes a b r g =
 
 -- ---- the questions
 
-pub record Writes (scale zone : ℕ) (r : Record) (out : List ℕ) (a b : ℕ) : Type 0 where
-  pub spacing : spacingForWriting scale zone ≡ SpacingAnswer.Constants a b
-  pub no-pole : isPolar zone ≡ false
+pub record Writes (series : Series) (r : Record) (out : List ℕ) (a b : ℕ) : Type 0 where
+  pub spacing : spacingForWriting series ≡ SpacingAnswer.Constants a b
+  pub no-pole : isPolar (series .zone) ≡ false
   pub room : 98 ≤ length out
   pub is-good : Good a b r
 
-module _ (scale zone : ℕ) (r : Record) (out : List ℕ) where
+module _ (series : Series) (r : Record) (out : List ℕ) where
   pub record Written : Type 0 where
     pub a : ℕ
     pub b : ℕ
-    pub writes : Writes scale zone r out a b
+    pub writes : Writes series r out a b
 
-  pub inverted : writeOf scale zone r out ≡ Verdict.Accepted → Written
+  pub inverted : writeOf series r out ≡ Verdict.Accepted → Written
   unfolding writeOf
-  inverted e = go (spacingForWriting scale zone) refl e
+  inverted e = go (spacingForWriting series) refl e
     where
-      in-room : (a b : ℕ) → spacingForWriting scale zone ≡ SpacingAnswer.Constants a b → (p q : Bool) → isPolar zone ≡ p → leb 98 (length out) ≡ q
+      in-room : (a b : ℕ) → spacingForWriting series ≡ SpacingAnswer.Constants a b → (p q : Bool) → isPolar (series .zone) ≡ p → leb 98 (length out) ≡ q
           → cond p (Verdict.Refused (refusal 3)) (cond q (first (recordTests a b r)) (Verdict.Refused (refusal 6))) ≡ Verdict.Accepted → Written
       in-room a b s true q i j k = let z : _≡_ {A = ℕ} 0 1 = cc in absurd (omega arith)
       in-room a b s false false i j k = let z : _≡_ {A = ℕ} 0 1 = cc in absurd (omega arith)
       in-room a b s false true i j k =
           record { a = a; b = b; writes = record { spacing = s; no-pole = i; room = leb-true 98 (length out) j; is-good = good a b r k } }
 
-      go : (x : SpacingAnswer) → spacingForWriting scale zone ≡ x → writeIn zone x r (length out) ≡ Verdict.Accepted → Written
-      go (SpacingAnswer.Constants a b) s k = in-room a b s (isPolar zone) (leb 98 (length out)) refl refl k
+      go : (x : SpacingAnswer) → spacingForWriting series ≡ x → writeIn (series .zone) x r (length out) ≡ Verdict.Accepted → Written
+      go (SpacingAnswer.Constants a b) s k = in-room a b s (isPolar (series .zone)) (leb 98 (length out)) refl refl k
       go (SpacingAnswer.Refused f) s k = let z : _≡_ {A = ℕ} 0 1 = cc in absurd (omega arith)
 
-  module _ (a b : ℕ) (w : Writes scale zone r out a b) where
-    pub is-written : writeOf scale zone r out ≡ Verdict.Accepted
+  module _ (a b : ℕ) (w : Writes series r out a b) where
+    pub is-written : writeOf series r out ≡ Verdict.Accepted
     unfolding writeOf
     is-written = rw (w .spacing, w .no-pole, le-leb 98 (length out) (w .room)) (accepts a b r (w .is-good))
 
-    pub text-out : length (cardText a b r) ≡ 98 → take 98 (outOf scale zone r out) ≡ cardText a b r
+    pub text-out : length (cardText a b r) ≡ 98 → take 98 (outOf series r out) ≡ cardText a b r
     unfolding outOf
     text-out l = rw (is-written, w .spacing) (take-at (cardText a b r) (drop (length (cardText a b r)) out) 98 l)

@@ -8,6 +8,7 @@ use native.Mathlib.Omega.{arith}
 use lib.Dec.{leb, eqb}
 use lib.ListN.{length, getD, take}
 use borrow.Author.Tests.{eqb-true}
+use Rattle.arc.specs.declared.Series.{Series}
 use Rattle.arc.specs.Zones.{half, quarter}
 use Rattle.arc.proofs.TownScales.{written-from}
 use Rattle.card.specs.declared.Card.{Card}
@@ -29,10 +30,10 @@ flag-byte : (x : ℕ) (t : Bool) → eqb x 89 ≡ t → isFlag x ≡ true → x 
 flag-byte x true q e = eqb-true x 89 q
 flag-byte x false q e = eqb-true x 78 (rw q at e)
 
-module _ (scale zone : ℕ) (s : List ℕ) (k : Card) (d : ReadTo scale zone s k) where
+module _ (series : Series) (s : List ℕ) (k : Card) (d : ReadTo series s k) where
   -- the card's value, as it is read
   abbrev c : Card
-  c = cardOf scale zone (d .a) (d .b) (d .n) (d .m) s
+  c = cardOf series (d .a) (d .b) (d .n) (d .m) s
 
   -- what passed
   right : (i : ℕ) → i < 20 → RightIn s (getD layout i STR)
@@ -104,23 +105,23 @@ module _ (scale zone : ℕ) (s : List ℕ) (k : Card) (d : ReadTo scale zone s k
         extents-hold = d .extents;
       }
 
-  pub back : (out : List ℕ) → 10000 ≤ scale → 98 ≤ length out → WrittenBack scale zone c s out
+  pub back : (out : List ℕ) → 10000 ≤ series .scale → 98 ≤ length out → WrittenBack series c s out
   back out g h =
-      let w : Writes scale zone (recordOf c) out (d .a) (d .b) =
-      record { spacing = written-from scale zone g ∙ d .spacing; no-pole = d .not-polar; room = h; is-good = good } in
+      let w : Writes series (recordOf c) out (d .a) (d .b) =
+      record { spacing = written-from series g ∙ d .spacing; no-pole = d .not-polar; room = h; is-good = good } in
       let l : length (cardText (d .a) (d .b) (recordOf c)) ≡ 98 = ap length text-same ∙ d .long in
       record {
-        written = is-written scale zone (recordOf c) out (d .a) (d .b) w;
-        same = text-out scale zone (recordOf c) out (d .a) (d .b) w l ∙ text-same;
+        written = is-written series (recordOf c) out (d .a) (d .b) w;
+        same = text-out series (recordOf c) out (d .a) (d .b) w l ∙ text-same;
       }
 
 pub writes-back : WritesBack
-writes-back scale zone s k out e g h =
-    let d = read-to scale zone s k e in
-    rw (← d .card) (back scale zone s k d out g h)
+writes-back series s k out e g h =
+    let d = read-to series s k e in
+    rw (← d .card) (back series s k d out g h)
 
 pub read-is-text : ReadIsText
 unfolding cardOf
-read-is-text scale zone s k e =
-    let d = read-to scale zone s k e in
-    rw (← d .card) (text-same scale zone s k d)
+read-is-text series s k e =
+    let d = read-to series s k e in
+    rw (← d .card) (text-same series s k d)

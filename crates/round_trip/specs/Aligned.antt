@@ -9,6 +9,7 @@ use mathlib.Core.Bool.{true}
 use Prim.Native.Nat.{ℕ, _≤_}
 use lib.IntN.{ℤ}
 use lib.ListN.{length, take}
+use Rattle.arc.specs.declared.Series.{Series}
 use Rattle.arc.specs.declared.Verdict.{Verdict}
 use Rattle.arc.specs.declared.SpacingAnswer.{SpacingAnswer}
 use Rattle.arc.specs.Spacing.{spacingOf}
@@ -34,9 +35,9 @@ pub record Fits (a b : ℕ) (o : Origin) (r : Record) : Type 0 where
   pub extents-hold : extentsHold a b (r .n) (r .nul) (r .nus) (r .nll) (r .nls) (r .nfl) (r .nfc) ≡ true
 
 -- s being what is written into out
-pub record Carried (scale zone : ℕ) (o : Origin) (r : Record) (out s : List ℕ) : Type 0 where
-  pub written : writeOf scale zone r out ≡ Verdict.Accepted
-  pub back : ReadBack scale zone r s
+pub record Carried (series : Series) (o : Origin) (r : Record) (out s : List ℕ) : Type 0 where
+  pub written : writeOf series r out ≡ Verdict.Accepted
+  pub back : ReadBack series r s
   pub same-n : back .card .n ≡ o .n
   pub same-m : back .card .m ≡ o .m
   pub lso : bytesOf LSO s ≡ angleText 3 (o .lso)
@@ -45,6 +46,6 @@ pub record Carried (scale zone : ℕ) (o : Origin) (r : Record) (out s : List �
 -- any upper left point that is aligned, any record at its origin, any output with room
 abbrev pub AlignedBack : Type 0
 AlignedBack =
-    (scale zone a b : ℕ) (lat lon : ℤ) (o : Origin) (r : Record) (out : List ℕ) → spacingOf scale zone ≡ SpacingAnswer.Constants a b
-    → alignOf scale zone lat lon ≡ OriginAnswer.Aligned o → Fits a b o r → 98 ≤ length out
-    → Carried scale zone o r out (take 98 (outOf scale zone r out))
+    (series : Series) (a b : ℕ) (lat lon : ℤ) (o : Origin) (r : Record) (out : List ℕ) → spacingOf series ≡ SpacingAnswer.Constants a b
+    → alignOf series lat lon ≡ OriginAnswer.Aligned o → Fits a b o r → 98 ≤ length out
+    → Carried series o r out (take 98 (outOf series r out))

@@ -1,13 +1,16 @@
 -- Laws of the nearest whole number, in naturals: it is within a half, the only one, and a whole shift moves it along.
 -- From a spacing to a finer one and back is the same number again. Assumes nothing.
-use mathlib.Core.Path.{_≡_, sym, ap, _∙_}
-use Prim.Native.Nat.{ℕ, _+_, _*_, _/_, _%_, _≤_, _<_}
+use mathlib.Core.Path.{_≡_, refl, sym, ap, _∙_}
+use mathlib.Core.Bool.{Bool, true, false}
+use Prim.Native.Nat.{ℕ, _+_, _-_, _*_, _/_, _%_, _≤_, _<_}
 use native.Mathlib.Nat.{add-mul, mul-assoc, mul-left-comm, add-mul-mod-self-right, add-mul-div-right, div-eq-of-lt-le, div-add-mod', lt-div-mul-add}
-use native.Mathlib.Nat.{div-mul-le-self, lt-of-mul-lt-mul-right}
+use native.Mathlib.Nat.{div-mul-le-self, lt-of-mul-lt-mul-right, mul-le-mul-right}
 use native.Mathlib.Omega.{arith}
-use lib.IntN.{ℤ, pos, _+ℤ_, _*ℤ_}
+use borrow.Author.Tests.{ltb-true, ltb-false}
+use lib.Dec.{ltb}
+use lib.IntN.{ℤ, pos, natAbs, _+ℤ_, _-ℤ_, _*ℤ_}
 use Rattle.whole.specs.Whole.{nearest, near}
-use Rattle.whole.proofs.Signed.{Is, is-nat, is-add, is-lmul, is-same, is-floor}
+use Rattle.whole.proofs.Signed.{Is, over, under, is-parts, is-equal, is-nat, is-add, is-minus, is-times, is-size, is-lmul, is-same, is-floor}
 
 module _ (d : ℕ) (hd : 0 < d) where
   twice : (k : ℕ) → k * (2 * d) ≡ 2 * (k * d)
@@ -64,3 +67,44 @@ floor-modulo a d t h x =
     ∙ ap (λ (n : ℕ). n % a)
     (sym (add-mul-div-right (x % (a * d) + t) (x / (a * d) * a) h)
     ∙ ap (λ (n : ℕ). n / d) (omega (arith, div-add-mod' x (a * d), mul-assoc (x / (a * d)) a d)))
+
+-- a number less than half a step from x steps of d is nearer to them than to any other y steps
+module _ (d : ℕ) (z x y : ℤ) where
+  size : (w : ℤ) → natAbs (z -ℤ w *ℤ pos d) ≡ over z + under w * d - (under z + over w * d) + (under z + over w * d - (over z + under w * d))
+  size w =
+      is-size (z -ℤ w *ℤ pos d) (over z + under w * d) (under z + over w * d)
+      (is-minus z (w *ℤ pos d) (over z) (under z) (over w * d) (under w * d) (is-parts z) (is-times w d))
+
+  pub nearer : 2 * natAbs (z -ℤ x *ℤ pos d) < d → (y ≡ x → ⊥) → natAbs (z -ℤ x *ℤ pos d) < natAbs (z -ℤ y *ℤ pos d)
+  nearer h other = go (ltb (over x + under y) (over y + under x)) (ltb (over y + under x) (over x + under y)) refl refl
+    where
+      -- y is a step or more above, or below
+      go : (s t : Bool) → ltb (over x + under y) (over y + under x) ≡ s → ltb (over y + under x) (over x + under y) ≡ t
+          → natAbs (z -ℤ x *ℤ pos d) < natAbs (z -ℤ y *ℤ pos d)
+      go true t e f =
+          let l : over x + under y + 1 ≤ over y + under x = omega (arith, ltb-true (over x + under y) (over y + under x) e) in
+          omega (
+            arith,
+            size x,
+            size y,
+            mul-le-mul-right d l,
+            add-mul (over x + under y) 1 d,
+            add-mul (over x) (under y) d,
+            add-mul (over y) (under x) d,
+          )
+      go false true e f =
+          let l : over y + under x + 1 ≤ over x + under y = omega (arith, ltb-true (over y + under x) (over x + under y) f) in
+          omega (
+            arith,
+            size x,
+            size y,
+            mul-le-mul-right d l,
+            add-mul (over y + under x) 1 d,
+            add-mul (over x) (under y) d,
+            add-mul (over y) (under x) d,
+          )
+      go false false e f =
+          absurd
+          (other
+          (is-equal y x (over y) (under y) (over x) (under x) (is-parts y) (is-parts x)
+          (omega (arith, ltb-false (over x + under y) (over y + under x) e, ltb-false (over y + under x) (over x + under y) f))))

@@ -14,7 +14,8 @@ use Rattle.whole.specs.Whole.{outside}
 use Rattle.whole.proofs.Held.{outsides}
 use Rattle.arc.specs.Zones.{circle, quarter, Row, table, tableRow, from, to, rowAt}
 use Rattle.arc.specs.declared.ConstantAnswer.{ConstantAnswer}
-use Rattle.arc.specs.Spacing.{isScale, rowsOf, rowUnit, spacingAt}
+use Rattle.arc.specs.Scales.{isScale}
+use Rattle.arc.specs.Spacing.{rowsOf, rowUnit, spacingAt}
 use Rattle.arc.proofs.Spaced.{grid, rows-least}
 use Rattle.arc.proofs.Answered.{rows-from}
 use Rattle.whole.specs.Lists.{those, downFrom}
@@ -131,5 +132,5 @@ rowed b lat g e =
 pub scale-rows : (s : ℕ) → isScale s ≡ true → Rows (spacingAt rowUnit s)
 scale-rows s g = record { least = rows-least s g; most = grid rowUnit s g (record { least = omega arith; most = omega arith }) .most }
 
-pub rows-of : (s b : ℕ) → rowsOf s ≡ ConstantAnswer.Pixels b → Rows b
-rows-of s b e = let f = rows-from s b e in rw (f .1) (scale-rows s (f .0))
+pub rows-of : (s factor b : ℕ) → rowsOf s factor ≡ ConstantAnswer.Pixels b → Rows b
+rows-of s factor b e = let f = rows-from s factor b e in rw (f .2) (scale-rows (f .0) (f .1 .served))

@@ -3,7 +3,7 @@
 --     covers b lat zone  the zone covers the latitude
 --     zonesEquatorward lat  the zones on the Equator's side of the basic zone, nearest to it first
 --     coverZones b lat   the cover list
---     coverOf S lat      what `cover` answers: refusals 1, 4
+--     coverOf S factor lat  what `cover` answers: refusals 1, 17, 1, 4
 use mathlib.Core.Path.{_≡_}
 use Prim.Native.Nat.{ℕ, _-_, _*_, _≤_}
 use mathlib.Core.Bool.{Bool, true, false, cond, not, _&&_, _||_}
@@ -18,7 +18,8 @@ use Rattle.arc.specs.declared.Refusal.{Refusal}
 use Rattle.arc.specs.declared.Verdict.{Verdict}
 use Rattle.arc.specs.Refusals.{refusal, Report, reportIn}
 use Rattle.arc.specs.Zones.{circle, quarter, Row, tableRow, isPolar, to}
-use Rattle.arc.specs.Spacing.{isScale, onConstant, rowsOf, rowUnit, spacingAt}
+use Rattle.arc.specs.Scales.{isScale}
+use Rattle.arc.specs.Spacing.{onConstant, rowsOf, rowUnit, spacingAt}
 use Rattle.zones.specs.declared.CoverAnswer.{CoverAnswer}
 use Rattle.whole.specs.Lists.{those, downFrom, padded}
 use Rattle.zones.specs.Basic.{holdsSize, zoneOn, basicZone}
@@ -56,9 +57,9 @@ refusedCover r = record { verdict = Verdict.Refused r; length = 0; zones = repli
 abbrev pub coverAt : ℕ → ℤ → CoverAnswer
 coverAt b lat = cond (outside quarter lat) (refusedCover (refusal 4)) (acceptedCover (coverZones b lat))
 
--- 1, 4
-abbrev pub coverOf : ℕ → ℤ → CoverAnswer
-coverOf s lat = onConstant (rowsOf s) refusedCover (λ b. coverAt b lat)
+-- 1, 17, 1, then 4 (02, E4)
+abbrev pub coverOf : ℕ → ℕ → ℤ → CoverAnswer
+coverOf s factor lat = onConstant (rowsOf s factor) refusedCover (λ b. coverAt b lat)
 
 -- the paper's number, place and values: the length and the six slots
 abbrev pub coverReport : CoverAnswer → Report

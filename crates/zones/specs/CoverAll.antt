@@ -7,7 +7,8 @@ use lib.IntN.{ℤ}
 use Rattle.whole.specs.Whole.{outside}
 use Rattle.whole.specs.Lists.{occurs}
 use Rattle.arc.specs.Zones.{quarter}
-use Rattle.arc.specs.Spacing.{isScale, rowUnit, spacingAt}
+use Rattle.arc.specs.Scales.{isScale}
+use Rattle.arc.specs.Spacing.{rowUnit, spacingAt}
 use Rattle.zones.specs.Cover.{covers, coverZones}
 
 -- at every scale, for every latitude in range and every number: the list leaves out no zone of the eighteen that covers the latitude, and has no other

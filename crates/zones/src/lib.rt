@@ -125,11 +125,11 @@ fn cover_from(b: u64, first: u64, row: usize, size: u64) -> CoverAnswer
     }
 }
 
-// The zones that cover a latitude at scale 1:S, the basic zone first, then equatorward. Refuses 1, 4.
-pub fn cover(scale: u64, lat: i64) -> CoverAnswer
-    ensures { λ r. ⌜ r ≡ coverOf scale lat ⌝ }
+// The zones that cover a latitude at a scale and a factor, the basic zone first, then equatorward. Refuses 1, 17, 1, 4.
+pub fn cover(scale: u64, factor: u64, lat: i64) -> CoverAnswer
+    ensures { λ r. ⌜ r ≡ coverOf scale factor lat ⌝ }
 {
-    match arc::b_constant(scale) {
+    match arc::b_constant(scale, factor) {
         ConstantAnswer::Pixels(b) => match locate(lat) {
             Located::At { zone, row, size } => cover_from(b, zone - row, row as usize, size),
             Located::Outside => no_cover(arc::refused(4)),

@@ -10,13 +10,13 @@ returns : tie.Need-returns
 returns c =
     let a = c .before .before .before .args in
     let e = sym (c .before .before .is-town-scale .ensures) ∙ c .before .if1 .taken in
-    ap SpacingAnswer.Refused (c .refused .ensures) ∙ sym (at-town (a .scale) (a .zone) e)
+    ap SpacingAnswer.Refused (c .refused .ensures) ∙ sym (at-town (a .series) e)
 
 returns-2 : tie.Need-returns-2
 returns-2 c =
     let a = c .before .before .before .args in
     let e = sym (c .before .before .is-town-scale .ensures) ∙ c .before .if1 .left in
-    c .spacing .ensures ∙ sym (at-other (a .scale) (a .zone) e)
+    c .spacing .ensures ∙ sym (at-other (a .series) e)
 
 pub spacing-for-writing-spec : {M : Type 1} → statement M
 spacing-for-writing-spec =

@@ -9,7 +9,7 @@ use Rattle.card_text.proofs.read_card.Tie as tie
 read-spaced-requires : tie.Need-read-spaced-requires
 read-spaced-requires c κs =
     let s = c .before .before .before .before .before in
-    let g = answered-grids (s .args .scale) (s .args .zone) _ _ (sym (c .before .before .before .spacing .ensures) ∙ c .before .a .given .1) in
+    let g = answered-grids (s .args .series) _ _ (sym (c .before .before .before .spacing .ensures) ∙ c .before .a .given .1) in
     (g .columns, g .rows)
 
 returns : tie.Need-returns

@@ -17,15 +17,15 @@ use Rattle.card_text.proofs.read_spaced.Tie as tie
 abbrev start : tie.After-fields-in → tie.Start
 start c = c .before .before .before .before .before
 
-not-polar : (c : tie.Else1) → isPolar (c .before .before .before .args .zone) ≡ false
+not-polar : (c : tie.Else1) → isPolar (c .before .before .before .args .series .zone) ≡ false
 not-polar c = sym (c .before .is-polar .ensures) ∙ c .if1 .left
 
 walked : (c : tie.After-fields-in) {v : Verdict} → c .fields-in .result .verdict ≡ v → walk layout (start c .args .bytes .now) ≡ v
 walked c e = sym (c .fields-in .ensures .walks) ∙ e
 
 past : (c : tie.After-fields-in) {v : Verdict} → c .fields-in .result .verdict ≡ v
-    → readIn (start c .args .scale) (start c .args .zone) (SpacingAnswer.Constants (start c .args .a) (start c .args .b)) (start c .args .bytes .now)
-    ≡ onVerdict v refusedCard (withValues (start c .args .scale) (start c .args .zone) (start c .args .a) (start c .args .b) (start c .args .bytes .now))
+    → readIn (start c .args .series) (SpacingAnswer.Constants (start c .args .a) (start c .args .b)) (start c .args .bytes .now)
+    ≡ onVerdict v refusedCard (withValues (start c .args .series) (start c .args .a) (start c .args .b) (start c .args .bytes .now))
 unfolding readIn
 past c e = rw (not-polar (c .before .before), eq-eqb (length (start c .args .bytes .now)) 98 (c .before .if2 .left), walked c e)
 

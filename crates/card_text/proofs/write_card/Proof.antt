@@ -10,7 +10,7 @@ write-spaced-requires : tie.Need-write-spaced-requires
 write-spaced-requires c κs =
     let s = c .before .before .before .before .before .before in
     let g =
-    writing-grids (s .args .scale) (s .args .zone) _ _
+    writing-grids (s .args .series) _ _
     (sym (c .before .before .before .before .spacing-for-writing .ensures) ∙ c .before .before .a .given .1) in
     (g .columns, g .rows)
 

@@ -8,7 +8,7 @@ use Rattle.lists.specs.declared.Pair.{Pair}
 use Rattle.lists.specs.Steps.{pairTold}
 use Rattle.lists.specs.Lists.{pairAt, askedReport, reportAt}
 use Rattle.lists.proofs.Filling.{Filled, filled-length, filled-numbers, filled-room, filled-next, report-values}
-use Rattle.lists.proofs.Told.{pair-asked}
+use Rattle.card.proofs.Answers.{pair-asked}
 use Rattle.lists.proofs.fill.Statement.{statement}
 use Rattle.lists.proofs.fill.Tie as tie
 

@@ -10,14 +10,14 @@ use Rattle.origin.proofs.align.Statement.{statement}
 use Rattle.origin.proofs.align.Tie as tie
 
 spaced : (c : tie.After-known-told)
-    → spacingForWriting (c .before .before .before .before .args .scale) (c .before .before .before .before .args .zone)
+    → spacingForWriting (c .before .before .before .before .args .series)
     ≡ SpacingAnswer.Constants (c .before .a .given .0 .0) (c .before .a .given .0 .1 .0)
 spaced c = sym (c .before .before .before .spacing-for-writing .ensures) ∙ c .before .a .given .1
 
 align-in-requires : tie.Need-align-in-requires
 align-in-requires c κs =
     let s = c .before .before .before .before in
-    let g = writing-grids (s .args .scale) (s .args .zone) _ _ (spaced c) in
+    let g = writing-grids (s .args .series) _ _ (spaced c) in
     (g .columns, g .rows)
 
 returns : tie.Need-returns

@@ -9,8 +9,8 @@ use Rattle.rectangle.proofs.rectangle.Statement.{statement}
 use Rattle.rectangle.proofs.rectangle.Tie as tie
 
 rectangle-at-requires : tie.Need-rectangle-at-requires
-rectangle-at-requires c κs =
-    rows-of (c .before .before .before .before .args .scale) _
+rectangle-at-requires c κs = let a = c .before .before .before .before .args in
+    rows-of (a .scale) (a .factor) _
     (sym (c .before .before .before .b-constant .ensures) ∙ c .before .b .given .1)
 
 returns : tie.Need-returns

@@ -11,7 +11,8 @@ use borrow.Author.Needs.{needs}
 use Rattle.zones.proofs.cover.Statement.{statement}
 use Rattle.zones.proofs.cover.Tie as tie
 
-known : (c : tie.After-known-told) → rowsOf (c .before .before .before .before .args .scale) ≡ ConstantAnswer.Pixels (c .before .b .given .0 .0)
+known : (c : tie.After-known-told) → let a = c .before .before .before .before .args in
+    rowsOf (a .scale) (a .factor) ≡ ConstantAnswer.Pixels (c .before .b .given .0 .0)
 known c = sym (c .before .before .before .b-constant .ensures) ∙ c .before .b .given .1
 
 lies : (c : tie.After-known-told2) → let g = c .before .zone .given .0 in
@@ -30,7 +31,7 @@ first-is c = let z = c .before .before .before .before .before .before .before .
 cover-from-requires : tie.Need-cover-from-requires
 cover-from-requires c κs = let a = c .before .before .before .before .before .before .before .before .args in
     let l = lies c in
-    rw (first-is c .1, l .is-row, l .is-size) (rowed _ (a .lat) (rows-of (a .scale) _ (known (c .before .before .before .before))) (l .test))
+    rw (first-is c .1, l .is-row, l .is-size) (rowed _ (a .lat) (rows-of (a .scale) (a .factor) _ (known (c .before .before .before .before))) (l .test))
 
 returns : tie.Need-returns
 returns c = let a = c .before .before .before .before .before .before .before .before .before .args in

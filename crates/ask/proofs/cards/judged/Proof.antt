@@ -5,7 +5,7 @@ use Rattle.ask.proofs.cards.judged.Statement.{statement}
 use Rattle.ask.proofs.cards.judged.Tie as tie
 
 judge-pixel-requires : tie.Need-judge-pixel-requires
-judge-pixel-requires c κs = card-known _ _ _ (c .before .before .before .read-card .ensures) (c .enum-told .given .1)
+judge-pixel-requires c κs = card-known _ _ (c .before .before .before .read-card .ensures) (c .enum-told .given .1)
 
 pub judged-spec : {M : Type 1} → statement M
 judged-spec =

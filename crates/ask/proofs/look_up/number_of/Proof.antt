@@ -5,7 +5,7 @@ use Rattle.ask.proofs.look_up.number_of.Statement.{statement}
 use Rattle.ask.proofs.look_up.number_of.Tie as tie
 
 stored-number-requires : tie.Need-stored-number-requires
-stored-number-requires c κs = card-known _ _ _ (c .before .before .before .read-card .ensures) (c .enum-told .given .1)
+stored-number-requires c κs = card-known _ _ (c .before .before .before .read-card .ensures) (c .enum-told .given .1)
 
 pub number-of-spec : {M : Type 1} → statement M
 number-of-spec =

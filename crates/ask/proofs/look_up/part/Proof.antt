@@ -5,7 +5,7 @@ use Rattle.ask.proofs.look_up.part.Statement.{statement}
 use Rattle.ask.proofs.look_up.part.Tie as tie
 
 tile-requires : tie.Need-tile-requires
-tile-requires c κs = card-known _ _ _ (c .before .before .before .read-card .ensures) (c .enum-told .given .1)
+tile-requires c κs = card-known _ _ (c .before .before .before .read-card .ensures) (c .enum-told .given .1)
 
 pub part-spec : {M : Type 1} → statement M
 part-spec =

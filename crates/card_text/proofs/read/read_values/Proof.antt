@@ -26,22 +26,22 @@ abbrev northward : tie.After-known-told2 → tie.After-known-told
 northward c = c .before .before .before .before
 
 abbrev spaced : tie.Start → Bool
-spaced s = eqb (getD (s .args .t6) 1 0) (s .args .a) && eqb (getD (s .args .t6) 2 0) (s .args .b)
+spaced s = eqb (getD (s .args .t5) 1 0) (s .args .a) && eqb (getD (s .args .t5) 2 0) (s .args .b)
 
 abbrev asked : tie.Start → Reading
-asked s = withValues (s .args .scale) (s .args .zone) (s .args .a) (s .args .b) (s .args .s .now)
+asked s = withValues (s .args .series) (s .args .a) (s .args .b) (s .args .s .now)
 
 -- the reading of an origin
 abbrev placed : tie.Start → Counted → Counted → Reading
 placed s north east =
-    withOrigin (s .args .scale) (s .args .zone) (s .args .a) (s .args .b) (s .args .s .now) (tileAt (s .args .b / 512) north) (tileAt (s .args .a / 256) east)
+    withOrigin (s .args .series) (s .args .a) (s .args .b) (s .args .s .now) (tileAt (s .args .b / 512) north) (tileAt (s .args .a / 256) east)
 
 values : (s : tie.Start) → asked s
-    ≡ cond (spaced s) (placed s (foundAt (s .args .b) (getD (s .args .t6) 4 0)) (foundAt (s .args .a) (getD (s .args .t6) 3 0))) (refusedCard (refusal 9))
-values s = values-are (s .pre .0) (s .pre .1 .0) (s .pre .1 .1) (s .args .scale) (s .args .zone)
+    ≡ cond (spaced s) (placed s (foundAt (s .args .b) (getD (s .args .t5) 4 0)) (foundAt (s .args .a) (getD (s .args .t5) 3 0))) (refusedCard (refusal 9))
+values s = values-are (s .pre .0) (s .pre .1 .0) (s .pre .1 .1) (s .args .series)
 
 with-north : (c : tie.After-known-told) → asked (start c)
-    ≡ placed (start c) (Counted.From (c .before .north .given .0 .0)) (foundAt (start c .args .a) (getD (start c .args .t6) 3 0))
+    ≡ placed (start c) (Counted.From (c .before .north .given .0 .0)) (foundAt (start c .args .a) (getD (start c .args .t5) 3 0))
 with-north c =
     rw (
       values (start c),
@@ -66,7 +66,7 @@ abbrev made : tie.After-extents-hold → Reading
 made c =
     let s = start (northward (eastward c)) in
     acceptedCard
-    (cardFrom (s .args .scale) (s .args .zone) (s .args .a) (s .args .b)
+    (cardFrom (s .args .series) (s .args .a) (s .args .b)
     (northward (eastward c) .before .north .given .0 .0) (eastward c .before .east .given .0 .0) (c .before .record-in .result))
 
 answer : (c : tie.After-extents-hold) {ok : Bool} → c .extents-hold .result ≡ ok
@@ -77,7 +77,7 @@ answer c q =
     let n = result-is (c .before .before .before .difference .ok) (c .before .before .before .difference .ensures) in
     let m = result-is (c .before .before .difference2 .ok) (c .before .before .difference2 .ensures) in
     rw (with-north (northward e), sym (e .before .before .before .tile-of2 .ensures) ∙ e .before .east .given .1)
-    (extents-are (s .args .scale) (s .args .zone) (s .args .a) (s .args .b) _ _ (s .args .s .now) _ _
+    (extents-are (s .args .series) (s .args .a) (s .args .b) _ _ (s .args .s .now) _ _
     (c .before .record-in .ensures ∙ ap₂ (λ (x y : ℤ). recordIn x y (s .args .s .now)) n m) (sym q ∙ c .extents-hold .ensures))
 
 returns : tie.Need-returns

@@ -2,7 +2,7 @@
 use mathlib.Core.Path.{ap, _∙_}
 use Rattle.card.specs.Grid.{pixelReport, pixelOf}
 use Rattle.card.proofs.Questions.{card-known}
-use Rattle.lists.proofs.Told.{pair-asked}
+use Rattle.card.proofs.Answers.{pair-asked}
 use borrow.Author.Needs.{needs}
 use Rattle.fordcask.proofs.cards.fordcask_pixel.Statement.{statement}
 use Rattle.fordcask.proofs.cards.fordcask_pixel.Tie as tie
@@ -10,7 +10,7 @@ use Rattle.fordcask.proofs.cards.fordcask_pixel.Tie as tie
 pixel-requires : tie.Need-pixel-requires
 pixel-requires c κs =
     let s = c .before .before .before .before .before in
-    card-known (s .args .scale) (s .args .zone) (s .args .card .now) (c .before .before .before .read-card .ensures) (c .enum-told .given .1)
+    card-known (s .args .series) (s .args .card .now) (c .before .before .before .read-card .ensures) (c .enum-told .given .1)
 
 returns : tie.Need-returns
 returns c =

@@ -16,8 +16,8 @@ flag false = refl
 returns : tie.Need-returns
 returns c =
     let x = c .before .before .before .before .before .read-card .result in
-    let n = toZ-ofZ w64 (x .card .n) (record { sfits = c .struct-told .given .1 .1 .1 .1 .0 .1 }) in
-    let m = toZ-ofZ w64 (x .card .m) (record { sfits = c .struct-told .given .1 .1 .1 .1 .1 .0 .1 }) in
+    let n = toZ-ofZ w64 (x .card .n) (record { sfits = c .struct-told .given .1 .1 .1 .0 .1 }) in
+    let m = toZ-ofZ w64 (x .card .m) (record { sfits = c .struct-told .given .1 .1 .1 .1 .0 .1 }) in
     rw (n, m, c .before .before .before .before .refusal .ensures, flag (x .card .tif))
     (ap cardParts (c .before .before .before .before .before .read-card .ensures))
 

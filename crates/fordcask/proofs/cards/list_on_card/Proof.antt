@@ -9,7 +9,7 @@ use Rattle.fordcask.proofs.cards.list_on_card.Tie as tie
 answer-list-requires : tie.Need-answer-list-requires
 answer-list-requires c κs =
     let s = c .before .before .before .before .before .before .before .before in
-    card-known (s .args .scale) (s .args .zone) (s .args .card .now) (c .before .before .before .before .before .read-card .ensures)
+    card-known (s .args .series) (s .args .card .now) (c .before .before .before .before .before .read-card .ensures)
     (c .before .before .enum-told .given .1)
 
 returns : tie.Need-returns

@@ -9,7 +9,7 @@ use Rattle.fordcask.proofs.indexes.fordcask_index_check.Tie as tie
 index-check-requires : tie.Need-index-check-requires
 index-check-requires c κs =
     let s = c .before .before .before .before .before .before .before .before in
-    card-known (s .args .scale) (s .args .zone) (s .args .card .now) (c .before .before .before .before .read-card .ensures)
+    card-known (s .args .series) (s .args .card .now) (c .before .before .before .before .read-card .ensures)
     (c .before .enum-told .given .1)
 
 returns : tie.Need-returns

@@ -14,13 +14,13 @@ use Rattle.fordcask.proofs.indexes.fordcask_tile.Tie as tie
 
 told : (c : tie.After-stored-number) → let s = c .before .before .before .before .before .before .before .before in
     c .stored-number .result
-    ≡ onCard (readOf (s .args .scale) (s .args .zone) (s .args .card .now)) NumberAnswer.Refused
+    ≡ onCard (readOf (s .args .series) (s .args .card .now)) NumberAnswer.Refused
     (λ (k : Card). numberOf k (s .args .index .now) (s .args .count) (s .args .store .now) (s .args .row) (s .args .column))
 told c =
     let s = c .before .before .before .before .before .before .before .before in
     c .stored-number .ensures
     ∙ number-plain _ (s .args .index .now) (s .args .count) (s .args .store .now) (s .args .row) (s .args .column) (s .fits .row) (s .fits .column)
-    ∙ card-answers (s .args .scale) (s .args .zone) (s .args .card .now) (c .before .before .before .before .read-card .ensures)
+    ∙ card-answers (s .args .series) (s .args .card .now) (c .before .before .before .before .read-card .ensures)
     NumberAnswer.Refused
     (λ (k : Card). numberOf k (s .args .index .now) (s .args .count) (s .args .store .now) (s .args .row) (s .args .column)) (c .before .enum-told .given .1)
 
@@ -38,13 +38,13 @@ held c =
 stored-number-requires : tie.Need-stored-number-requires
 stored-number-requires c κs =
     let s = c .before .before .before .before .before .before .before in
-    card-known (s .args .scale) (s .args .zone) (s .args .card .now) (c .before .before .before .read-card .ensures) (c .enum-told .given .1)
+    card-known (s .args .series) (s .args .card .now) (c .before .before .before .read-card .ensures) (c .enum-told .given .1)
 
-sub-t18 : tie.Need-sub-t18
-sub-t18 c = omega (arith, held c)
+sub-t17 : tie.Need-sub-t17
+sub-t17 c = omega (arith, held c)
 
-mul-t19 : tie.Need-mul-t19
-mul-t19 c =
+mul-t18 : tie.Need-mul-t18
+mul-t18 c =
     let s = c .before .before .before .before .before .before .before .before .before .before .before in omega (arith, held c)
 
 returns : tie.Need-returns
@@ -62,5 +62,5 @@ returns-3 c = rw (← c .before .before .before .before .before .read-card .ensu
 pub fordcask-tile-spec : {M : Type 1} → statement M
 fordcask-tile-spec =
     tie.close
-    (tie.spec (λ c κs. search needs) (λ c. search needs) stored-number-requires (λ c. search needs) sub-t18 mul-t19 (λ c. search needs)
+    (tie.spec (λ c κs. search needs) (λ c. search needs) stored-number-requires (λ c. search needs) sub-t17 mul-t18 (λ c. search needs)
     (λ c κs. search needs) (λ c. search needs) (λ c κs. search needs) returns returns-2 returns-3)

@@ -9,7 +9,7 @@ use Rattle.fordcask.proofs.indexes.fordcask_window.Tie as tie
 window-requires : tie.Need-window-requires
 window-requires c κs =
     let s = c .before .before .before .before .before .before in
-    card-known (s .args .scale) (s .args .zone) (s .args .card .now) (c .before .before .before .read-card .ensures) (c .enum-told .given .1)
+    card-known (s .args .series) (s .args .card .now) (c .before .before .before .read-card .ensures) (c .enum-told .given .1)
 
 returns : tie.Need-returns
 returns c =

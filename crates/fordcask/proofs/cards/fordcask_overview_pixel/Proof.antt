@@ -1,0 +1,41 @@
+-- An accepted chart is asked over the overview's card, and a refused one gives its refusal. Assumes nothing.
+use mathlib.Core.Path.{ap, _∙_}
+use mathlib.Core.List.{List}
+use Prim.Native.Nat.{ℕ}
+use lib.IntN.{ℤ}
+use Rattle.arc.specs.declared.Series.{Series}
+use Rattle.card.specs.declared.Card.{Card}
+use Rattle.card.specs.declared.PixelAnswer.{PixelAnswer}
+use Rattle.card.specs.Read.{readOf, onCard}
+use Rattle.card.specs.Grid.{pixelReport}
+use Rattle.card.specs.Overview.{overviewPixelOf}
+use Rattle.card.proofs.Answers.{pair-asked}
+use Rattle.card.proofs.Questions.{card-known}
+use borrow.Author.Needs.{needs}
+use Rattle.fordcask.proofs.cards.fordcask_overview_pixel.Statement.{statement}
+use Rattle.fordcask.proofs.cards.fordcask_overview_pixel.Tie as tie
+
+-- the overview's part of the question
+asked : Card → Series → List ℕ → ℤ → ℤ → PixelAnswer
+asked chart series card row column = onCard (readOf series card) PixelAnswer.Refused (λ k. overviewPixelOf chart k row column)
+
+pixel-on-requires : tie.Need-pixel-on-requires
+pixel-on-requires c κs =
+    let s = c .before .before .before .before .before .before in
+    card-known (s .args .series) (s .args .card .now) (c .before .before .before .read-card .ensures) (c .enum-told .given .1)
+
+returns : tie.Need-returns
+unfolding asked
+returns c =
+    let s = c .before .before .before .before .before .before .before .before in
+    rw (← c .before .before .before .before .before .read-card .ensures, c .before .before .enum-told .given .1)
+    (c .into-parts .ensures
+    ∙ ap pixelReport (c .before .pixel-on .ensures ∙ pair-asked (asked _ (s .args .overview) (s .args .overview-card .now)) (s .fits .row) (s .fits .column)))
+
+returns-2 : tie.Need-returns-2
+returns-2 c = rw (← c .before .before .before .before .before .read-card .ensures, c .before .before .verdict .given .1) (c .into-parts2 .ensures)
+
+pub fordcask-overview-pixel-spec : {M : Type 1} → statement M
+fordcask-overview-pixel-spec =
+    tie.close
+    (tie.spec (λ c κs. search needs) (λ c. search needs) pixel-on-requires (λ c κs. search needs) (λ c. search needs) (λ c κs. search needs) returns returns-2)
