@@ -58,12 +58,12 @@ fn read_set(question: &str, cards: &[Written]) {
 }
 
 fn read_plain(card: &Written) -> Result<Card, Refusal> {
-    plain::read::read_card(card.scale, card.zone, &card.bytes)
+    plain::read::read_card(card.series, &card.bytes)
 }
 
 fn read_ours(card: &Written) -> raw::Card {
     // SAFETY: the pointer and length are those of one array, which is only read.
-    unsafe { raw::fordcask_read_card(card.scale, card.zone, card.bytes.as_ptr(), CARD) }
+    unsafe { raw::fordcask_read_card(card.series, card.bytes.as_ptr(), CARD) }
 }
 
 fn answer(card: &raw::Card) -> Result<Card, Refusal> {
@@ -145,17 +145,16 @@ fn write_set(question: &str, sheets: &[Sheet]) {
 }
 
 fn write_plain(sheet: &Sheet, out: &mut [u8; CARD]) -> Refusal {
-    match plain::write::write_card(sheet.scale, sheet.zone, &sheet.record, out) {
+    match plain::write::write_card(sheet.series, &sheet.record, out) {
         Ok(()) => Refusal { number: 0, at: 0 },
         Err(refusal) => refusal,
     }
 }
 
 fn write_ours(sheet: &Sheet, record: &raw::Record, out: &mut [u8; CARD]) -> Refusal {
-    let (scale, zone) = (sheet.scale, sheet.zone);
+    let series = sheet.series;
     // SAFETY: the pointer and length are those of one array, lent for writing.
-    let done =
-        unsafe { raw::fordcask_write_card(scale, zone, *record, out.as_mut_ptr(), out.len()) };
+    let done = unsafe { raw::fordcask_write_card(series, *record, out.as_mut_ptr(), out.len()) };
     Refusal {
         number: done.number,
         at: done.at,

@@ -4,6 +4,7 @@
 use crate::plain::grid::{answer_list, in_range, Pair};
 use crate::plain::read::read_card;
 use crate::plain::{stored, Card, Refusal, H};
+use fordcask::Series;
 
 /// The geotransform of a card, both ways.
 struct Transform {
@@ -60,14 +61,13 @@ fn round(x: f64) -> i64 {
 
 #[inline(never)]
 pub fn positions(
-    scale: u64,
-    zone: u64,
+    series: Series,
     card: &[u8],
     pixels: &[i64],
     positions: &mut [i64],
     numbers: &mut [u32],
 ) -> Result<(), Refusal> {
-    let transform = Transform::new(read_card(scale, zone, card)?);
+    let transform = Transform::new(read_card(series, card)?);
     answer_list(pixels, positions, numbers, |row, column| {
         transform.position(row, column)
     })
@@ -75,14 +75,13 @@ pub fn positions(
 
 #[inline(never)]
 pub fn pixels(
-    scale: u64,
-    zone: u64,
+    series: Series,
     card: &[u8],
     positions: &[i64],
     pixels: &mut [i64],
     numbers: &mut [u32],
 ) -> Result<(), Refusal> {
-    let transform = Transform::new(read_card(scale, zone, card)?);
+    let transform = Transform::new(read_card(series, card)?);
     answer_list(positions, pixels, numbers, |lat, lon| {
         transform.pixel(lat, lon)
     })

@@ -74,7 +74,7 @@ fn checks(question: &str, images: &[Image]) {
 fn plain_index_check(image: &Image, marks: &mut [u8]) -> (u32, u64) {
     let card = &image.card;
     let (index, count) = (&image.index, image.count);
-    match tiles::index_check(card.scale, card.zone, &card.bytes, index, count, marks) {
+    match tiles::index_check(card.series, &card.bytes, index, count, marks) {
         Ok(()) => (0, 0),
         Err(refusal) => (refusal.number, refusal.at),
     }
@@ -85,8 +85,7 @@ fn our_index_check(image: &Image, marks: &mut [u8]) -> (u32, u64) {
     // SAFETY: each pointer and length are those of one array or slice; marks are lent for writing.
     let done = unsafe {
         raw::fordcask_index_check(
-            card.scale,
-            card.zone,
+            card.series,
             card.bytes.as_ptr(),
             CARD,
             image.index.as_ptr(),
@@ -131,7 +130,7 @@ fn windows(question: &str, image: &Image, windows: &[Window]) {
     let card = &image.card;
     let plain = |window: &Window| -> Missing {
         let (index, count) = (&image.index, image.count);
-        match tiles::window(card.scale, card.zone, &card.bytes, index, count, window) {
+        match tiles::window(card.series, &card.bytes, index, count, window) {
             Ok(Some(tile)) => (0, 0, 1, tile),
             Ok(None) => (0, 0, 0, 0),
             Err(refusal) => (refusal.number, refusal.at, 0, 0),
@@ -152,8 +151,7 @@ fn our_window(image: &Image, window: &Window) -> Missing {
     // SAFETY: each pointer and length are those of one array or slice, which is only read.
     let found = unsafe {
         raw::fordcask_window(
-            card.scale,
-            card.zone,
+            card.series,
             card.bytes.as_ptr(),
             CARD,
             image.index.as_ptr(),

@@ -2,6 +2,7 @@
 
 use crate::plain::{self, Card, Record, CARD, H};
 use crate::random::Random;
+use fordcask::Series;
 
 /// Scales that are read; all but the first are written.
 pub const SCALES: [u64; 8] = [
@@ -10,19 +11,17 @@ pub const SCALES: [u64; 8] = [
 
 const NAME: &[u8; 36] = b"ABCDEFGHIJKLMNOPQRSTUVWXYZ0123456789";
 
-/// A record with scale and zone.
+/// A record with scale, factor and zone.
 #[derive(Clone, Copy)]
 pub struct Sheet {
-    pub scale: u64,
-    pub zone: u64,
+    pub series: Series,
     pub record: Record,
 }
 
-/// A card's bytes with scale and zone.
+/// A card's bytes with scale, factor and zone.
 #[derive(Clone, Copy)]
 pub struct Written {
-    pub scale: u64,
-    pub zone: u64,
+    pub series: Series,
     pub bytes: [u8; CARD],
 }
 
@@ -30,13 +29,12 @@ impl Sheet {
     /// The card of a valid record, of a town scale too.
     pub fn write(&self) -> Written {
         let mut bytes = [0; CARD];
-        let (a, b) = plain::spacing(self.scale, self.zone).expect("scale and zone are good");
+        let (a, b) = plain::spacing(self.series).expect("scale and zone are good");
         let good = plain::write::check(&self.record, a, b);
         assert!(good.is_ok(), "{good:?}");
         plain::write::lay_out(&self.record, a, b, &mut bytes);
         Written {
-            scale: self.scale,
-            zone: self.zone,
+            series: self.series,
             bytes,
         }
     }
@@ -58,8 +56,8 @@ pub fn name(random: &mut Random) -> [u8; 12] {
 
 /// A valid record at any place of the zone grid, of any size.
 pub fn sheet(random: &mut Random, scale: u64) -> Sheet {
-    let zone = zone(random);
-    let (a, b) = plain::spacing(scale, zone).expect("scale and zone are good");
+    let series = Series::chart(scale, zone(random));
+    let (a, b) = plain::spacing(series).expect("scale and zone are good");
     let n = random.within(1 - b / 512, b / 512);
     let m = random.within(-a / 256, a / 256);
     let nfl = random.within(1, (n + b / 512).min(999)) as u64;
@@ -78,11 +76,7 @@ pub fn sheet(random: &mut Random, scale: u64) -> Sheet {
         bad: name(random),
         tif: random.below(2) == 1,
     };
-    Sheet {
-        scale,
-        zone,
-        record,
-    }
+    Sheet { series, record }
 }
 
 /// A record of the given tiles with a border of padding, in zone 1.
@@ -100,8 +94,7 @@ pub fn chart(random: &mut Random, scale: u64, n: i64, m: i64, nfl: u64, nfc: u64
         tif: true,
     };
     Sheet {
-        scale,
-        zone: 1,
+        series: Series::chart(scale, 1),
         record,
     }
 }
@@ -109,7 +102,7 @@ pub fn chart(random: &mut Random, scale: u64, n: i64, m: i64, nfl: u64, nfc: u64
 /// The largest card from an origin near 45 degrees north, 90 west; not there, where the
 /// stored angles would be whole and the doubles right by luck.
 pub fn largest(random: &mut Random, scale: u64) -> Sheet {
-    let (a, b) = plain::spacing(scale, 1).expect("scale is good");
+    let (a, b) = plain::spacing(Series::chart(scale, 1)).expect("scale is good");
     let (n, m) = (b / 1024 - 7, 5 - a / 512);
     let nfl = (n + b / 512).min(999) as u64;
     let nfc = (a / 128).min(999) as u64;

@@ -8,6 +8,7 @@ use crate::random::Random;
 use crate::timing::{differ, measure, Form};
 use crate::{doubles, exact, lean};
 use fordcask::raw;
+use fordcask::Series;
 
 const LIST: usize = 4096;
 const SCALES: [(u64, &str); 3] = [
@@ -16,8 +17,8 @@ const SCALES: [(u64, &str); 3] = [
     (20_000_000, "1:20,000,000"),
 ];
 
-/// Scale, zone, card, pairs asked, pairs answered, numbers.
-type List = fn(u64, u64, &[u8], &[i64], &mut [i64], &mut [u32]) -> Result<(), Refusal>;
+/// What is stated beside the card, the card, pairs asked, pairs answered, numbers.
+type List = fn(Series, &[u8], &[i64], &mut [i64], &mut [u32]) -> Result<(), Refusal>;
 
 pub fn positions(random: &mut Random) {
     let forms: [(&'static str, List); 5] = [
@@ -49,7 +50,7 @@ pub fn pixels(random: &mut Random) {
     ];
     for (scale, name) in SCALES {
         let card = largest(random, scale).write();
-        let read = plain::read::read_card(scale, card.zone, &card.bytes).expect("a valid card");
+        let read = plain::read::read_card(card.series, &card.bytes).expect("a valid card");
         let asked = pairs(|| position(random, &read));
         list(
             &format!("b positions to pixels, {name}"),
@@ -67,7 +68,7 @@ fn pairs(mut next: impl FnMut() -> (i64, i64)) -> Vec<i64> {
 fn list(question: &str, card: &Written, asked: &[i64], forms: &[(&'static str, List)]) {
     let ask = |form: List, answers: &mut [i64], numbers: &mut [u32]| {
         let card = black_box(card);
-        let done = form(card.scale, card.zone, &card.bytes, asked, answers, numbers);
+        let done = form(card.series, &card.bytes, asked, answers, numbers);
         assert!(done.is_ok(), "{done:?}");
     };
     let answers_of = |form: List| -> Vec<(u32, i64, i64)> {
@@ -107,8 +108,7 @@ fn done(refusal: raw::Refusal) -> Result<(), Refusal> {
 }
 
 fn our_positions(
-    scale: u64,
-    zone: u64,
+    series: Series,
     card: &[u8],
     pixels: &[i64],
     positions: &mut [i64],
@@ -118,8 +118,7 @@ fn our_positions(
     // for writing.
     done(unsafe {
         raw::fordcask_positions(
-            scale,
-            zone,
+            series,
             card.as_ptr(),
             card.len(),
             pixels.as_ptr(),
@@ -133,8 +132,7 @@ fn our_positions(
 }
 
 fn our_pixels(
-    scale: u64,
-    zone: u64,
+    series: Series,
     card: &[u8],
     positions: &[i64],
     pixels: &mut [i64],
@@ -144,8 +142,7 @@ fn our_pixels(
     // for writing.
     done(unsafe {
         raw::fordcask_pixels(
-            scale,
-            zone,
+            series,
             card.as_ptr(),
             card.len(),
             positions.as_ptr(),

@@ -1,6 +1,6 @@
 //! Question h: tile look-up of a pixel, its part of the store and its band values.
 
-use crate::images::{image, Image, SCALE};
+use crate::images::{image, Image};
 use crate::inputs::pixel;
 use crate::plain::tiles::{self, Look};
 use crate::plain::{read::read_card, Record, Refusal, CARD, TILE};
@@ -60,7 +60,7 @@ pub fn lookup(random: &mut Random) {
 
 /// The chart edges, for random pixels.
 fn record(image: &Image) -> Record {
-    let card = read_card(SCALE, image.card.zone, &image.card.bytes).expect("a valid card");
+    let card = read_card(image.card.series, &image.card.bytes).expect("a valid card");
     Record {
         n: card.n,
         m: card.m,
@@ -77,7 +77,7 @@ fn record(image: &Image) -> Record {
 
 fn plain_tile(image: &Image, look: &Look) -> Part {
     let card = &image.card;
-    match tiles::tile(card.scale, card.zone, &card.bytes, look) {
+    match tiles::tile(card.series, &card.bytes, look) {
         Ok((found, part)) => (0, 0, found.stored, found.offset as u64, part.len() as u64),
         Err(Refusal { number, at }) => (number, at, 0, 0, 0),
     }
@@ -85,7 +85,7 @@ fn plain_tile(image: &Image, look: &Look) -> Part {
 
 fn plain_bands(image: &Image, look: &Look) -> Bands {
     let card = &image.card;
-    match tiles::bands(card.scale, card.zone, &card.bytes, look) {
+    match tiles::bands(card.series, &card.bytes, look) {
         Ok([red, green, blue]) => (0, 0, red, green, blue),
         Err(Refusal { number, at }) => (number, at, 0, 0, 0),
     }
@@ -96,8 +96,7 @@ fn our_tile(image: &Image, look: &Look) -> Part {
     // SAFETY: each pointer and length are those of one array or slice, which is only read.
     let found = unsafe {
         raw::fordcask_tile(
-            card.scale,
-            card.zone,
+            card.series,
             card.bytes.as_ptr(),
             CARD,
             look.index.as_ptr(),
@@ -123,8 +122,7 @@ fn our_bands(image: &Image, look: &Look) -> Bands {
     // SAFETY: each pointer and length are those of one array or slice, which is only read.
     let found = unsafe {
         raw::fordcask_bands(
-            card.scale,
-            card.zone,
+            card.series,
             card.bytes.as_ptr(),
             CARD,
             look.index.as_ptr(),

@@ -13,6 +13,7 @@ mod random;
 mod single;
 mod timing;
 
+use fordcask::Series;
 use random::Random;
 
 const SEED: u64 = 0x0046_4F52_4443_4153;
@@ -56,10 +57,11 @@ fn check_plain() {
         b"30036966400400384-0022935.07+113032.23000000000127000255000000002001000128000128",
     );
     card[80..].copy_from_slice(b"01008BASE0101.IMGN");
-    let ask = |row, column| plain::grid::position(1_000_000, 1, &card, row, column);
+    let series = Series::chart(1_000_000, 1);
+    let ask = |row, column| plain::grid::position(series, &card, row, column);
     assert_eq!(ask(0, 0), Ok((4_143_223, -897_507)));
     assert_eq!(ask(1, 1), Ok((4_142_899, -897_156)));
     assert_eq!(ask(256, 0), plain::refuse(12, 0));
-    let found = plain::grid::pixel(1_000_000, 1, &card, 4_142_899, -897_156);
+    let found = plain::grid::pixel(series, &card, 4_142_899, -897_156);
     assert_eq!(found, Ok((1, 1)));
 }

@@ -1,4 +1,6 @@
-//! The plain rule: document 01, with 02's E13 in writing, in straightforward Rust with division.
+//! The plain rule: document 01, with E4 and E13 of 02, in straightforward Rust with division.
+
+use fordcask::Series;
 
 pub mod grid;
 pub mod read;
@@ -62,9 +64,20 @@ pub fn nearest(x: i64, d: i64) -> i64 {
     (2 * x + d).div_euclid(2 * d)
 }
 
-/// A and B of a non-polar zone: refusals 1, 2, 3.
-pub fn spacing(scale: u64, zone: u64) -> Result<(i64, i64), Refusal> {
+/// A and B of a non-polar zone: refusals 1, 17, 1, 2, 3.
+pub fn spacing(series: Series) -> Result<(i64, i64), Refusal> {
+    let Series {
+        scale,
+        factor,
+        zone,
+    } = series;
     if !(5_000..=20_000_000).contains(&scale) {
+        return refuse(1, 0);
+    }
+    if !(1..=64).contains(&factor) {
+        return refuse(17, 0);
+    }
+    if scale * factor > 20_000_000 {
         return refuse(1, 0);
     }
     if !(1..=18).contains(&zone) {
@@ -73,7 +86,7 @@ pub fn spacing(scale: u64, zone: u64) -> Result<(i64, i64), Refusal> {
     if zone == 9 || zone == 18 {
         return refuse(3, 0);
     }
-    let scale = scale as i64;
+    let scale = (scale * factor) as i64;
     let unit = UNITS[((zone - 1) % 9) as usize];
     let size = |unit: i64| 512 * ((unit * 1_000_000 + scale - 1) / scale);
     Ok((size(unit), size(782)))

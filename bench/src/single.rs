@@ -20,17 +20,15 @@ pub fn position_calls(random: &mut Random) {
     let asked = questions(random, |random, sheet, _| pixel(random, &sheet.record));
     let plain = |ask: &Asked| {
         let card = &ask.card;
-        let found =
-            plain::grid::position(card.scale, card.zone, &card.bytes, ask.first, ask.second);
+        let found = plain::grid::position(card.series, &card.bytes, ask.first, ask.second);
         answer(found)
     };
     let ours = |ask: &Asked| {
         let card = &ask.card;
         let bytes = card.bytes.as_ptr();
         // SAFETY: the pointer and length are those of one array, which is only read.
-        let found = unsafe {
-            raw::fordcask_position(card.scale, card.zone, bytes, CARD, ask.first, ask.second)
-        };
+        let found =
+            unsafe { raw::fordcask_position(card.series, bytes, CARD, ask.first, ask.second) };
         (found.number, found.at, found.lat, found.lon)
     };
     both("c pixel to position, single call", &asked, plain, ours, sum);
@@ -40,16 +38,14 @@ pub fn pixel_calls(random: &mut Random) {
     let asked = questions(random, |random, _, card| position(random, card));
     let plain = |ask: &Asked| {
         let card = &ask.card;
-        let found = plain::grid::pixel(card.scale, card.zone, &card.bytes, ask.first, ask.second);
+        let found = plain::grid::pixel(card.series, &card.bytes, ask.first, ask.second);
         answer(found)
     };
     let ours = |ask: &Asked| {
         let card = &ask.card;
         let bytes = card.bytes.as_ptr();
         // SAFETY: the pointer and length are those of one array, which is only read.
-        let found = unsafe {
-            raw::fordcask_pixel(card.scale, card.zone, bytes, CARD, ask.first, ask.second)
-        };
+        let found = unsafe { raw::fordcask_pixel(card.series, bytes, CARD, ask.first, ask.second) };
         (found.number, found.at, found.row, found.column)
     };
     both("c position to pixel, single call", &asked, plain, ours, sum);
@@ -69,7 +65,7 @@ fn questions(
     let one = |i: usize| {
         let sheet = sheet(random, SCALES[i / 8 % SCALES.len()]);
         let card = sheet.write();
-        let read = plain::read::read_card(card.scale, card.zone, &card.bytes);
+        let read = plain::read::read_card(card.series, &card.bytes);
         let (first, second) = next(random, &sheet, &read.expect("a valid card"));
         Asked {
             card,

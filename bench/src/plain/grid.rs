@@ -2,6 +2,7 @@
 
 use super::read::read_card;
 use super::{nearest, refuse, Card, Refusal, H};
+use fordcask::Series;
 
 /// A latitude and longitude, or a row and column.
 pub type Pair = (i64, i64);
@@ -72,14 +73,13 @@ pub fn answer_list(
 
 #[inline(never)]
 pub fn positions(
-    scale: u64,
-    zone: u64,
+    series: Series,
     card: &[u8],
     pixels: &[i64],
     positions: &mut [i64],
     numbers: &mut [u32],
 ) -> Result<(), Refusal> {
-    let card = read_card(scale, zone, card)?;
+    let card = read_card(series, card)?;
     answer_list(pixels, positions, numbers, |row, column| {
         card.position(row, column)
     })
@@ -87,33 +87,26 @@ pub fn positions(
 
 #[inline(never)]
 pub fn pixels(
-    scale: u64,
-    zone: u64,
+    series: Series,
     card: &[u8],
     positions: &[i64],
     pixels: &mut [i64],
     numbers: &mut [u32],
 ) -> Result<(), Refusal> {
-    let card = read_card(scale, zone, card)?;
+    let card = read_card(series, card)?;
     answer_list(positions, pixels, numbers, |lat, lon| card.pixel(lat, lon))
 }
 
 #[inline(never)]
-pub fn position(
-    scale: u64,
-    zone: u64,
-    card: &[u8],
-    row: i64,
-    column: i64,
-) -> Result<Pair, Refusal> {
-    let card = read_card(scale, zone, card)?;
+pub fn position(series: Series, card: &[u8], row: i64, column: i64) -> Result<Pair, Refusal> {
+    let card = read_card(series, card)?;
     card.position(row, column)
         .map_err(|number| Refusal { number, at: 0 })
 }
 
 #[inline(never)]
-pub fn pixel(scale: u64, zone: u64, card: &[u8], lat: i64, lon: i64) -> Result<Pair, Refusal> {
-    let card = read_card(scale, zone, card)?;
+pub fn pixel(series: Series, card: &[u8], lat: i64, lon: i64) -> Result<Pair, Refusal> {
+    let card = read_card(series, card)?;
     card.pixel(lat, lon)
         .map_err(|number| Refusal { number, at: 0 })
 }

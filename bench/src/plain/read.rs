@@ -1,10 +1,11 @@
 //! Card reading: 1, 2, 3, 6, subfields left to right (7 before 8), 9, 10, 11.
 
 use super::{nearest, refuse, spacing, Card, Refusal, CARD, H};
+use fordcask::Series;
 
 #[inline(never)]
-pub fn read_card(scale: u64, zone: u64, card: &[u8]) -> Result<Card, Refusal> {
-    let (a, b) = spacing(scale, zone)?;
+pub fn read_card(series: Series, card: &[u8]) -> Result<Card, Refusal> {
+    let (a, b) = spacing(series)?;
     let Ok(card) = <&[u8; CARD]>::try_from(card) else {
         return refuse(6, 0);
     };

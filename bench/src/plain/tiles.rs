@@ -2,6 +2,7 @@
 
 use super::read::read_card;
 use super::{refuse, Card, Refusal, TILE};
+use fordcask::Series;
 
 /// The stored tile: its number from 1, and where it starts in the store.
 #[derive(Clone, Copy, PartialEq, Debug)]
@@ -64,14 +65,13 @@ impl Card {
 
 #[inline(never)]
 pub fn index_check(
-    scale: u64,
-    zone: u64,
+    series: Series,
     card: &[u8],
     index: &[u32],
     count: u64,
     marks: &mut [u8],
 ) -> Result<(), Refusal> {
-    let card = read_card(scale, zone, card)?;
+    let card = read_card(series, card)?;
     card.lengths(index, count)?;
     if (marks.len() as u64) < count {
         return refuse(6, 0);
@@ -111,14 +111,13 @@ pub struct Window {
 /// The first tile of the window that isn't stored.
 #[inline(never)]
 pub fn window(
-    scale: u64,
-    zone: u64,
+    series: Series,
     card: &[u8],
     index: &[u32],
     count: u64,
     window: &Window,
 ) -> Result<Option<u64>, Refusal> {
-    let card = read_card(scale, zone, card)?;
+    let card = read_card(series, card)?;
     card.lengths(index, count)?;
     let (nfl, nfc) = (card.nfl as u64, card.nfc as u64);
     let fits = |start: u64, length: u64, limit: u64| start <= limit && length <= limit - start;
@@ -155,19 +154,18 @@ pub struct Look<'a> {
 
 #[inline(never)]
 pub fn tile<'a>(
-    scale: u64,
-    zone: u64,
+    series: Series,
     card: &[u8],
     look: &Look<'a>,
 ) -> Result<(Found, &'a [u8]), Refusal> {
-    let card = read_card(scale, zone, card)?;
+    let card = read_card(series, card)?;
     let found = card.tile(look.index, look.count, look.store, look.row, look.column)?;
     Ok((found, &look.store[found.offset..found.offset + TILE]))
 }
 
 #[inline(never)]
-pub fn bands(scale: u64, zone: u64, card: &[u8], look: &Look) -> Result<[u8; 3], Refusal> {
-    let card = read_card(scale, zone, card)?;
+pub fn bands(series: Series, card: &[u8], look: &Look) -> Result<[u8; 3], Refusal> {
+    let card = read_card(series, card)?;
     let found = card.tile(look.index, look.count, look.store, look.row, look.column)?;
     let part = &look.store[found.offset..found.offset + TILE];
     let at = (look.row % 128 * 128 + look.column % 128) as usize;

@@ -2,13 +2,14 @@
 
 use super::read::good_name;
 use super::{refuse, spacing, stored, Record, Refusal, CARD};
+use fordcask::Series;
 
 #[inline(never)]
-pub fn write_card(scale: u64, zone: u64, record: &Record, out: &mut [u8]) -> Result<(), Refusal> {
-    if (5_000..=9_999).contains(&scale) {
+pub fn write_card(series: Series, record: &Record, out: &mut [u8]) -> Result<(), Refusal> {
+    if (5_000..=9_999).contains(&series.scale) {
         return refuse(24, 0);
     }
-    let (a, b) = spacing(scale, zone)?;
+    let (a, b) = spacing(series)?;
     let Some(out) = out.first_chunk_mut::<CARD>() else {
         return refuse(6, 0);
     };
