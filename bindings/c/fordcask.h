@@ -11,8 +11,8 @@
    A buffer is a pointer and a length in elements. The pointer is not NULL and
    is aligned for its elements; it points to that many elements. Where the
    length is 0 any aligned address but NULL will do. Buffers lent to one call
-   do not overlap. A refusal leaves every buffer unchanged, save the marks of
-   fordcask_index_check.
+   do not overlap, save two that are only read. A refusal leaves every buffer
+   unchanged, save the marks of fordcask_index_check.
 
    Angles are whole hundredths of an arc-second: latitude
    -32400000..32400000, north positive; longitude -64800000..64800000, east
@@ -20,7 +20,7 @@
    spacing is that of scale 1:(S x k); a chart has the factor 1. A range x..y
    has both its ends. What lies outside a range named below is refused.
 
-   This breaks callers of the headers before: each function that took a scale
+   This header breaks callers of earlier ones: each function that took a scale
    now takes the factor too. Where scale and zone were handed in, that is a
    struct fordcask_series by value; fordcask_cover and fordcask_rectangle take
    the factor right after the scale. With the factor 1 each answers as before.
@@ -188,7 +188,8 @@ struct fordcask_position {
     int64_t lon; /* -64800000..64799999; the date line is -64800000 */
 };
 
-/* A pixel of the chart; row 0 is the top of the tiles, column 0 the left. */
+/* A pixel of a card's chart; row 0 is the top of its tiles, column 0 the
+   left. */
 struct fordcask_pixel {
     uint32_t number;
     uint64_t at;
@@ -305,16 +306,20 @@ struct fordcask_pixel fordcask_pixel(struct fordcask_series series,
                                      const uint8_t *card, size_t card_len,
                                      int64_t lat, int64_t lon);
 
-/* The overview pixel of a chart's pixel: the overview's pixel at the position
-   of pixel (row, column) of the chart. series and card are the chart's,
-   overview and overview_card the overview's; any two accepted cards are
-   answered. Refuses what reading the chart's card refuses, then what reading
-   the overview's card refuses, then 12, 13 of the chart's pixel, then 12, 13
-   of the overview's. */
+/* The overview pixel of a chart's pixel: the pixel of the overview's card at
+   the position of pixel (row, column) of the chart's card. series and card are
+   the chart's, overview_series and overview_card the overview's; the two need
+   not fit. row 0..128 x NFL - 1 and column 0..128 x NFC - 1 of the chart's
+   card, else 12; row NUL..NLL and column NLS..NUS, else 13; the pixel answered
+   has the same ranges on the overview's card. Refuses what reading the chart's
+   card refuses, then what reading the overview's card refuses, then 12, 13 of
+   the chart's card, then 12, 13 of the overview's; number and place do not
+   tell which card was refused. */
 struct fordcask_pixel fordcask_overview_pixel(struct fordcask_series series,
                                               const uint8_t *card,
                                               size_t card_len,
-                                              struct fordcask_series overview,
+                                              struct fordcask_series
+                                                  overview_series,
                                               const uint8_t *overview_card,
                                               size_t overview_card_len,
                                               int64_t row, int64_t column);

@@ -23,7 +23,8 @@ pub struct Pixel {
     pub column: i64,
 }
 
-/// A place of the zone grid: pixels of different cards with one place are one point.
+/// A place of the zone grid: pixels with one place are one point, on cards of one scale, factor
+/// and zone.
 #[derive(Clone, Copy, Debug, PartialEq, Eq, Hash)]
 pub struct Place {
     /// Rows north of the Equator, negative to the south.

@@ -5,7 +5,7 @@
 //!
 //! A buffer is a pointer and a length in elements. The pointer is not null and is aligned for its
 //! elements; it points to that many elements. Where the length is 0 any aligned address but null
-//! will do. Buffers lent to one call do not overlap.
+//! will do. Buffers lent to one call do not overlap, save two that are only read.
 #![allow(missing_docs)]
 
 mod blocks;
@@ -58,7 +58,7 @@ unsafe extern "C" {
         series: Series,
         card: *const u8,
         card_len: usize,
-        overview: Series,
+        overview_series: Series,
         overview_card: *const u8,
         overview_card_len: usize,
         row: i64,

@@ -8,7 +8,8 @@
 --     onScale x f g           f of the refusal, else g of the scale
 use mathlib.Core.Path.{_≡_}
 use mathlib.Core.Bool.{Bool, true, cond, not, _&&_}
-use Prim.Native.Nat.{ℕ, _*_}
+use mathlib.Core.Logic.{_⊎_}
+use Prim.Native.Nat.{ℕ, _*_, _≤_, _<_}
 use lib.Dec.{leb, ltb}
 use Rattle.arc.specs.declared.Refusal.{Refusal}
 use Rattle.arc.specs.declared.ScaleAnswer.{ScaleAnswer}
@@ -42,7 +43,26 @@ abbrev pub onScale : {A : Type 0} → ScaleAnswer → (Refusal → A) → (ℕ �
 onScale (ScaleAnswer.Scale t) f g = g t
 onScale (ScaleAnswer.Refused r) f g = f r
 
--- ---- what it is held to: proved in proofs/Scales.antt
+-- ---- what it is held to, one claim for each stretch of scales and factors: proved in proofs/Scales.antt
+
+-- S outside its range: 1, whatever the factor
+abbrev pub ScaleRefused : Type 0
+ScaleRefused = (s factor : ℕ) → (s < 5000) ⊎ (20000000 < s) → overviewScale s factor ≡ ScaleAnswer.Refused (refusal 1)
+
+-- k outside its range: 17
+abbrev pub FactorRefused : Type 0
+FactorRefused =
+    (s factor : ℕ) → 5000 ≤ s → s ≤ 20000000 → (factor < 1) ⊎ (64 < factor) → overviewScale s factor ≡ ScaleAnswer.Refused (refusal 17)
+
+-- S × k above 20,000,000: 1 again
+abbrev pub ProductRefused : Type 0
+ProductRefused =
+    (s factor : ℕ) → 5000 ≤ s → s ≤ 20000000 → 1 ≤ factor → factor ≤ 64 → 20000000 < s * factor
+    → overviewScale s factor ≡ ScaleAnswer.Refused (refusal 1)
+
+-- every other pair: S × k
+abbrev pub ProductServed : Type 0
+ProductServed = (s factor : ℕ) → 5000 ≤ s → 1 ≤ factor → factor ≤ 64 → s * factor ≤ 20000000 → overviewScale s factor ≡ ScaleAnswer.Scale (s * factor)
 
 -- what is answered is S × k, of a scale and a factor, and is a scale of 01 itself
 pub record OverviewOf (s factor t : ℕ) : Type 0 where

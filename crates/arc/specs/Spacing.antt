@@ -3,8 +3,8 @@
 --     Asz | a        pixels round a parallel, 360° of longitude
 --     Bs  | b        pixels round a meridian, 360° of latitude
 --     S   | scale
---     spacingAt u S      A or B at 1:S, where A / 512 or B / 512 at 1:1,000,000 is u
---     columnsOf S zone   what is answered for A, the scale being good: refusal 2
+--     spacingAt u S      A or B at 1:S, where A / 512 or B / 512 at 1:1,000,000 is u; of an overview it is asked at 1:(S × k)
+--     columnsOf S zone   what is answered for A at 1:S, the scale being good: refusal 2; likewise
 --     rowsFor x, spacingFor x zone   B, and A and B, where x is what is answered of the scale
 --     rowsOf S factor    what `b_constant` answers: refusals 1, 17, 1
 --     onConstant a f g   f of the refusal, else g of the constant

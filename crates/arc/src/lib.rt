@@ -123,8 +123,7 @@ pub fn spacing(series: Series) -> SpacingAnswer
     }
 }
 
-// A and B for a card to be written, and for an origin to be aligned. Refuses 1, 24, 17, 1, 2 (02, E13, E4): 24 is tested first, since no town scale is
-// refused with 1 before it.
+// A and B for writing and for alignment. Refuses 1, 24, 17, 1, 2 (02, E13, E4); 24 is tested first, since no town scale is refused with 1 before it.
 pub fn spacing_for_writing(series: Series) -> SpacingAnswer
     ensures { λ r. ⌜ r ≡ spacingForWriting series ⌝ }
 {

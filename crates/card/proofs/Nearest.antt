@@ -23,7 +23,7 @@ use Rattle.card.specs.declared.PositionAnswer.{PositionAnswer}
 use Rattle.card.specs.declared.PixelAnswer.{PixelAnswer}
 use Rattle.card.specs.Grid.{placeRow, placeColumn, rowOf, columnOf, inTiles, inChart, verdictOf, latitudeOf, longitudeOf, positionOf, pixelOf}
 use Rattle.card.specs.Overview.{onPosition, overviewPixelOf, apart, NearestRow, NearestColumn, NearestPlace, PixelNearest}
-use Rattle.card.specs.Overview.{OverviewFound, OverviewNearest, OverviewRefused}
+use Rattle.card.specs.Overview.{OverviewFound, OverviewNearest, OverviewRefuses, OverviewRefused}
 use Rattle.card.proofs.Laid.{Laid, known-laid}
 use Rattle.card.proofs.Axes.{north-is, east-high, row-fits, row-at, column-at, column-place}
 use Rattle.card.proofs.Chain.{same-place}
@@ -220,15 +220,19 @@ unfolding overviewPixelOf positionOf pixelOf
 overview-refused chart overview h w r c e f = go (positionOf chart r c) refl f
   where
     go : (x : PositionAnswer) → positionOf chart r c ≡ x → onPosition x PixelAnswer.Refused (λ lat lon. pixelOf overview lat lon) ≡ PixelAnswer.Refused e
-        → (e ≡ refusal 12) ⊎ (e ≡ refusal 13)
+        → ((positionOf chart r c ≡ PositionAnswer.Refused e) ⊎ OverviewRefuses chart overview r c e) × ((e ≡ refusal 12) ⊎ (e ≡ refusal 13))
     go (PositionAnswer.At lat lon) p f =
         let i = answered-in-range chart h r c lat lon p in
         let r′ = rowOf overview lat in
-        let c′ = columnOf overview lon in
-        verdict-refuses PixelAnswer.Refused (PixelAnswer.At r′ c′) overview r′ c′ e
-        (λ n g. cc) (λ g. let z : _≡_ {A = ℕ} 0 1 = cc in omega arith)
-        (rw (i .latitude, longitude-in lon (i .west) (i .east)) at f)
+        let c′ = columnOf overview lon in (
+          inr (record { lat = lat; lon = lon; position = p; pixel = f }),
+          verdict-refuses PixelAnswer.Refused (PixelAnswer.At r′ c′) overview r′ c′ e
+              (λ n g. cc) (λ g. let z : _≡_ {A = ℕ} 0 1 = cc in omega arith)
+              (rw (i .latitude, longitude-in lon (i .west) (i .east)) at f),
+        )
     go (PositionAnswer.Refused n) p f =
-        verdict-refuses PositionAnswer.Refused (PositionAnswer.At (latitudeOf chart r) (longitudeOf chart c)) chart r c e
-        (λ n g. cc) (λ g. let z : _≡_ {A = ℕ} 0 1 = cc in omega arith)
-        (p ∙ ap PositionAnswer.Refused (cc))
+        let g : positionOf chart r c ≡ PositionAnswer.Refused e = p ∙ ap PositionAnswer.Refused (cc) in (
+          inl g,
+          verdict-refuses PositionAnswer.Refused (PositionAnswer.At (latitudeOf chart r) (longitudeOf chart c)) chart r c e
+              (λ n g. cc) (λ g. let z : _≡_ {A = ℕ} 0 1 = cc in omega arith) g,
+        )

@@ -29,7 +29,7 @@ onPosition (PositionAnswer.Refused r) f g = f r
 unfoldable pub overviewPixelOf : Card → Card → ℤ → ℤ → PixelAnswer
 overviewPixelOf chart overview r c = onPosition (positionOf chart r c) PixelAnswer.Refused (λ lat lon. pixelOf overview lat lon)
 
--- ---- what is true of it: any two cards of one scale and zone, a chart and its overview among them, and any other two
+-- ---- what is true of it, for any two accepted cards, and so for a chart and an overview of one zone and scale
 
 abbrev pub apart : ℕ → ℤ → ℤ → ℕ
 apart x angle u = natAbs (angle *ℤ pos x -ℤ u *ℤ pos circle)
@@ -66,8 +66,15 @@ OverviewNearest =
     (chart overview : Card) → Known chart → Known overview → (r c r′ c′ : ℤ)
     → overviewPixelOf chart overview r c ≡ PixelAnswer.At r′ c′ → OverviewFound chart overview r c r′ c′
 
--- 12 or 13, the chart's or the overview's; never 4 or 5
+-- the chart answered a position, and the overview refuses that
+pub record OverviewRefuses (chart overview : Card) (r c : ℤ) (e : Refusal) : Type 0 where
+  pub lat : ℤ
+  pub lon : ℤ
+  pub position : positionOf chart r c ≡ PositionAnswer.At lat lon
+  pub pixel : pixelOf overview lat lon ≡ PixelAnswer.Refused e
+
+-- the chart's refusal first, else the overview's; 12 or 13, never 4 or 5
 abbrev pub OverviewRefused : Type 0
 OverviewRefused =
-    (chart overview : Card) → Known chart → Known overview → (r c : ℤ) (e : Refusal)
-    → overviewPixelOf chart overview r c ≡ PixelAnswer.Refused e → (e ≡ refusal 12) ⊎ (e ≡ refusal 13)
+    (chart overview : Card) → Known chart → Known overview → (r c : ℤ) (e : Refusal) → overviewPixelOf chart overview r c ≡ PixelAnswer.Refused e
+    → ((positionOf chart r c ≡ PositionAnswer.Refused e) ⊎ OverviewRefuses chart overview r c e) × ((e ≡ refusal 12) ⊎ (e ≡ refusal 13))

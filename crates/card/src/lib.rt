@@ -20,7 +20,7 @@ pub use range::Ranged;
 pub use range::RangedParts;
 pub use range::count_position;
 
-// The value of an accepted card. "Card" and "chart" are document 01's words.
+// The value of an accepted card. "Card" and "chart" are document 01's words; "overview" is 02's (E4).
 pub struct Card {
     pub series: Series,
     pub a: u64,

@@ -16,7 +16,7 @@ use Rattle.card.specs.declared.Record.{Record}
 use Rattle.card.specs.Read.{readIn, readOf}
 use Rattle.card.specs.Write.{writeIn, writeOf, textFor, outAfter, outOf}
 
--- 1, 2; cover 1, 4; rectangles 1, 4, 4, 16; alignment 1, 24, 2, 3, 4, 5; reading 1, 2, 3, 6, ..; writing 1, 24, 2, 3, 6, .. (24: 02, E13)
+-- 1, 2; cover 1, 4; rectangles 1, 4, 4, 16 (02, E3); alignment 1, 24, 2, 3, 4, 5; reading 1, 2, 3, 6, ..; writing 1, 24, 2, 3, 6, .. (24: 02, E13)
 pub record AsInDocument01 (s zone : ℕ) : Type 0 where
   pub rows : rowsOf s 1 ≡ rowsFor (chartScale s)
   pub spacing : spacingOf (chartSeries s zone) ≡ spacingFor (chartScale s) zone
@@ -29,7 +29,7 @@ pub record AsInDocument01 (s zone : ℕ) : Type 0 where
       → writeOf (chartSeries s zone) r out ≡ writeIn zone (forWriting s (spacingFor (chartScale s) zone)) r (length out)
   pub output : (r : Record) (out : List ℕ)
       → outOf (chartSeries s zone) r out
-      ≡ outAfter (writeOf (chartSeries s zone) r out) (textFor (forWriting s (spacingFor (chartScale s) zone)) r) out
+      ≡ outAfter (writeIn zone (forWriting s (spacingFor (chartScale s) zone)) r (length out)) (textFor (forWriting s (spacingFor (chartScale s) zone)) r) out
 
 abbrev pub FactorOne : Type 0
 FactorOne = (s zone : ℕ) → AsInDocument01 s zone

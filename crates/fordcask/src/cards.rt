@@ -141,26 +141,31 @@ fn pixel_on(chart: Card, series: Series, card: &[u8], row: i64, column: i64) -> 
     }
 }
 
-// The overview pixel of a chart's pixel (02, E4). Refuses reading's numbers of the chart's card, then of the overview's, then 12, 13 of the chart's
-// pixel, then 12, 13 of the overview's.
+// The overview pixel of a chart's pixel (02, E4). Refuses reading's numbers, of the chart, then of the overview; then 12, 13, likewise.
 #[no_mangle]
 pub extern "C" fn fordcask_overview_pixel(
     series: Series,
     card: &[u8],
-    overview: Series,
+    overview_series: Series,
     overview_card: &[u8],
     row: i64,
     column: i64,
 ) -> PixelParts
     ensures { λ r. ⌜ pixelTold r
         ≡ pixelReport (onCard (readOf series (now (card .entry))) PixelAnswer.Refused
-        (λ chart. onCard (readOf overview (now («overview_card» .entry))) PixelAnswer.Refused (λ k. overviewPixelOf chart k row column))) ⌝ }
+        (λ chart. onCard (readOf «overview_series» (now («overview_card» .entry))) PixelAnswer.Refused (λ k. overviewPixelOf chart k row column))) ⌝ }
 {
     let reading = card_text::read_card(series, card);
     let verdict = reading.verdict;
     let chart = reading.card;
     match verdict {
-        Verdict::Accepted => pixel_on(chart, overview, overview_card, row, column).into_parts(),
+        Verdict::Accepted => pixel_on(
+            chart,
+            overview_series,
+            overview_card,
+            row,
+            column,
+        ).into_parts(),
         Verdict::Refused(r) => PixelAnswer::Refused(r).into_parts(),
     }
 }

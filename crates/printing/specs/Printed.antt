@@ -53,7 +53,7 @@ cardOut Verdict.Accepted k ls = header ++ linesFor k ls
 cardOut (Verdict.Refused e) k ls =
     bytes "card refused " ++ decimal (e .number) ++ bytes " " ++ decimal (e .at) ++ bytes "\n"
 
--- a bad first line prints only that; k = 1 is what the printing program uses (02, E4)
+-- a bad first line prints only that; the factor is 1 (02, E4)
 abbrev pub withCard : Option TwoNumbers → List ℕ → List (List ℕ) → List ℕ
 withCard (some p) card ls = let r = readOf (chartSeries (p .left) (p .right)) card in cardOut (r .verdict) (r .card) ls
 withCard none card ls = badLine

@@ -74,8 +74,7 @@ fn stop_with(out: &mut [u8], line: &[u8], end: usize) -> OpeningAnswer
     stop(length, end)
 }
 
-// The scale and the zone of the first line, the factor being 1 (02, E4), and the card of the second; the other lines start at `next`, and the input
-// ends at `end`.
+// Scale and zone of the first line, the factor being 1 (02, E4), and the card of the second; other lines start at `next`, and the input ends at `end`.
 fn two_lines(out: &mut [u8], first: &[u8], second: &[u8], next: usize, end: usize) -> OpeningAnswer
     requires { ⌜ 64 ≤ length (now out) ⌝ }
     ensures { λ r. ⌜ Opens (openedCard (numbersOf (now (first .entry))) (now (second .entry)) next end) (now (out .entry)) (now (out .exit)) r ⌝ }

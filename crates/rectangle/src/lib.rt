@@ -117,8 +117,7 @@ fn rectangle_at(b: u64, south: i64, north: i64) -> RectangleAnswer
     zones_of(b, s, n)
 }
 
-// The zones that share a stretch of latitude with the rectangle from south to north, in ascending number, at a scale and a factor.
-// Refuses 1, 17, 1, south 4, north 4, 16.
+// The zones that share a stretch of latitude with the rectangle from south to north, in ascending number. Refuses 1, 17, 1, south 4, north 4, 16.
 pub fn rectangle(scale: u64, factor: u64, south: i64, north: i64) -> RectangleAnswer
     ensures { λ r. ⌜ r ≡ rectangleOf scale factor south north ⌝ }
 {
