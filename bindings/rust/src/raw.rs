@@ -16,12 +16,7 @@ unsafe extern "C" {
     pub safe fn fordcask_spacing(series: Series) -> Spacing;
     pub safe fn fordcask_basic_zone(lat: i64) -> Zone;
     pub safe fn fordcask_cover(scale: u64, factor: u64, lat: i64) -> Cover;
-    pub safe fn fordcask_rectangle(
-        scale: u64,
-        factor: u64,
-        south: i64,
-        north: i64,
-    ) -> Rectangle;
+    pub safe fn fordcask_rectangle(scale: u64, factor: u64, south: i64, north: i64) -> Rectangle;
     pub safe fn fordcask_align(series: Series, lat: i64, lon: i64) -> Origin;
     pub safe fn fordcask_offset(lat: i64, lon: i64, centre_lat: i64, centre_lon: i64) -> Offset;
 

@@ -3,22 +3,24 @@
 mod rule;
 mod support;
 
+use fordcask::Series;
 use support::damage::{change_some, damage};
-use support::make::{card, record, scale, town_scale, Scales, SCALES, SCALE_BANDS, ZONES};
+use support::make::{card, chart, overview, record, town_chart, town_overview, Maker};
+use support::make::{SCALES, SCALE_BANDS, ZONES};
 use support::{seeded, Ask, Random};
 
 /// The bytes of a record read and written back, then damaged (02, E13).
-fn there_and_back(ask: &mut Ask, random: &mut Random, scale: u64, zone: u64) {
-    let record = record(random, scale, zone, 999);
+fn there_and_back(ask: &mut Ask, random: &mut Random, series: Series) {
+    let record = record(random, series, 999);
     let out_len = 98 + random.below(8);
-    let mut card = card(scale, zone, &record);
-    let read = ask.read(scale, zone, &card).expect("a good card is read");
+    let mut card = card(series, &record);
+    let read = ask.read(series, &card).expect("a good card is read");
     assert_eq!(read.record, record, "reading what was written");
-    ask.write_back(scale, zone, &read, &card, out_len);
+    ask.write_back(series, &read, &card, out_len);
     for _ in 0..3 {
         damage(random, &mut card);
-        if let Ok(read) = ask.read(scale, zone, &card) {
-            ask.write_back(scale, zone, &read, &card, out_len);
+        if let Ok(read) = ask.read(series, &card) {
+            ask.write_back(series, &read, &card, out_len);
         }
     }
 }
@@ -30,13 +32,13 @@ fn every_scale_band_and_zone() {
     for zone in ZONES {
         for scale in SCALES {
             for _ in 0..40 {
-                there_and_back(&mut ask, &mut random, scale, zone);
+                there_and_back(&mut ask, &mut random, Series::chart(scale, zone));
             }
         }
         for (low, high) in SCALE_BANDS {
             for _ in 0..800 {
                 let scale = random.between(low, high) as u64;
-                there_and_back(&mut ask, &mut random, scale, zone);
+                there_and_back(&mut ask, &mut random, Series::chart(scale, zone));
             }
         }
     }
@@ -45,16 +47,16 @@ fn every_scale_band_and_zone() {
 }
 
 /// Several subfields wrong at once: the order of the refusals. What is read is written back.
-fn changed_subfields(test: &str, rounds: u32, scales: Scales, written: &[u32]) {
+fn changed_subfields(test: &str, rounds: u32, maker: Maker, written: &[u32]) {
     let mut random = seeded(test);
     let mut ask = Ask::default();
     for _ in 0..rounds {
-        let (scale, zone) = (scales(&mut random), random.pick(&ZONES));
-        let record = record(&mut random, scale, zone, 20);
-        let mut card = card(scale, zone, &record);
+        let series = maker(&mut random);
+        let record = record(&mut random, series, 20);
+        let mut card = card(series, &record);
         change_some(&mut random, &mut card);
-        if let Ok(read) = ask.read(scale, zone, &card) {
-            ask.write_back(scale, zone, &read, &card, 98);
+        if let Ok(read) = ask.read(series, &card) {
+            ask.write_back(series, &read, &card, 98);
         }
     }
     ask.met("write", written);
@@ -66,12 +68,22 @@ fn changed_subfields(test: &str, rounds: u32, scales: Scales, written: &[u32]) {
 
 #[test]
 fn subfields() {
-    changed_subfields("subfields", 300_000, scale, &[0, 24]);
+    changed_subfields("subfields", 300_000, chart, &[0, 24]);
 }
 
 #[test]
 fn subfields_town() {
-    changed_subfields("subfields_town", 100_000, town_scale, &[24]);
+    changed_subfields("subfields_town", 100_000, town_chart, &[24]);
+}
+
+#[test]
+fn subfields_overview() {
+    changed_subfields("subfields_overview", 150_000, overview, &[0, 24]);
+}
+
+#[test]
+fn subfields_town_overview() {
+    changed_subfields("subfields_town_overview", 50_000, town_overview, &[24]);
 }
 
 /// Longitudes in card form; latitudes are these without the first digit.
@@ -98,23 +110,24 @@ fn angles() {
     let mut ask = Ask::default();
     for zone in ZONES {
         for scale in SCALES {
-            let record = record(&mut random, scale, zone, 3);
-            let good = card(scale, zone, &record);
+            let series = Series::chart(scale, zone);
+            let record = record(&mut random, series, 3);
+            let good = card(series, &record);
             for text in ANGLES {
                 let mut card = good.clone();
                 card[17..28].copy_from_slice(text);
-                let _ = ask.read(scale, zone, &card);
+                let _ = ask.read(series, &card);
                 let mut card = good.clone();
                 card[28] = text[0];
                 card[29..38].copy_from_slice(&text[2..]);
-                let _ = ask.read(scale, zone, &card);
+                let _ = ask.read(series, &card);
             }
             for (at, end) in [(28, 38), (17, 28)] {
                 let mut card = good.clone();
                 card[end - 1] = random.pick(b"0123456789");
-                let _ = ask.read(scale, zone, &card);
+                let _ = ask.read(series, &card);
                 card[at] = random.pick(b"+-");
-                let _ = ask.read(scale, zone, &card);
+                let _ = ask.read(series, &card);
             }
         }
     }
@@ -130,7 +143,7 @@ fn stored_angles() {
     let town = [5_000, 9_999].map(|scale| (scale, 2, 3));
     for (scale, zones, rounds) in many.into_iter().chain(town) {
         for zone in &ZONES[..zones] {
-            let (a, b) = rule::non_polar(scale, *zone).expect("a spacing");
+            let (a, b) = rule::non_polar(Series::chart(scale, *zone)).expect("a spacing");
             for (spacing, reach) in [(b, b / 512), (a, a / 256)] {
                 for _ in 0..rounds {
                     let near = rule::stored_angle(random.between(-9, 9).into(), spacing);

@@ -2,7 +2,7 @@
 //! and some more edges, worked out from their rules. Each test names those not printed there.
 
 use fordcask::{align, basic_zone, cover, offset, read_card, rectangle, spacing, write_card};
-use fordcask::{Pixel, Position, Refusal, Sheet, Spacing};
+use fordcask::{Pixel, Position, Refusal, Series, Sheet, Spacing};
 
 const REFUSED_1: Refusal = Refusal { number: 1, at: 0 };
 const REFUSED_16: Refusal = Refusal { number: 16, at: 0 };
@@ -29,18 +29,18 @@ const TOWN_CARDS: [(u64, &[u8; 98]); 3] = [
 
 #[test]
 fn spacing_figures() {
-    assert_eq!(spacing(50_000, 1).map(|s| s.a), Ok(7_393_280));
-    assert_eq!(spacing(250_000, 5).map(|s| s.a), Ok(653_312));
-    assert_eq!(spacing(75_000, 1).map(|s| s.b), Ok(5_338_624));
-    assert_eq!(spacing(1_250_000, 1).map(|s| s.b), Ok(320_512));
-    assert_eq!(spacing(4_999, 1), Err(REFUSED_1));
-    assert_eq!(spacing(20_000_001, 1), Err(REFUSED_1));
+    assert_eq!(spacing(Series::chart(50_000, 1)).map(|s| s.a), Ok(7_393_280));
+    assert_eq!(spacing(Series::chart(250_000, 5)).map(|s| s.a), Ok(653_312));
+    assert_eq!(spacing(Series::chart(75_000, 1)).map(|s| s.b), Ok(5_338_624));
+    assert_eq!(spacing(Series::chart(1_250_000, 1)).map(|s| s.b), Ok(320_512));
+    assert_eq!(spacing(Series::chart(4_999, 1)), Err(REFUSED_1));
+    assert_eq!(spacing(Series::chart(20_000_001, 1)), Err(REFUSED_1));
     // not printed in 01: 512 × 782
     let polar = Spacing { a: 400_384, b: 400_384 };
-    assert_eq!(spacing(1_000_000, 9), Ok(polar));
+    assert_eq!(spacing(Series::chart(1_000_000, 9)), Ok(polar));
     // not printed: the ends of the town scales, whose spacing stays
-    assert_eq!(spacing(5_000, 1), Ok(Spacing { a: 73_932_800, b: 80_076_800 }));
-    assert_eq!(spacing(9_999, 17), Ok(Spacing { a: 8_244_224, b: 40_042_496 }));
+    assert_eq!(spacing(Series::chart(5_000, 1)), Ok(Spacing { a: 73_932_800, b: 80_076_800 }));
+    assert_eq!(spacing(Series::chart(9_999, 17)), Ok(Spacing { a: 8_244_224, b: 40_042_496 }));
 }
 
 #[test]
@@ -60,7 +60,7 @@ fn zone_figures() {
         (20_000_000, 29_520_000, &[9, 8, 7, 6, 5]),
     ];
     for (scale, lat, zones) in covers {
-        let found = cover(scale, lat).expect("a cover");
+        let found = cover(scale, 1, lat).expect("a cover");
         assert_eq!(found.as_slice(), zones, "1:{scale} latitude {lat}");
     }
 }
@@ -91,21 +91,21 @@ fn rectangle_figures() {
         (20_000_000, -32_400_000, -32_399_999, &[15, 16, 17, 18]),
     ];
     for (scale, south, north, zones) in lists {
-        let found = rectangle(scale, south, north).expect("a rectangle");
+        let found = rectangle(scale, 1, south, north).expect("a rectangle");
         assert_eq!(found.as_slice(), zones, "1:{scale} from {south} to {north}");
     }
-    assert_eq!(rectangle(1_000_000, 11_520_000, 11_520_000), Err(REFUSED_16));
-    assert_eq!(rectangle(1_000_000, 11_520_000, 11_519_999), Err(REFUSED_16));
+    assert_eq!(rectangle(1_000_000, 1, 11_520_000, 11_520_000), Err(REFUSED_16));
+    assert_eq!(rectangle(1_000_000, 1, 11_520_000, 11_519_999), Err(REFUSED_16));
 }
 
 #[test]
 fn origin_figures() {
     // 01 prints n and m with the angles they store; the point is not printed there
-    let origin = align(1_000_000, 1, 4_143_222, -897_506).expect("an origin");
+    let origin = align(Series::chart(1_000_000, 1), 4_143_222, -897_506).expect("an origin");
     assert_eq!((origin.n, origin.m), (100, -20));
     assert_eq!((origin.pso, origin.lso), (4_143_223, -897_507));
     // not printed as a figure: alignment keeps +180° for m = A/256
-    let east = align(1_000_000, 1, 0, 64_800_000).expect("an origin");
+    let east = align(Series::chart(1_000_000, 1), 0, 64_800_000).expect("an origin");
     assert_eq!((east.m, east.lso), (1444, 64_800_000));
 }
 
@@ -122,18 +122,18 @@ fn offset_figures() {
 /// E13 prints the scales; the point, the origin and the angles are not printed.
 #[test]
 fn town_alignment_figures() {
-    assert_eq!(align(4_999, 1, 41_432, -8_975), Err(REFUSED_1));
-    assert_eq!(align(5_000, 1, 41_432, -8_975), Err(REFUSED_24));
-    assert_eq!(align(9_999, 1, 41_432, -8_975), Err(REFUSED_24));
-    let origin = align(10_000, 1, 41_432, -8_975).expect("an origin");
+    assert_eq!(align(Series::chart(4_999, 1), 41_432, -8_975), Err(REFUSED_1));
+    assert_eq!(align(Series::chart(5_000, 1), 41_432, -8_975), Err(REFUSED_24));
+    assert_eq!(align(Series::chart(9_999, 1), 41_432, -8_975), Err(REFUSED_24));
+    let origin = align(Series::chart(10_000, 1), 41_432, -8_975).expect("an origin");
     assert_eq!((origin.n, origin.m), (100, -20));
     assert_eq!((origin.pso, origin.lso), (41_432, -8_975));
     // right after 1: before a bad zone, a polar one, a bad latitude and a bad longitude
-    assert_eq!(align(9_999, 19, 32_400_001, 64_800_001), Err(REFUSED_24));
-    assert_eq!(align(9_999, 9, 0, 0), Err(REFUSED_24));
-    assert_eq!(align(4_999, 19, 32_400_001, 64_800_001), Err(REFUSED_1));
+    assert_eq!(align(Series::chart(9_999, 19), 32_400_001, 64_800_001), Err(REFUSED_24));
+    assert_eq!(align(Series::chart(9_999, 9), 0, 0), Err(REFUSED_24));
+    assert_eq!(align(Series::chart(4_999, 19), 32_400_001, 64_800_001), Err(REFUSED_1));
     let refused_2 = Refusal { number: 2, at: 0 };
-    assert_eq!(align(10_000, 19, 32_400_001, 64_800_001), Err(refused_2));
+    assert_eq!(align(Series::chart(10_000, 19), 32_400_001, 64_800_001), Err(refused_2));
 }
 
 /// E13 prints the scales; the cards and their positions are not printed.
@@ -145,16 +145,17 @@ fn town_card_figures() {
         [(41_432, -8_975), (41_429, -8_972), (40_607, -8_530)],
     ];
     for ((scale, card), positions) in TOWN_CARDS.into_iter().zip(positions) {
-        let read = read_card(scale, 1, card).expect("a card that opens");
+        let series = Series::chart(scale, 1);
+        let read = read_card(series, card).expect("a card that opens");
         assert_eq!((read.record.n, read.record.m), (100, -20), "1:{scale}");
         let mut out = [7; 100];
-        let written = write_card(scale, 1, &read.record, &mut out);
+        let written = write_card(series, &read.record, &mut out);
         if scale == 10_000 {
             assert_eq!((written, &out[..98]), (Ok(()), &card[..]), "1:{scale}");
         } else {
             assert_eq!((written, out), (Err(REFUSED_24), [7; 100]), "1:{scale}");
         }
-        let sheet = Sheet { scale, zone: 1, card };
+        let sheet = Sheet { series, card };
         let pixels = [(0, 0), (1, 1), (255, 127)];
         for ((row, column), (lat, lon)) in pixels.into_iter().zip(positions) {
             let (pixel, position) = (Pixel { row, column }, Position { lat, lon });

@@ -3,9 +3,9 @@
 mod rule;
 mod support;
 
-use fordcask::{Record, Sheet, Tiles, Window};
+use fordcask::{Record, Series, Sheet, Tiles, Window};
 use support::index::{good_index, index_of, small};
-use support::make::{all_chart, card, scale, town_scale, Scales};
+use support::make::{all_chart, card, chart, overview, town_chart, Maker};
 use support::{seeded, Ask, Random};
 
 /// A window inside the tiles mostly, else with its ends outside or at the end of u64.
@@ -28,14 +28,14 @@ fn any_window(random: &mut Random, record: &Record) -> Window {
 }
 
 /// Indexes good and wrong, with marks of every length.
-fn random_checks(test: &str, rounds: u32, scales: Scales) {
+fn random_checks(test: &str, rounds: u32, maker: Maker) {
     let mut random = seeded(test);
     let mut ask = Ask::default();
     for _ in 0..rounds {
         let tif = !random.once_in(6);
-        let (scale, zone, record) = small(&mut random, scales, 6, tif);
-        let card = card(scale, zone, &record);
-        let sheet = Sheet { scale, zone, card: &card };
+        let (series, record) = small(&mut random, maker, 6, tif);
+        let card = card(series, &record);
+        let sheet = Sheet { series, card: &card };
         let (index, count) = index_of(&mut random, &record);
         let marks_len = match random.below(8) {
             0 => random.below(8),
@@ -50,12 +50,17 @@ fn random_checks(test: &str, rounds: u32, scales: Scales) {
 
 #[test]
 fn index_check() {
-    random_checks("index_check", 300_000, scale);
+    random_checks("index_check", 300_000, chart);
 }
 
 #[test]
 fn index_check_town() {
-    random_checks("index_check_town", 100_000, town_scale);
+    random_checks("index_check_town", 100_000, town_chart);
+}
+
+#[test]
+fn index_check_overview() {
+    random_checks("index_check_overview", 100_000, overview);
 }
 
 /// Every index of three tiles with entries 0..4, every count and some marks.
@@ -64,8 +69,9 @@ fn every_small_index() {
     let mut ask = Ask::default();
     for tif in [true, false] {
         let record = all_chart(9, 9, 1, 3, tif);
-        let card = card(1_000_000, 1, &record);
-        let sheet = Sheet { scale: 1_000_000, zone: 1, card: &card };
+        let series = Series::chart(1_000_000, 1);
+        let card = card(series, &record);
+        let sheet = Sheet { series, card: &card };
         for code in 0..4 * 125 {
             let entries = [code % 5, code / 5 % 5, code / 25 % 5, 0];
             let index = &entries[..[3, 0, 2, 4][code as usize / 125]];
@@ -88,15 +94,15 @@ fn every_small_index() {
 }
 
 /// Windows over indexes good and wrong.
-fn random_windows(test: &str, rounds: u32, scales: Scales) {
+fn random_windows(test: &str, rounds: u32, maker: Maker) {
     let mut random = seeded(test);
     let mut ask = Ask::default();
     let (mut missing, mut none) = (0, 0);
     for _ in 0..rounds {
         let tif = !random.once_in(6);
-        let (scale, zone, record) = small(&mut random, scales, 7, tif);
-        let card = card(scale, zone, &record);
-        let sheet = Sheet { scale, zone, card: &card };
+        let (series, record) = small(&mut random, maker, 7, tif);
+        let card = card(series, &record);
+        let sheet = Sheet { series, card: &card };
         let (index, count) = index_of(&mut random, &record);
         let window = any_window(&mut random, &record);
         match ask.window(&sheet, Tiles { index: &index, count }, window) {
@@ -111,12 +117,17 @@ fn random_windows(test: &str, rounds: u32, scales: Scales) {
 
 #[test]
 fn window() {
-    random_windows("window", 300_000, scale);
+    random_windows("window", 300_000, chart);
 }
 
 #[test]
 fn window_town() {
-    random_windows("window_town", 100_000, town_scale);
+    random_windows("window_town", 100_000, town_chart);
+}
+
+#[test]
+fn window_overview() {
+    random_windows("window_overview", 100_000, overview);
 }
 
 /// The largest image, 999 × 999 tiles, with an index and without.
@@ -127,8 +138,9 @@ fn largest_image() {
     let total = 999 * 999;
     for (scale, tif) in [(100_000, true), (100_000, false), (9_999, true), (5_000, false)] {
         let record = all_chart(900, -300, 999, 999, tif);
-        let card = card(scale, 3, &record);
-        let sheet = Sheet { scale, zone: 3, card: &card };
+        let series = Series::chart(scale, 3);
+        let card = card(series, &record);
+        let sheet = Sheet { series, card: &card };
         let mut index = good_index(&mut random, total, total);
         let spoiled = random.below(total);
         for entry in [index[spoiled], 0, 1, total as u32 + 1, u32::MAX] {

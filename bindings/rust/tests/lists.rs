@@ -3,80 +3,10 @@
 mod rule;
 mod support;
 
-use fordcask::{Pixel, Position, Refusal, Sheet};
-use support::ask_sheet::shown;
-use support::make::{all_chart, card, pixel, record, scale, town_scale, Scales, ZONES};
+use fordcask::{Pixel, Position, Series, Sheet};
+use support::ask_lists::{pixels, positions, OLD_POSITION};
+use support::make::{all_chart, card, chart, overview, pixel, record, town_chart, Maker};
 use support::{seeded, Ask, Random, SIGNED_ENDS, WORKED};
-
-const SIX: Refusal = Refusal { number: 6, at: 0 };
-const OLD_POSITION: Position = Position { lat: 7, lon: 7 };
-const OLD_PIXEL: Pixel = Pixel { row: 7, column: 7 };
-
-/// A list's answer for one pair: the number and the pair, both 0 in a refusal.
-fn pair<T: Default>(answer: Result<T, Refusal>) -> (u32, T) {
-    match answer {
-        Ok(value) => (0, value),
-        Err(refusal) => (refusal.number, T::default()),
-    }
-}
-
-/// What the list call should answer and leave, from the rule for each pair.
-fn expected<F, T: Copy + Default>(
-    sheet: &Sheet,
-    from: &[F],
-    to: &mut [T],
-    numbers: &mut [u32],
-    single: impl Fn(&fordcask::Card, &F) -> Result<T, Refusal>,
-) -> Result<(), Refusal> {
-    let card = rule::read(sheet.scale, sheet.zone, sheet.card)?;
-    if to.len() < from.len() || numbers.len() < from.len() {
-        return Err(SIX);
-    }
-    for (i, asked) in from.iter().enumerate() {
-        (numbers[i], to[i]) = pair(single(&card, asked));
-    }
-    Ok(())
-}
-
-/// Asks for positions with these lengths of output, and compares every buffer whole.
-fn positions(ask: &mut Ask, sheet: &Sheet, pixels: &[Pixel], out: usize, numbers_len: usize) {
-    let call = || format!("{} positions({pixels:?}, {out}, {numbers_len})", shown(sheet));
-    let (mut found, mut numbers) = (vec![OLD_POSITION; out], vec![77; numbers_len]);
-    let (mut right, mut right_numbers) = (found.clone(), numbers.clone());
-    let library = sheet.positions(pixels, &mut found, &mut numbers);
-    let rule = expected(sheet, pixels, &mut right, &mut right_numbers, |card, pixel| {
-        rule::position(card, *pixel)
-    });
-    assert_eq!(found, right, "positions of {}", call());
-    assert_eq!(numbers, right_numbers, "numbers of {}", call());
-    if ask.same("positions", call, library, rule).is_ok() {
-        for (i, pixel) in pixels.iter().enumerate() {
-            let single = pair(sheet.position(*pixel));
-            assert_eq!((numbers[i], found[i]), single, "single call, {}", call());
-            ask.count("pairs of positions", numbers[i], 0);
-        }
-    }
-}
-
-/// Asks for pixels with these lengths of output, and compares every buffer whole.
-fn pixels(ask: &mut Ask, sheet: &Sheet, positions: &[Position], out: usize, numbers_len: usize) {
-    let call = || format!("{} pixels({positions:?}, {out}, {numbers_len})", shown(sheet));
-    let (mut found, mut numbers) = (vec![OLD_PIXEL; out], vec![77; numbers_len]);
-    let (mut right, mut right_numbers) = (found.clone(), numbers.clone());
-    let library = sheet.pixels(positions, &mut found, &mut numbers);
-    let rule = expected(sheet, positions, &mut right, &mut right_numbers, |card, position| {
-        rule::pixel(card, *position)
-    });
-    assert_eq!(found, right, "pixels of {}", call());
-    assert_eq!(numbers, right_numbers, "numbers of {}", call());
-    if ask.same("pixels", call, library, rule).is_ok() {
-        for (i, position) in positions.iter().enumerate() {
-            let single = pair(sheet.pixel(*position));
-            assert_eq!((numbers[i], found[i]), single, "single call, {}", call());
-            ask.count("pairs of pixels", numbers[i], 0);
-        }
-    }
-}
 
 fn any_signed(random: &mut Random, near: i64) -> i64 {
     match random.below(8) {
@@ -97,17 +27,17 @@ fn output_length(random: &mut Random, asked: usize) -> usize {
 }
 
 /// Lists to 40 pairs on random cards, some of them damaged.
-fn asked_lists(test: &str, rounds: u32, scales: Scales) {
+fn asked_lists(test: &str, rounds: u32, maker: Maker) {
     let mut random = seeded(test);
     let mut ask = Ask::default();
     for round in 0..rounds {
-        let (scale, zone) = (scales(&mut random), random.pick(&ZONES));
-        let record = record(&mut random, scale, zone, 999);
-        let mut card = card(scale, zone, &record);
+        let series = maker(&mut random);
+        let record = record(&mut random, series, 999);
+        let mut card = card(series, &record);
         if round % 8 == 0 {
             card[random.below(98)] = random.byte();
         }
-        let sheet = Sheet { scale, zone, card: &card };
+        let sheet = Sheet { series, card: &card };
         let asked = random.below(40);
         let list: Vec<Pixel> = (0..asked).map(|_| pixel(&mut random, &record)).collect();
         let out = output_length(&mut random, asked);
@@ -131,12 +61,17 @@ fn asked_lists(test: &str, rounds: u32, scales: Scales) {
 
 #[test]
 fn random_lists() {
-    asked_lists("random_lists", 30_000, scale);
+    asked_lists("random_lists", 30_000, chart);
 }
 
 #[test]
 fn random_town_lists() {
-    asked_lists("random_town_lists", 30_000, town_scale);
+    asked_lists("random_town_lists", 30_000, town_chart);
+}
+
+#[test]
+fn random_overview_lists() {
+    asked_lists("random_overview_lists", 20_000, overview);
 }
 
 /// Every combination of lengths 0..6, with good and refused cards, scales and zones.
@@ -145,7 +80,7 @@ fn every_length() {
     let mut ask = Ask::default();
     let mut damaged = *WORKED;
     damaged[97] = b'X';
-    let town = card(9_999, 17, &all_chart(100, -20, 2, 1, false));
+    let town = card(Series::chart(9_999, 17), &all_chart(100, -20, 2, 1, false));
     let cards: [(u64, u64, &[u8]); 11] = [
         (1_000_000, 1, WORKED),
         (1_000_000, 1, &damaged),
@@ -164,7 +99,7 @@ fn every_length() {
     let asked = [(4_143_223, -897_507), (0, 0), (32_400_001, 0), (0, 64_800_001)];
     let places = asked.map(|(lat, lon)| Position { lat, lon });
     for (scale, zone, card) in cards {
-        let sheet = Sheet { scale, zone, card };
+        let sheet = Sheet { series: Series::chart(scale, zone), card };
         for length in 0..=6 {
             for out in 0..=8 {
                 for numbers in 0..=8 {
@@ -186,8 +121,9 @@ fn every_length() {
 fn long_list() {
     let mut ask = Ask::default();
     let record = all_chart(40, -300, 4, 600, false);
-    let card = card(250_000, 1, &record);
-    let sheet = Sheet { scale: 250_000, zone: 1, card: &card };
+    let series = Series::chart(250_000, 1);
+    let card = card(series, &record);
+    let sheet = Sheet { series, card: &card };
     let list: Vec<Pixel> = (-3..76_803).map(|column| Pixel { row: 300, column }).collect();
     let mut found = vec![OLD_POSITION; list.len()];
     let mut numbers = vec![77; list.len()];

@@ -3,7 +3,7 @@
 mod rule;
 mod support;
 
-use fordcask::{Pixel, Position, Sheet};
+use fordcask::{Pixel, Position, Series, Sheet};
 use support::make::{all_chart, card};
 use support::Ask;
 
@@ -12,13 +12,14 @@ use support::Ask;
 fn whole_parallel() {
     let mut ask = Ask::default();
     for (zone, nfc) in [(1, 148), (2, 120), (8, 36), (17, 36)] {
-        let (a, _) = rule::non_polar(20_000_000, zone).expect("a spacing");
+        let series = Series::chart(20_000_000, zone);
+        let (a, _) = rule::non_polar(series).expect("a spacing");
         assert_eq!(a, 128 * nfc as i128, "tiles round the parallel");
         let side = nfc / 2;
         for m in [-side, 1 - side, -1, 0, 1, side - 1, side] {
             let record = all_chart(1, m, 1, nfc as u64, false);
-            let card = card(20_000_000, zone, &record);
-            let sheet = Sheet { scale: 20_000_000, zone, card: &card };
+            let card = card(series, &record);
+            let sheet = Sheet { series, card: &card };
             for column in -1..=128 * nfc {
                 ask.there_and_back(&sheet, Pixel { row: 5, column });
             }

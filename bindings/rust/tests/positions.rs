@@ -3,9 +3,9 @@
 mod rule;
 mod support;
 
-use fordcask::{Pixel, Position, Record, Sheet};
-use support::make::{around, card, edge_columns, edge_rows, pixel, record, scale};
-use support::make::{town_scale, with_edges, Scales, SCALES, ZONES};
+use fordcask::{Pixel, Position, Record, Series, Sheet};
+use support::make::{around, card, chart, edge_columns, edge_rows, overview, pixel, record};
+use support::make::{town_chart, with_edges, Maker, SCALES, ZONES};
 use support::{seeded, Ask, Random, SIGNED_ENDS};
 
 /// Every pair of edge rows and edge columns, and the ends of i64.
@@ -67,7 +67,7 @@ fn range_ends(end: i64) -> Vec<i64> {
 
 /// Each edge latitude with some longitudes and each edge longitude with some latitudes.
 fn ask_positions(ask: &mut Ask, random: &mut Random, sheet: &Sheet, record: &Record) {
-    let (a, b) = rule::non_polar(sheet.scale, sheet.zone).expect("a spacing");
+    let (a, b) = rule::non_polar(sheet.series).expect("a spacing");
     let mut lats = edge_latitudes(record, b);
     let mut lons = edge_longitudes(record, a);
     lats.extend(range_ends(32_400_000));
@@ -95,15 +95,17 @@ fn met_all(ask: &Ask) {
 }
 
 /// Cards of few tiles and of many in turn; the first rounds are at the named scales.
-fn random_edges(test: &str, rounds: usize, named: &[u64], scales: Scales) {
+fn random_edges(test: &str, rounds: usize, named: &[(u64, u64)], maker: Maker) {
     let mut random = seeded(test);
     let mut ask = Ask::default();
     for round in 0..rounds {
-        let scale = if round < 300 { named[round % named.len()] } else { scales(&mut random) };
-        let zone = random.pick(&ZONES);
-        let record = record(&mut random, scale, zone, if round % 2 == 0 { 3 } else { 999 });
-        let card = card(scale, zone, &record);
-        let sheet = Sheet { scale, zone, card: &card };
+        let mut series = maker(&mut random);
+        if round < 300 {
+            (series.scale, series.factor) = named[round % named.len()];
+        }
+        let record = record(&mut random, series, if round % 2 == 0 { 3 } else { 999 });
+        let card = card(series, &record);
+        let sheet = Sheet { series, card: &card };
         ask_edges(&mut ask, &sheet, &record);
         ask_positions(&mut ask, &mut random, &sheet, &record);
     }
@@ -112,12 +114,17 @@ fn random_edges(test: &str, rounds: usize, named: &[u64], scales: Scales) {
 
 #[test]
 fn edges_of_random_cards() {
-    random_edges("edges_of_random_cards", 4_000, &SCALES, scale);
+    random_edges("edges_of_random_cards", 4_000, &SCALES.map(|scale| (scale, 1)), chart);
 }
 
 #[test]
 fn edges_of_town_cards() {
-    random_edges("edges_of_town_cards", 1_500, &[5_000, 5_001, 9_998, 9_999], town_scale);
+    random_edges(
+        "edges_of_town_cards",
+        1_500,
+        &[5_000, 5_001, 9_998, 9_999].map(|scale| (scale, 1)),
+        town_chart,
+    );
 }
 
 /// Origins at the poles, the Equator, the zero meridian and 180 degrees.
@@ -127,14 +134,15 @@ fn named_origins() {
     let mut ask = Ask::default();
     for scale in SCALES {
         for zone in ZONES {
-            let (a, b) = rule::non_polar(scale, zone).expect("a spacing");
+            let series = Series::chart(scale, zone);
+            let (a, b) = rule::non_polar(series).expect("a spacing");
             let (pole, side) = ((b / 512) as i64, (a / 256) as i64);
             for n in [pole, 0, 1, -1, 1 - pole] {
                 let m = random.pick(&[-side, 1 - side, -1, 0, 1, side - 1, side]);
                 let (down, across) = ((n + pole).min(3), side.min(4));
                 let record = with_edges(&mut random, n, m, down, across);
-                let card = card(scale, zone, &record);
-                let sheet = Sheet { scale, zone, card: &card };
+                let card = card(series, &record);
+                let sheet = Sheet { series, card: &card };
                 ask_edges(&mut ask, &sheet, &record);
                 ask_positions(&mut ask, &mut random, &sheet, &record);
             }
@@ -144,14 +152,14 @@ fn named_origins() {
 }
 
 /// Pixels there and back, and positions near one and anywhere.
-fn random_asked(test: &str, rounds: u32, scales: Scales) {
+fn random_asked(test: &str, rounds: u32, maker: Maker) {
     let mut random = seeded(test);
     let mut ask = Ask::default();
     for _ in 0..rounds {
-        let (scale, zone) = (scales(&mut random), random.pick(&ZONES));
-        let record = record(&mut random, scale, zone, 999);
-        let card = card(scale, zone, &record);
-        let sheet = Sheet { scale, zone, card: &card };
+        let series = maker(&mut random);
+        let record = record(&mut random, series, 999);
+        let card = card(series, &record);
+        let sheet = Sheet { series, card: &card };
         for _ in 0..4 {
             ask.there_and_back(&sheet, pixel(&mut random, &record));
         }
@@ -175,10 +183,22 @@ fn random_asked(test: &str, rounds: u32, scales: Scales) {
 
 #[test]
 fn random_pixels_and_positions() {
-    random_asked("random_pixels_and_positions", 100_000, scale);
+    random_asked("random_pixels_and_positions", 100_000, chart);
 }
 
 #[test]
 fn random_town_pixels_and_positions() {
-    random_asked("random_town_pixels_and_positions", 30_000, town_scale);
+    random_asked("random_town_pixels_and_positions", 30_000, town_chart);
+}
+
+/// Cards of factors above 1, at the ends of scale, factor and product first (02, E4).
+#[test]
+fn edges_of_overview_cards() {
+    let named = [(5_000, 64), (9_999, 2), (10_000, 63), (50_000, 20), (312_500, 64)];
+    random_edges("edges_of_overview_cards", 2_000, &named, overview);
+}
+
+#[test]
+fn random_overview_pixels_and_positions() {
+    random_asked("random_overview_pixels_and_positions", 60_000, overview);
 }

@@ -4,7 +4,7 @@
 mod rule;
 mod support;
 
-use fordcask::raw;
+use fordcask::{raw, Series};
 use support::make::{all_chart, card, changes_of, scale, town_scale};
 use support::{seeded, WORKED};
 
@@ -30,19 +30,19 @@ fn refused_card(number: u32, at: u64) -> raw::Card {
 
 #[test]
 fn refused_values() {
-    let spacing = raw::fordcask_spacing(4_999, 1);
+    let spacing = raw::fordcask_spacing(Series::chart(4_999, 1));
     assert_eq!(spacing, raw::Spacing { number: 1, at: 0, a: 0, b: 0 });
     let zone = raw::fordcask_basic_zone(i64::MIN);
     assert_eq!(zone, raw::Zone { number: 4, at: 0, zone: 0 });
-    let cover = raw::fordcask_cover(1_000_000, i64::MAX);
+    let cover = raw::fordcask_cover(1_000_000, 1, i64::MAX);
     assert_eq!(cover, raw::Cover { number: 4, at: 0, length: 0, zones: [0; 6] });
     let none = raw::Rectangle { number: 16, at: 0, length: 0, zones: [0; 18] };
-    assert_eq!(raw::fordcask_rectangle(1_000_000, 1, 0), none);
-    assert_eq!(raw::fordcask_rectangle(1_000_000, 0, 0), none);
-    let origin = raw::fordcask_align(1_000_000, 9, 0, 0);
+    assert_eq!(raw::fordcask_rectangle(1_000_000, 1, 1, 0), none);
+    assert_eq!(raw::fordcask_rectangle(1_000_000, 1, 0, 0), none);
+    let origin = raw::fordcask_align(Series::chart(1_000_000, 9), 0, 0);
     assert_eq!(origin, raw::Origin { number: 3, at: 0, n: 0, m: 0, pso: 0, lso: 0 });
     for (scale, zone) in [(5_000, 1), (9_999, 9), (9_999, 18), (9_999, 19)] {
-        let origin = raw::fordcask_align(scale, zone, 41_432, -8_975);
+        let origin = raw::fordcask_align(Series::chart(scale, zone), 41_432, -8_975);
         assert_eq!(origin, raw::Origin { number: 24, at: 0, n: 0, m: 0, pso: 0, lso: 0 });
     }
     let offset = raw::fordcask_offset(0, 64_800_001, 0, 0);
@@ -51,16 +51,16 @@ fn refused_values() {
 }
 
 /// Reads through the C entry point.
-fn read(scale: u64, zone: u64, card: &[u8]) -> raw::Card {
+fn read(series: Series, card: &[u8]) -> raw::Card {
     // SAFETY: the pointer and length are those of one slice.
-    unsafe { raw::fordcask_read_card(scale, zone, card.as_ptr(), card.len()) }
+    unsafe { raw::fordcask_read_card(series, card.as_ptr(), card.len()) }
 }
 
 /// The worked card, and the card of its record at the ends of the town scales (02, E13).
 fn cards() -> Vec<(u64, Vec<u8>)> {
     let mut cards = vec![(1_000_000, WORKED.to_vec())];
     for scale in [5_000, 9_999, 10_000] {
-        cards.push((scale, card(scale, 1, &all_chart(100, -20, 2, 1, false))));
+        cards.push((scale, card(Series::chart(scale, 1), &all_chart(100, -20, 2, 1, false))));
     }
     cards
 }
@@ -92,8 +92,8 @@ fn refused_cards() {
     for (scale, good) in cards() {
         let mut refused = 0;
         for card in changes_of(&good) {
-            let found = read(scale, 1, &card);
-            match rule::read(scale, 1, &card) {
+            let found = read(Series::chart(scale, 1), &card);
+            match rule::read(Series::chart(scale, 1), &card) {
                 Ok(right) => assert_eq!(found, read_as(&right), "1:{scale}"),
                 Err(refusal) => {
                     refused += 1;
@@ -109,7 +109,8 @@ fn refused_cards() {
 #[test]
 fn tif_of_a_record() {
     for (scale, good) in cards() {
-        let card = read(scale, 1, &good);
+        let series = Series::chart(scale, 1);
+        let card = read(series, &good);
         for tif in 0..=255 {
             let record = raw::Record {
                 n: card.n,
@@ -126,7 +127,7 @@ fn tif_of_a_record() {
             let mut out = [7; 98];
             let lent = out.as_mut_ptr();
             // SAFETY: the pointer and length are those of one array.
-            let given = unsafe { raw::fordcask_write_card(scale, 1, record, lent, 98) };
+            let given = unsafe { raw::fordcask_write_card(series, record, lent, 98) };
             if scale < 10_000 {
                 assert_eq!((given, out), (raw::Refusal { number: 24, at: 0 }, [7; 98]));
                 continue;
@@ -146,13 +147,13 @@ fn unused_slots() {
         let scale = if round < 20_000 { scale(&mut random) } else { town_scale(&mut random) };
         let south = random.between(-32_400_000, 32_399_999);
         let north = random.between(south + 1, 32_400_000);
-        let cover = raw::fordcask_cover(scale, south);
-        let mut slots = rule::cover(scale, south).expect("a cover");
+        let cover = raw::fordcask_cover(scale, 1, south);
+        let mut slots = rule::cover(scale, 1, south).expect("a cover");
         assert_eq!(cover.length, slots.len() as u64);
         slots.resize(6, 0);
         assert_eq!(cover.zones[..], slots, "cover({scale}, {south})");
-        let rectangle = raw::fordcask_rectangle(scale, south, north);
-        let mut slots = rule::rectangle(scale, south, north).expect("a rectangle");
+        let rectangle = raw::fordcask_rectangle(scale, 1, south, north);
+        let mut slots = rule::rectangle(scale, 1, south, north).expect("a rectangle");
         assert_eq!(rectangle.length, slots.len() as u64);
         slots.resize(18, 0);
         assert_eq!(rectangle.zones[..], slots, "rectangle({scale}, {south}, {north})");

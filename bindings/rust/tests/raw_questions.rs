@@ -3,21 +3,20 @@
 mod rule;
 mod support;
 
-use fordcask::raw;
+use fordcask::{raw, Series};
 use support::make::{all_chart, card, changes, changes_of};
-use support::{seeded, WORKED};
+use support::{seeded, WORKED, WORKED_SERIES};
 
-/// A scale and a card for it, in zone 1.
-type Held<'a> = (u64, &'a [u8]);
+/// What is stated beside a card, and the card.
+type Held<'a> = (Series, &'a [u8]);
 
 /// Positions through the C entry point with lengths in numbers, not pairs.
 fn positions(held: Held, pixels: &[i64], out: &mut [i64], numbers: &mut [u32]) -> (u32, u64) {
-    let (scale, card) = held;
+    let (series, card) = held;
     // SAFETY: each pointer and length are those of one slice.
     let given = unsafe {
         raw::fordcask_positions(
-            scale,
-            1,
+            series,
             card.as_ptr(),
             card.len(),
             pixels.as_ptr(),
@@ -33,12 +32,11 @@ fn positions(held: Held, pixels: &[i64], out: &mut [i64], numbers: &mut [u32]) -
 
 /// Pixels through the C entry point with lengths in numbers, not pairs.
 fn pixels(held: Held, positions: &[i64], out: &mut [i64], numbers: &mut [u32]) -> (u32, u64) {
-    let (scale, card) = held;
+    let (series, card) = held;
     // SAFETY: each pointer and length are those of one slice.
     let given = unsafe {
         raw::fordcask_pixels(
-            scale,
-            1,
+            series,
             card.as_ptr(),
             card.len(),
             positions.as_ptr(),
@@ -86,11 +84,12 @@ fn every_length(held: Held, right: [i64; 8]) {
 #[test]
 fn odd_lengths() {
     let worked = [4_143_223, -897_507, 4_142_899, -897_156, 0, 0, 4_060_682, -852_982];
-    every_length((1_000_000, WORKED), worked);
+    every_length((WORKED_SERIES, WORKED), worked);
     let low = [20_716, -4_488, 20_714, -4_486, 0, 0, 20_303, -4_265];
     let high = [41_428, -8_974, 41_425, -8_971, 0, 0, 40_603, -8_529];
     for (scale, right) in [(5_000, low), (9_999, high)] {
-        every_length((scale, &card(scale, 1, &all_chart(100, -20, 2, 1, false))), right);
+        let series = Series::chart(scale, 1);
+        every_length((series, &card(series, &all_chart(100, -20, 2, 1, false))), right);
     }
 }
 
@@ -99,19 +98,20 @@ fn odd_lengths() {
 fn refused_cards() {
     let mut random = seeded("refused_cards");
     let mut refused = 0;
-    let town = card(9_999, 1, &all_chart(100, -20, 2, 1, false));
-    let worked = changes().map(|card| (1_000_000, card));
-    let cards = worked.chain(changes_of(&town).map(|card| (9_999, card)));
-    for (scale, card) in cards.step_by(7) {
-        let Err(refusal) = rule::read(scale, 1, &card) else {
+    let town_series = Series::chart(9_999, 1);
+    let town = card(town_series, &all_chart(100, -20, 2, 1, false));
+    let worked = changes().map(|card| (WORKED_SERIES, card));
+    let cards = worked.chain(changes_of(&town).map(|card| (town_series, card)));
+    for (series, card) in cards.step_by(7) {
+        let Err(refusal) = rule::read(series, &card) else {
             continue;
         };
         refused += 1;
         let asked = [1; 9];
         let length = random.below(10);
         let (mut out, mut numbers) = (vec![7; random.below(10)], vec![7; random.below(10)]);
-        let first = positions((scale, &card), &asked[..length], &mut out, &mut numbers);
-        let second = pixels((scale, &card), &asked[..length], &mut out, &mut numbers);
+        let first = positions((series, &card), &asked[..length], &mut out, &mut numbers);
+        let second = pixels((series, &card), &asked[..length], &mut out, &mut numbers);
         assert_eq!(first, (refusal.number, refusal.at));
         assert_eq!(second, (refusal.number, refusal.at));
         assert!(out.iter().all(|x| *x == 7) && numbers.iter().all(|x| *x == 7));
@@ -121,7 +121,8 @@ fn refused_cards() {
 
 /// Value parts are 0 in each refusal of a question on a card.
 fn refused_values_at(scale: u64) {
-    let card = card(scale, 1, &all_chart(9, 9, 1, 2, true));
+    let series = Series::chart(scale, 1);
+    let card = card(series, &all_chart(9, 9, 1, 2, true));
     let (c, length) = (card.as_ptr(), card.len());
     let (index, store) = ([0u32, 9], [5u8; 49_152]);
     let far = i64::MIN;
@@ -130,27 +131,27 @@ fn refused_values_at(scale: u64) {
         unsafe {
             let i = index.as_ptr();
             let s = store.as_ptr();
-            let tile = raw::fordcask_tile(scale, 1, c, length, i, 2, 1, s, 49_152, 0, column);
+            let tile = raw::fordcask_tile(series, c, length, i, 2, 1, s, 49_152, 0, column);
             let none = raw::Tile { number, at, stored: 0, offset: 0, length: 0 };
             assert_eq!(tile, none);
-            let bands = raw::fordcask_bands(scale, 1, c, length, i, 2, 1, s, 49_152, 0, column);
+            let bands = raw::fordcask_bands(series, c, length, i, 2, 1, s, 49_152, 0, column);
             assert_eq!(bands, raw::Bands { number, at, red: 0, green: 0, blue: 0 });
         }
     }
     // SAFETY: each pointer and length are those of one slice.
     unsafe {
-        let place = raw::fordcask_place(scale, 1, c, length, far, 0);
+        let place = raw::fordcask_place(series, c, length, far, 0);
         assert_eq!(place, raw::Place { number: 12, at: 0, row: 0, column: 0 });
-        let position = raw::fordcask_position(scale, 1, c, length, 0, 256);
+        let position = raw::fordcask_position(series, c, length, 0, 256);
         assert_eq!(position, raw::Position { number: 12, at: 0, lat: 0, lon: 0 });
-        let pixel = raw::fordcask_pixel(scale, 1, c, length, 0, i64::MAX);
+        let pixel = raw::fordcask_pixel(series, c, length, 0, i64::MAX);
         assert_eq!(pixel, raw::Pixel { number: 5, at: 0, row: 0, column: 0 });
         let i = index.as_ptr();
-        let window = raw::fordcask_window(scale, 1, c, length, i, 2, 1, 0, 1, 1, 1);
+        let window = raw::fordcask_window(series, c, length, i, 2, 1, 0, 1, 1, 1);
         assert_eq!(window, raw::Window { number: 15, at: 1, missing: 0, tile: 0 });
-        let window = raw::fordcask_window(scale, 1, c, length, i, 2, 1, 0, 0, 1, 2);
+        let window = raw::fordcask_window(series, c, length, i, 2, 1, 0, 0, 1, 2);
         assert_eq!(window, raw::Window { number: 0, at: 0, missing: 1, tile: 0 });
-        let window = raw::fordcask_window(scale, 1, c, length, i, 2, 1, 0, 2, 1, 0);
+        let window = raw::fordcask_window(series, c, length, i, 2, 1, 0, 2, 1, 0);
         assert_eq!(window, raw::Window { number: 0, at: 0, missing: 0, tile: 0 });
     }
 }

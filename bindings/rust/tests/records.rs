@@ -3,8 +3,8 @@
 mod rule;
 mod support;
 
-use fordcask::Record;
-use support::make::{name, record, scale, ZONES};
+use fordcask::{Record, Series};
+use support::make::{chart, name, record};
 use support::{seeded, Ask, Random};
 
 /// A record broken in one way; what is broken depends on `way`.
@@ -36,23 +36,23 @@ fn broken_records() {
     let mut random = seeded("broken_records");
     let mut ask = Ask::default();
     for round in 0..480_000 {
-        let (mut scale, mut zone) = (scale(&mut random), random.pick(&ZONES));
-        let (a, b) = rule::non_polar(scale, zone).expect("a spacing");
-        let mut record = record(&mut random, scale, zone, 999);
+        let mut series = chart(&mut random);
+        let (a, b) = rule::non_polar(series).expect("a spacing");
+        let mut record = record(&mut random, series, 999);
         for _ in 0..=random.below(2) {
             let way = random.below(14);
             record = broken(&mut random, a as i64, b as i64, record, way);
         }
         if round % 16 == 0 {
-            scale = random.pick(&[scale, 0, 4_999, 20_000_001, u64::MAX]);
-            zone = random.pick(&[zone, 0, 9, 18, 19, u64::MAX]);
+            series.scale = random.pick(&[series.scale, 0, 4_999, 20_000_001, u64::MAX]);
+            series.zone = random.pick(&[series.zone, 0, 9, 18, 19, u64::MAX]);
         }
         let out_len = match random.below(8) {
             0 => random.below(98),
             _ => 98 + random.below(3),
         };
-        if let Ok(card) = ask.write(scale, zone, &record, out_len) {
-            let read = ask.read(scale, zone, &card).expect("a written card is read");
+        if let Ok(card) = ask.write(series, &record, out_len) {
+            let read = ask.read(series, &card).expect("a written card is read");
             assert_eq!(read.record, record, "reading what was written");
         }
     }
@@ -67,8 +67,9 @@ fn output_lengths() {
     let mut random = seeded("output_lengths");
     let mut ask = Ask::default();
     for out_len in 0..=130 {
-        let record = record(&mut random, 1_000_000, 1, 9);
-        let written = ask.write(1_000_000, 1, &record, out_len);
+        let series = Series::chart(1_000_000, 1);
+        let record = record(&mut random, series, 9);
+        let written = ask.write(series, &record, out_len);
         assert_eq!(written.is_ok(), out_len >= 98);
     }
     ask.met("write", &[0, 6]);

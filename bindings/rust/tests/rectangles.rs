@@ -42,14 +42,14 @@ fn pairs() {
     for (scale, edges) in good.into_iter().chain(bad) {
         for south in &edges {
             for north in &edges {
-                let zones = ask.rectangle(scale, *south, *north);
+                let zones = ask.rectangle(scale, 1, *south, *north);
                 longest = longest.max(zones.map_or(0, |zones| zones.len()));
             }
         }
     }
     for _ in 0..60_000 {
         let (south, north) = (any_latitude(&mut random), any_latitude(&mut random));
-        let _ = ask.rectangle(scale(&mut random), south, north);
+        let _ = ask.rectangle(scale(&mut random), 1, south, north);
     }
     assert_eq!(longest, 18, "the longest rectangle list");
     ask.met("rectangle", &[0, 1, 4, 16]);
@@ -64,8 +64,8 @@ fn heights() {
         let scale = scale(&mut random);
         for edge in good_edges(scale) {
             for height in [1, 2, 360_000, random.between(1, POLE)] {
-                let _ = ask.rectangle(scale, edge, edge + height);
-                let _ = ask.rectangle(scale, edge - height, edge);
+                let _ = ask.rectangle(scale, 1, edge, edge + height);
+                let _ = ask.rectangle(scale, 1, edge - height, edge);
             }
         }
     }
@@ -87,8 +87,8 @@ fn scale_of_each_b() -> Vec<u64> {
 
 /// Whether a zone is listed between two sizes of latitude, northern and southern alike.
 fn listed(ask: &mut Ask, scale: u64, zones: (u64, u64), (from, to): (i64, i64)) -> bool {
-    let north = ask.rectangle(scale, from, to).expect("a rectangle").contains(&zones.0);
-    let south = ask.rectangle(scale, -to, -from).expect("a rectangle").contains(&zones.1);
+    let north = ask.rectangle(scale, 1, from, to).expect("a rectangle").contains(&zones.0);
+    let south = ask.rectangle(scale, 1, -to, -from).expect("a rectangle").contains(&zones.1);
     assert_eq!(north, south, "zones {zones:?} at 1:{scale} from {from} to {to}");
     north
 }
@@ -179,7 +179,7 @@ fn meaning() {
                 0 => near_edge(&mut random, &edges).max(south + 1),
                 _ => (south + random.between(1, 20)).min(POLE),
             };
-            let zones = ask.rectangle(scale, south, north).expect("a rectangle");
+            let zones = ask.rectangle(scale, 1, south, north).expect("a rectangle");
             let meant = meant(scale, south, north);
             assert_eq!(zones, meant, "rectangle({scale}, {south}, {north})");
         }
@@ -197,13 +197,14 @@ fn poleward() {
         let edges = good_edges(scale);
         for _ in 0..20 {
             let lat = near_edge(&mut random, &edges).clamp(1 - POLE, POLE - 1);
-            let mut covering = ask.cover(scale, lat).expect("a cover");
+            let mut covering = ask.cover(scale, 1, lat).expect("a cover");
             covering.sort_unstable();
             let (size, sign) = (lat.abs(), if lat < 0 { -1 } else { 1 });
             let any = random.between(size + 1, POLE);
             let edge = near_edge(&mut random, &edges).abs().max(size + 1);
             for far in [size + 1, size + 2, any, edge, POLE].map(|far| sign * far.min(POLE)) {
-                let zones = ask.rectangle(scale, lat.min(far), lat.max(far)).expect("a rectangle");
+                let zones =
+                    ask.rectangle(scale, 1, lat.min(far), lat.max(far)).expect("a rectangle");
                 let all = covering.iter().all(|zone| zones.contains(zone));
                 assert!(all, "1:{scale} from {lat} to {far}: {zones:?}, covering {covering:?}");
                 assert!(far != lat + sign || zones == covering, "1:{scale} {lat}: {zones:?}");
@@ -220,15 +221,15 @@ fn no_height() {
     for scale in SCALES {
         for lat in edges(scale) {
             let refused = Err(Refusal { number: if is_latitude(&lat) { 16 } else { 4 }, at: 0 });
-            assert_eq!(ask.rectangle(scale, lat, lat), refused, "1:{scale} at {lat}");
-            assert_eq!(ask.rectangle(scale, lat, -POLE), refused, "1:{scale} down from {lat}");
-            assert_eq!(ask.rectangle(scale, POLE, lat), refused, "1:{scale} down to {lat}");
+            assert_eq!(ask.rectangle(scale, 1, lat, lat), refused, "1:{scale} at {lat}");
+            assert_eq!(ask.rectangle(scale, 1, lat, -POLE), refused, "1:{scale} down from {lat}");
+            assert_eq!(ask.rectangle(scale, 1, POLE, lat), refused, "1:{scale} down to {lat}");
         }
     }
     for scale in BAD_SCALES {
         for lat in latitudes() {
             let refused = Err(Refusal { number: 1, at: 0 });
-            assert_eq!(ask.rectangle(scale, lat, lat), refused, "1:{scale} at {lat}");
+            assert_eq!(ask.rectangle(scale, 1, lat, lat), refused, "1:{scale} at {lat}");
         }
     }
     ask.met("rectangle", &[1, 4, 16]);

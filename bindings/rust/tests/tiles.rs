@@ -3,21 +3,21 @@
 mod rule;
 mod support;
 
-use fordcask::{Pixel, Sheet, Tiles};
+use fordcask::{Pixel, Series, Sheet, Tiles};
 use support::index::{index_of, small};
-use support::make::{all_chart, card, pixel, scale, town_scale, Scales};
+use support::make::{all_chart, card, chart, overview, pixel, town_chart, Maker};
 use support::{seeded, Ask};
 
 /// Pixels of small images, with indexes and stores good and wrong.
-fn random_look_ups(test: &str, rounds: u32, scales: Scales) {
+fn random_look_ups(test: &str, rounds: u32, maker: Maker) {
     let mut random = seeded(test);
     let mut ask = Ask::default();
     let bytes: Vec<u8> = (0..12 * 49_152).map(|_| random.byte()).collect();
     for _ in 0..rounds {
         let tif = !random.once_in(4);
-        let (scale, zone, record) = small(&mut random, scales, 3, tif);
-        let card = card(scale, zone, &record);
-        let sheet = Sheet { scale, zone, card: &card };
+        let (series, record) = small(&mut random, maker, 3, tif);
+        let card = card(series, &record);
+        let sheet = Sheet { series, card: &card };
         let (index, count) = index_of(&mut random, &record);
         let tiles = Tiles { index: &index, count };
         let right = count.min(11) as usize * 49_152;
@@ -42,12 +42,17 @@ fn random_look_ups(test: &str, rounds: u32, scales: Scales) {
 
 #[test]
 fn tile_and_bands() {
-    random_look_ups("tile_and_bands", 150_000, scale);
+    random_look_ups("tile_and_bands", 150_000, chart);
 }
 
 #[test]
 fn tile_and_bands_town() {
-    random_look_ups("tile_and_bands_town", 50_000, town_scale);
+    random_look_ups("tile_and_bands_town", 50_000, town_chart);
+}
+
+#[test]
+fn tile_and_bands_overview() {
+    random_look_ups("tile_and_bands_overview", 50_000, overview);
 }
 
 /// Counts whose store would be empty, or one tile, if its length were kept in 32 bits.
@@ -57,8 +62,9 @@ fn large_counts() {
     let record = all_chart(900, -300, 999, 999, true);
     let (index, store) = (vec![1; 999 * 999], [5; 49_152]);
     for scale in [100_000, 9_999] {
-        let card = card(scale, 3, &record);
-        let sheet = Sheet { scale, zone: 3, card: &card };
+        let series = Series::chart(scale, 3);
+        let card = card(series, &record);
+        let sheet = Sheet { series, card: &card };
         for count in [0, 1, 2, 1 << 18, (1 << 18) + 1, 3 << 18, 999 * 999] {
             let tiles = Tiles { index: &index, count };
             for length in [0, 1, 49_151, 49_152] {

@@ -3,7 +3,7 @@
 mod rule;
 mod support;
 
-use fordcask::{read_card, write_card, Refusal};
+use fordcask::{read_card, write_card, Refusal, Series};
 use support::angles::{any_latitude, cover_ends};
 use support::make::{card, record, scale, town_scale, SCALES, ZONES};
 use support::{seeded, Ask, RETIRED};
@@ -33,19 +33,19 @@ fn zone_questions() {
     let mut two = 0;
     for scale in 5_000..=9_999 {
         for zone in 0..=19 {
-            let _ = ask.spacing(scale, zone);
+            let _ = ask.spacing(Series::chart(scale, zone));
         }
         let ends = cover_ends(scale);
         for _ in 0..10 {
             let (end, any) = (random.pick(&ends), any_latitude(&mut random));
-            let _ = ask.cover(scale, any);
-            let zones = ask.cover(scale, end).unwrap_or_default();
+            let _ = ask.cover(scale, 1, any);
+            let zones = ask.cover(scale, 1, end).unwrap_or_default();
             two += u64::from(zones.len() == 2);
-            let _ = ask.rectangle(scale, end, any);
-            let _ = ask.rectangle(scale, any, end);
-            let _ = ask.rectangle(scale, end, end + 1);
-            let _ = ask.rectangle(scale, end - 1, end);
-            let _ = ask.rectangle(scale, end, end);
+            let _ = ask.rectangle(scale, 1, end, any);
+            let _ = ask.rectangle(scale, 1, any, end);
+            let _ = ask.rectangle(scale, 1, end, end + 1);
+            let _ = ask.rectangle(scale, 1, end - 1, end);
+            let _ = ask.rectangle(scale, 1, end, end);
         }
     }
     assert!(two > 5_000, "{two} latitudes that two zones cover");
@@ -61,24 +61,33 @@ fn cards_open() {
     let mut ask = Ask::default();
     for scale in 5_000..=9_999 {
         for zone in ZONES {
-            let record = record(&mut random, scale, zone, 999);
-            let card = card(scale, zone, &record);
-            let read = ask.read(scale, zone, &card).expect("a card that opens");
+            let series = Series::chart(scale, zone);
+            let record = record(&mut random, series, 999);
+            let card = card(series, &record);
+            let read = ask.read(series, &card).expect("a card that opens");
             assert_eq!(read.record, record, "1:{scale} zone {zone}");
-            ask.write_back(scale, zone, &read, &card, 98);
+            ask.write_back(series, &read, &card, 98);
             for other in [scale - 1, scale + 1, random.pick(&SCALES)] {
                 if other == scale {
                     continue;
                 }
                 let number = if other < 5_000 { 1 } else { 9 };
                 let refused = Err(Refusal { number, at: 0 });
-                assert_eq!(ask.read(other, zone, &card), refused, "1:{other} for 1:{scale}");
+                assert_eq!(
+                    ask.read(Series::chart(other, zone), &card),
+                    refused,
+                    "1:{other} for 1:{scale}"
+                );
             }
             for (polar, number) in [(9, 3), (18, 3), (0, 2), (19, 2)] {
                 let refused = Err(Refusal { number, at: 0 });
-                assert_eq!(ask.read(scale, polar, &card), refused, "1:{scale} zone {polar}");
+                assert_eq!(
+                    ask.read(Series::chart(scale, polar), &card),
+                    refused,
+                    "1:{scale} zone {polar}"
+                );
             }
-            assert_eq!(ask.read(scale, zone, &card[..97]).map_err(|r| r.number), Err(6));
+            assert_eq!(ask.read(series, &card[..97]).map_err(|r| r.number), Err(6));
         }
     }
     ask.met("read", &[0, 1, 2, 3, 6, 9]);
@@ -95,9 +104,10 @@ fn round_trips() {
     for scale in near.chain(SCALES).chain(drawn) {
         for _ in 0..4 {
             let zone = random.pick(&ZONES);
-            let record = record(&mut random, scale, zone, 999);
+            let series = Series::chart(scale, zone);
+            let record = record(&mut random, series, 999);
             let mut first = [7; 98];
-            let written = write_card(scale, zone, &record, &mut first);
+            let written = write_card(series, &record, &mut first);
             if scale < 10_000 {
                 none += 1;
                 assert_eq!((written, first), (Err(RETIRED), [7; 98]), "1:{scale}");
@@ -105,10 +115,10 @@ fn round_trips() {
             }
             trips += 1;
             assert_eq!(written, Ok(()), "1:{scale} zone {zone} {record:?}");
-            let read = read_card(scale, zone, &first).expect("a written card is read");
+            let read = read_card(series, &first).expect("a written card is read");
             assert_eq!(read.record, record, "reading what was written");
             let mut second = [7; 98];
-            assert_eq!(write_card(scale, zone, &read.record, &mut second), Ok(()));
+            assert_eq!(write_card(series, &read.record, &mut second), Ok(()));
             assert_eq!(second, first, "writing what was read");
         }
     }

@@ -3,8 +3,8 @@
 mod rule;
 mod support;
 
-use fordcask::Record;
-use support::make::{all_chart, card, record, town_scale, BAD_ZONES, ZONES};
+use fordcask::{Record, Series};
+use support::make::{all_chart, card, record, town_chart, BAD_ZONES, ZONES};
 use support::{seeded, Ask, Random, RETIRED};
 
 const POLE: i64 = 32_400_000;
@@ -55,20 +55,21 @@ fn of_zone(zone: u64) -> u32 {
 }
 
 /// A record that is good at every scale and zone, or one of this scale.
-fn good_record(random: &mut Random, scale: u64, zone: u64) -> Record {
-    if rule::non_polar(scale, zone).is_err() || random.once_in(4) {
+fn good_record(random: &mut Random, series: Series) -> Record {
+    if rule::non_polar(series).is_err() || random.once_in(4) {
         return all_chart(9, -3, 2, 2, random.once_in(2));
     }
-    record(random, scale, zone, 999)
+    record(random, series, 999)
 }
 
 /// A good point aligned and a good record written: the scale alone decides.
-fn ask_scale(ask: &mut Ask, random: &mut Random, scale: u64, zone: u64) {
+fn ask_scale(ask: &mut Ask, random: &mut Random, series: Series) {
+    let scale = series.scale;
     let (lat, lon) = (random.between(-POLE, POLE), random.between(-DATE_LINE, DATE_LINE));
-    let aligned = ask.align(scale, zone, lat, lon);
+    let aligned = ask.align(series, lat, lon);
     assert_eq!(aligned.map_or_else(|r| r.number, |_| 0), of_scale(scale), "aligned at 1:{scale}");
-    let record = good_record(random, scale, zone);
-    let written = ask.write(scale, zone, &record, 98 + random.below(4));
+    let record = good_record(random, series);
+    let written = ask.write(series, &record, 98 + random.below(4));
     assert_eq!(written.map_or_else(|r| r.number, |_| 0), of_scale(scale), "written at 1:{scale}");
 }
 
@@ -79,13 +80,13 @@ fn every_scale() {
     let mut ask = Ask::default();
     for scale in (0..=20_100).chain(EDGES) {
         for zone in ZONES {
-            ask_scale(&mut ask, &mut random, scale, zone);
+            ask_scale(&mut ask, &mut random, Series::chart(scale, zone));
         }
     }
     for _ in 0..60_000 {
         let scale = support::make::scale(&mut random);
         let zone = random.pick(&ZONES);
-        ask_scale(&mut ask, &mut random, scale, zone);
+        ask_scale(&mut ask, &mut random, Series::chart(scale, zone));
     }
     for question in ["align", "write"] {
         ask.met(question, &[0, 1, 24]);
@@ -106,12 +107,13 @@ fn alignment_order() {
     let lons = [0, DATE_LINE, -DATE_LINE, DATE_LINE + 1, -DATE_LINE - 1, i64::MIN, i64::MAX];
     for scale in EDGES {
         for zone in (1..=18).chain(BAD_ZONES) {
+            let series = Series::chart(scale, zone);
             for lat in lats {
                 for lon in lons {
                     let of_lat = if (-POLE..=POLE).contains(&lat) { 0 } else { 4 };
                     let of_lon = if (-DATE_LINE..=DATE_LINE).contains(&lon) { 0 } else { 5 };
                     let right = first([of_scale(scale), of_zone(zone), of_lat, of_lon]);
-                    let found = ask.align(scale, zone, lat, lon);
+                    let found = ask.align(series, lat, lon);
                     let found = found.map_or_else(|r| (r.number, r.at), |_| (0, 0));
                     assert_eq!(found, (right, 0), "align({scale}, {zone}, {lat}, {lon})");
                 }
@@ -125,9 +127,9 @@ fn alignment_order() {
 const FAULTS: [(u32, u64); 8] =
     [(2, 0), (3, 0), (6, 0), (8, 62), (8, 65), (7, 85), (10, 0), (11, 0)];
 
-/// A zone, a record and the length of an output.
+/// Scale, zone, a record and the length of an output.
 struct Case {
-    zone: u64,
+    series: Series,
     record: Record,
     out_len: usize,
 }
@@ -137,8 +139,8 @@ fn spoil(random: &mut Random, (a, b): (i128, i128), fault: (u32, u64), case: &mu
     let record = &mut case.record;
     let (north, east) = ((b / 512) as i64, (a / 256) as i64);
     match fault {
-        (2, _) => case.zone = random.pick(&BAD_ZONES),
-        (3, _) => case.zone = random.pick(&[9, 18]),
+        (2, _) => case.series.zone = random.pick(&BAD_ZONES),
+        (3, _) => case.series.zone = random.pick(&[9, 18]),
         (6, _) => case.out_len = random.pick(&[0, 1, 24, 50, 96, 97]),
         (8, 62) => record.nfl = random.pick(&[0, 1_000, u64::MAX]),
         (8, _) => record.nfc = random.pick(&[0, 1_000, u64::MAX]),
@@ -160,11 +162,11 @@ fn writing_order() {
     for scale in EDGES {
         for set in (0..1 << FAULTS.len()).filter(|set| set & 3 != 3) {
             for _ in 0..12 {
-                let zone = random.pick(&ZONES);
+                let series = Series::chart(scale, random.pick(&ZONES));
                 let out_len = random.pick(&[98, 99, 130, 1_000]);
-                let record = good_record(&mut random, scale, zone);
-                let mut case = Case { zone, record, out_len };
-                let spacing = rule::non_polar(scale, zone).unwrap_or((369_664, 400_384));
+                let record = good_record(&mut random, series);
+                let mut case = Case { series, record, out_len };
+                let spacing = rule::non_polar(series).unwrap_or((369_664, 400_384));
                 let in_set = (0..FAULTS.len()).filter(|i| set >> i & 1 == 1);
                 let faults: Vec<(u32, u64)> = in_set.map(|i| FAULTS[i]).collect();
                 for fault in &faults {
@@ -174,7 +176,7 @@ fn writing_order() {
                     0 => faults.first().copied().unwrap_or((0, 0)),
                     number => (number, 0),
                 };
-                let found = ask.write(scale, case.zone, &case.record, case.out_len);
+                let found = ask.write(case.series, &case.record, case.out_len);
                 let found = found.map_or_else(|r| (r.number, r.at), |_| (0, 0));
                 assert_eq!(found, right, "1:{scale} with {faults:?}");
             }
@@ -192,21 +194,21 @@ fn lent_output() {
     let mut refused = 0;
     for length in (0..=200).chain([500, 4_096, 65_536]) {
         for kind in 0..40 {
-            let (scale, zone) = (town_scale(&mut random), random.pick(&ZONES));
-            let good = record(&mut random, scale, zone, 999);
+            let series = town_chart(&mut random);
+            let good = record(&mut random, series, 999);
             let mut held: Vec<u8> = match kind % 4 {
                 0 => vec![0; length + 40],
                 1 => vec![b'0'; length + 40],
                 _ => (0..length + 40).map(|_| random.byte()).collect(),
             };
             if kind % 4 == 3 && length >= 98 {
-                let other = record(&mut random, scale, zone, 999);
-                held[20..118].copy_from_slice(&card(scale, zone, &other));
+                let other = record(&mut random, series, 999);
+                held[20..118].copy_from_slice(&card(series, &other));
             }
             let before = held.clone();
-            let written = fordcask::write_card(scale, zone, &good, &mut held[20..20 + length]);
-            assert_eq!(written, Err(RETIRED), "1:{scale} into {length} bytes");
-            assert!(held == before, "{length} bytes at 1:{scale}, kind {kind}");
+            let written = fordcask::write_card(series, &good, &mut held[20..20 + length]);
+            assert_eq!(written, Err(RETIRED), "{series:?} into {length} bytes");
+            assert!(held == before, "{length} bytes at {series:?}, kind {kind}");
             refused += 1;
         }
     }

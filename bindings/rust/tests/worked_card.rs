@@ -3,8 +3,9 @@
 mod rule;
 mod support;
 
+use fordcask::Series;
 use support::make::{all_chart, card, changes, changes_of};
-use support::{seeded, Ask, WORKED};
+use support::{seeded, Ask, WORKED, WORKED_SERIES};
 
 /// The subfields that can be refused with 7, and with 8.
 const SEVENS: [u64; 19] = [0, 1, 9, 17, 28, 38, 44, 50, 56, 62, 65, 68, 74, 80, 81, 82, 83, 84, 85];
@@ -16,8 +17,8 @@ fn one_byte_changes_read() {
     let mut cards = 0;
     for card in changes() {
         cards += 1;
-        if let Ok(read) = ask.read(1_000_000, 1, &card) {
-            ask.write_back(1_000_000, 1, &read, &card, 98);
+        if let Ok(read) = ask.read(WORKED_SERIES, &card) {
+            ask.write_back(WORKED_SERIES, &read, &card, 98);
         }
     }
     assert_eq!(cards, 24_990);
@@ -32,10 +33,11 @@ fn one_byte_changes_read() {
 fn one_byte_changes_town() {
     for (scale, zone, written) in [(5_000, 1, 24), (9_999, 17, 24), (10_000, 1, 0)] {
         let mut ask = Ask::default();
-        let good = card(scale, zone, &all_chart(100, -20, 2, 1, false));
+        let series = Series::chart(scale, zone);
+        let good = card(series, &all_chart(100, -20, 2, 1, false));
         for card in changes_of(&good) {
-            if let Ok(read) = ask.read(scale, zone, &card) {
-                ask.write_back(scale, zone, &read, &card, 99);
+            if let Ok(read) = ask.read(series, &card) {
+                ask.write_back(series, &read, &card, 99);
             }
         }
         ask.met("write", &[written]);
@@ -56,9 +58,10 @@ fn one_byte_changes_elsewhere() {
         if random.once_in(8) {
             card.truncate(random.below(98));
         }
-        let (scale, zone) = (random.pick(&scales), random.pick(&zones));
-        let _ = ask.read(scale, zone, &card);
-        let _ = ask.read(1_000_000, random.pick(&[1, 9, 10, 19]), &card);
+        let series = Series::chart(random.pick(&scales), random.pick(&zones));
+        let _ = ask.read(series, &card);
+        let zone = random.pick(&[1, 9, 10, 19]);
+        let _ = ask.read(Series { zone, ..WORKED_SERIES }, &card);
     }
     ask.met("read", &[0, 1, 2, 3, 6, 7, 8, 9, 10, 11]);
 }
@@ -73,8 +76,8 @@ fn every_length() {
         // never a digit, so 7 at 0
         let noise: Vec<u8> = (0..length).map(|_| random.byte() | 0x80).collect();
         for card in [repeated, shifted, noise] {
-            let _ = ask.read(1_000_000, 1, &card);
-            let _ = ask.read(1_000_000, 9, &card);
+            let _ = ask.read(WORKED_SERIES, &card);
+            let _ = ask.read(Series { zone: 9, ..WORKED_SERIES }, &card);
         }
     }
     ask.met("read", &[0, 3, 6, 7]);

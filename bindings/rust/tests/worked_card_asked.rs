@@ -3,10 +3,10 @@
 mod rule;
 mod support;
 
-use fordcask::{Pixel, Position, Sheet, Tiles, Window};
+use fordcask::{Pixel, Position, Series, Sheet, Tiles, Window};
 use support::damage::change_some;
-use support::make::{all_chart, card, changes_of, record, scale, town_scale, Scales, ZONES};
-use support::{seeded, Ask, Random, WORKED};
+use support::make::{all_chart, card, changes_of, chart, record, town_chart, Maker};
+use support::{seeded, Ask, Random, WORKED, WORKED_SERIES};
 
 fn some_pixel(random: &mut Random) -> Pixel {
     Pixel { row: random.between(-2, 258), column: random.between(-2, 130) }
@@ -66,36 +66,37 @@ fn changes_asked(test: &str, good: Sheet) {
 
 #[test]
 fn one_byte_changes_asked() {
-    let worked = Sheet { scale: 1_000_000, zone: 1, card: WORKED };
+    let worked = Sheet { series: WORKED_SERIES, card: WORKED };
     changes_asked("one_byte_changes_asked", worked);
 }
 
 #[test]
 fn one_byte_changes_asked_town() {
     for (scale, zone) in [(5_000, 8), (9_999, 10)] {
-        let card = card(scale, zone, &all_chart(100, -20, 2, 1, false));
-        changes_asked("one_byte_changes_asked_town", Sheet { scale, zone, card: &card });
+        let series = Series::chart(scale, zone);
+        let card = card(series, &all_chart(100, -20, 2, 1, false));
+        changes_asked("one_byte_changes_asked_town", Sheet { series, card: &card });
     }
 }
 
 /// Several subfields wrong at once, at any scale and zone, the bad ones too.
-fn damaged_asked(test: &str, rounds: u32, scales: Scales) {
+fn damaged_asked(test: &str, rounds: u32, maker: Maker) {
     let mut random = seeded(test);
     let mut ask = Ask::default();
     for round in 0..rounds {
-        let (mut scale, mut zone) = (scales(&mut random), random.pick(&ZONES));
-        let record = record(&mut random, scale, zone, 3);
-        let mut card = card(scale, zone, &record);
-        let good = rule::read(scale, zone, &card).expect("a good card");
+        let mut series = maker(&mut random);
+        let record = record(&mut random, series, 3);
+        let mut card = card(series, &record);
+        let good = rule::read(series, &card).expect("a good card");
         let corner = Pixel { row: record.nll as i64, column: record.nus as i64 };
         let corner = rule::position(&good, corner).expect("a pixel of the chart");
         change_some(&mut random, &mut card);
         if round % 8 == 0 {
-            scale = random.pick(&[scale, 0, 4_999, 20_000_001, u64::MAX]);
-            zone = random.pick(&[zone, 0, 9, 18, 19, u64::MAX]);
+            series.scale = random.pick(&[series.scale, 0, 4_999, 20_000_001, u64::MAX]);
+            series.zone = random.pick(&[series.zone, 0, 9, 18, 19, u64::MAX]);
             card.truncate(random.pick(&[98, 97, 0]));
         }
-        let sheet = Sheet { scale, zone, card: &card };
+        let sheet = Sheet { series, card: &card };
         let (pixel, position) = (some_pixel(&mut random), some_position(&mut random));
         let position = random.pick(&[position, corner]);
         ask_all(&mut ask, &sheet, pixel, position, 1);
@@ -111,19 +112,19 @@ fn damaged_asked(test: &str, rounds: u32, scales: Scales) {
 
 #[test]
 fn damaged_cards_asked() {
-    damaged_asked("damaged_cards_asked", 30_000, scale);
+    damaged_asked("damaged_cards_asked", 30_000, chart);
 }
 
 #[test]
 fn damaged_town_cards_asked() {
-    damaged_asked("damaged_town_cards_asked", 30_000, town_scale);
+    damaged_asked("damaged_town_cards_asked", 30_000, town_chart);
 }
 
 /// Every pixel of the worked card, and a border of two outside it.
 #[test]
 fn every_pixel() {
     let mut ask = Ask::default();
-    let sheet = Sheet { scale: 1_000_000, zone: 1, card: WORKED };
+    let sheet = Sheet { series: WORKED_SERIES, card: WORKED };
     for row in -2..258 {
         for column in -2..130 {
             let pixel = Pixel { row, column };

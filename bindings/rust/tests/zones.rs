@@ -3,7 +3,7 @@
 mod rule;
 mod support;
 
-use fordcask::Refusal;
+use fordcask::{Refusal, Series};
 use support::angles::{any_latitude, cover_ends, latitudes};
 use support::make::{around, scale, BAD_SCALES, BAD_ZONES, SCALES};
 use support::{seeded, Ask};
@@ -30,16 +30,17 @@ fn spacing() {
     let mut ask = Ask::default();
     for zone in (1..=18).chain(BAD_ZONES) {
         for scale in SCALES.into_iter().chain(BAD_SCALES) {
-            let _ = ask.spacing(scale, zone);
+            let _ = ask.spacing(Series::chart(scale, zone));
         }
     }
     for scale in (4_990..=20_000).chain(19_999_000..=20_000_010) {
         for zone in 1..=18 {
-            let _ = ask.spacing(scale, zone);
+            let _ = ask.spacing(Series::chart(scale, zone));
         }
     }
     for _ in 0..200_000 {
-        let _ = ask.spacing(scale(&mut random), random.between(0, 19) as u64);
+        let series = Series::chart(scale(&mut random), random.between(0, 19) as u64);
+        let _ = ask.spacing(series);
     }
     ask.met("spacing", &[0, 1, 2]);
 }
@@ -115,19 +116,19 @@ fn cover() {
     let mut longest = 0;
     for scale in SCALES.into_iter().chain(BAD_SCALES) {
         for lat in latitudes() {
-            longest = longest.max(ask.cover(scale, lat).map_or(0, |zones| zones.len()));
+            longest = longest.max(ask.cover(scale, 1, lat).map_or(0, |zones| zones.len()));
         }
     }
     for scale in SCALES {
         for lat in cover_ends(scale) {
-            let _ = ask.cover(scale, lat);
+            let _ = ask.cover(scale, 1, lat);
         }
     }
     for _ in 0..60_000 {
         let scale = scale(&mut random);
-        let _ = ask.cover(scale, any_latitude(&mut random));
+        let _ = ask.cover(scale, 1, any_latitude(&mut random));
         let end = random.pick(&cover_ends(scale));
-        let _ = ask.cover(scale, end);
+        let _ = ask.cover(scale, 1, end);
     }
     assert_eq!(longest, 6, "the longest cover list");
     ask.met("cover", &[0, 1, 4]);

@@ -1,8 +1,8 @@
-//! (01, "Origins and the zone grid"; 02, E13)
+//! (01, "Origins and the zone grid"; 02, E4 and E13)
 
 use super::{floor_div, in_range, modulo, nearest, non_polar, printed, refuse};
 use super::{Answer, H, LON_END, TILE};
-use fordcask::{Card, Offset, Origin, Pixel, Place, Position};
+use fordcask::{Card, Offset, Origin, Pixel, Place, Position, Series};
 
 /// The angle a card stores for k tiles from the Equator or the zero meridian.
 pub fn stored_angle(k: i128, spacing: i128) -> i128 {
@@ -15,10 +15,10 @@ pub fn origin_storing(angle: i128, spacing: i128) -> Option<i128> {
     (near - 2..=near + 2).find(|k| stored_angle(*k, spacing) == angle)
 }
 
-/// Alignment: 1, 24 (02, E13), 2, 3, 4, 5.
-pub fn align(scale: u64, zone: u64, lat: i64, lon: i64) -> Answer<Origin> {
-    printed(scale)?;
-    let (a, b) = non_polar(scale, zone)?;
+/// Alignment: 1, 24 (02, E13), 17, 1 (02, E4), 2, 3, 4, 5.
+pub fn align(series: Series, lat: i64, lon: i64) -> Answer<Origin> {
+    printed(series.scale)?;
+    let (a, b) = non_polar(series)?;
     in_range(lat, lon)?;
     let (lat, lon) = (lat as i128, lon as i128);
     // the smallest n with 128 × n × H ≥ lat × B
@@ -109,6 +109,12 @@ pub fn pixel(card: &Card, position: Position) -> Answer<Pixel> {
     let column = modulo(nearest(modulo(east, a * H), H), a);
     in_chart(card, row, column)?;
     Ok(Pixel { row: row as i64, column: column as i64 })
+}
+
+/// The overview pixel of a chart's pixel: the chart's 12, 13, then the overview's 12, 13 (02, E4).
+pub fn overview_pixel(chart: &Card, overview: &Card, asked: Pixel) -> Answer<Pixel> {
+    let there = position(chart, asked)?;
+    pixel(overview, there)
 }
 
 /// Offset from a centre: 4, 5 for the position, then 4, 5 for the centre.

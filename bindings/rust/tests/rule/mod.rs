@@ -1,4 +1,4 @@
-//! Document 01, with E3, E5 and E13 of 02, written out a second time in plain loops, in i128
+//! Document 01, with E3, E4, E5 and E13 of 02, written out a second time in plain loops, in i128
 //! arithmetic; in i64, u64 or usize only where the numbers have been checked and are small.
 //! It knows nothing of the library but the types that carry the answers.
 // each test file uses a part of it
@@ -12,11 +12,13 @@ mod zone;
 
 use fordcask::Refusal;
 
-pub use grid::{align, has_place, offset, origin_storing, pixel, place, position, stored_angle};
+pub use grid::{align, has_place, offset, origin_storing, overview_pixel};
+pub use grid::{pixel, place, position, stored_angle};
 pub use read::{extents_hold, read};
 pub use tiles::{bands, index_check, lookup, window};
 pub use write::{lay_out, write};
-pub use zone::{basic_zone, constant_at, cover, non_polar, printed, rectangle, spacing, LIMITS};
+pub use zone::{basic_zone, constant_at, cover, non_polar, printed, rectangle, spacing};
+pub use zone::{spacing_scale, LIMITS};
 
 pub type Answer<T> = Result<T, Refusal>;
 

@@ -1,7 +1,7 @@
-//! (01, "The image card, 98 bytes"): reading.
+//! (01, "The image card, 98 bytes"; 02, E4): reading.
 
 use super::{non_polar, origin_storing, refuse, Answer, CARD, LAT_END, LON_END, TILE};
-use fordcask::{Card, Record, Spacing};
+use fordcask::{Card, Record, Series, Spacing};
 
 /// All digits, else 7.
 fn number(card: &[u8], at: usize, width: usize) -> Answer<i128> {
@@ -68,7 +68,7 @@ pub fn name_good(bad: &[u8; 12]) -> bool {
     true
 }
 
-/// What the bytes say, before it is set against scale and zone.
+/// What the bytes say, before it is set against scale, factor and zone.
 struct Said {
     arv: i128,
     brv: i128,
@@ -128,9 +128,10 @@ pub fn origin_accepted(a: i128, b: i128, n: i128, m: i128) -> bool {
     (-b / 512..=b / 512).contains(&n) && (-a / 256..=a / 256).contains(&m)
 }
 
-/// Reading: 1, 2, 3, 6, then subfields left to right with 7 before 8 in each, then 9, 10, 11.
-pub fn read(scale: u64, zone: u64, card: &[u8]) -> Answer<Card> {
-    let (a, b) = non_polar(scale, zone)?;
+/// Reading: 1, 17, 1 (02, E4), 2, 3, 6, then subfields left to right with 7 before 8 in each, then
+/// 9, 10, 11.
+pub fn read(series: Series, card: &[u8]) -> Answer<Card> {
+    let (a, b) = non_polar(series)?;
     if card.len() != CARD {
         return refuse(6, 0);
     }

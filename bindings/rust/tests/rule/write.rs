@@ -1,8 +1,8 @@
-//! (01, "The image card, 98 bytes"; 02, E13): writing.
+//! (01, "The image card, 98 bytes"; 02, E4 and E13): writing.
 
 use super::read::{extents_hold, name_good, origin_accepted};
 use super::{non_polar, printed, refuse, stored_angle, Answer, CARD};
-use fordcask::Record;
+use fordcask::{Record, Series};
 
 /// A sign, degrees, minutes, seconds, a dot and hundredths; zero carries a plus.
 fn angle_text(angle: i128, degree_digits: usize) -> String {
@@ -33,9 +33,9 @@ fn card_text(a: i128, b: i128, record: &Record) -> String {
     text
 }
 
-/// The 98 bytes at any scale: 1, 2, 3, 6, then NFL, NFC (8), BAD (7), then 10, 11.
-pub fn lay_out(scale: u64, zone: u64, record: &Record, out_len: usize) -> Answer<Vec<u8>> {
-    let (a, b) = non_polar(scale, zone)?;
+/// The 98 bytes at any scale: 1, 17, 1 (02, E4), 2, 3, 6, then NFL, NFC (8), BAD (7), then 10, 11.
+pub fn lay_out(series: Series, record: &Record, out_len: usize) -> Answer<Vec<u8>> {
+    let (a, b) = non_polar(series)?;
     if out_len < CARD {
         return refuse(6, 0);
     }
@@ -59,8 +59,9 @@ pub fn lay_out(scale: u64, zone: u64, record: &Record, out_len: usize) -> Answer
     Ok(bytes)
 }
 
-/// Writing: 1, 24 (02, E13), then as laid out: 2, 3, 6, then NFL, NFC (8), BAD (7), then 10, 11.
-pub fn write(scale: u64, zone: u64, record: &Record, out_len: usize) -> Answer<Vec<u8>> {
-    printed(scale)?;
-    lay_out(scale, zone, record, out_len)
+/// Writing: 1, 24 (02, E13), then as laid out: 17, 1 (02, E4), 2, 3, 6, then NFL, NFC (8), BAD (7),
+/// then 10, 11.
+pub fn write(series: Series, record: &Record, out_len: usize) -> Answer<Vec<u8>> {
+    printed(series.scale)?;
+    lay_out(series, record, out_len)
 }

@@ -1,7 +1,7 @@
-//! (01, "Units and the zone table"; 02, E3, E5 and E13)
+//! (01, "Units and the zone table"; 02, E3, E4, E5 and E13)
 
 use super::{refuse, Answer, H, LAT_END};
-use fordcask::Spacing;
+use fordcask::{Series, Spacing};
 
 const DEGREE: i128 = 360_000;
 const B_UNIT: i128 = 782;
@@ -56,6 +56,22 @@ pub fn printed(scale: u64) -> Answer<()> {
     Ok(())
 }
 
+/// The scale the spacing is read from, S × k: 1, right after it 17, then 1 again (02, E4).
+pub fn spacing_scale(scale: u64, factor: u64) -> Answer<u64> {
+    if !scale_good(scale) {
+        return refuse(1, 0);
+    }
+    if !(1..=64).contains(&factor) {
+        return refuse(17, 0);
+    }
+    // both are small from here on
+    let product = scale as i128 * factor as i128;
+    if product > 20_000_000 {
+        return refuse(1, 0);
+    }
+    Ok(product as u64)
+}
+
 /// 512 times the smallest whole number not below unit × 1,000,000 / S (001, 3.4.6).
 pub fn constant_at(unit: i128, scale: u64) -> i128 {
     let scale = scale as i128;
@@ -66,22 +82,20 @@ pub fn constant_at(unit: i128, scale: u64) -> i128 {
     512 * whole
 }
 
-/// Spacing: 1, 2.
-pub fn spacing(scale: u64, zone: u64) -> Answer<Spacing> {
-    if !scale_good(scale) {
-        return refuse(1, 0);
-    }
-    if !(1..=18).contains(&zone) {
+/// Spacing, that of scale 1:(S × k): 1, 17, 1 (02, E4), 2.
+pub fn spacing(series: Series) -> Answer<Spacing> {
+    let scale = spacing_scale(series.scale, series.factor)?;
+    if !(1..=18).contains(&series.zone) {
         return refuse(2, 0);
     }
-    let (_, _, unit) = limits(zone);
+    let (_, _, unit) = limits(series.zone);
     Ok(Spacing { a: constant_at(unit, scale) as u64, b: constant_at(B_UNIT, scale) as u64 })
 }
 
-/// A and B where a non-polar zone is needed: 1, 2, 3.
-pub fn non_polar(scale: u64, zone: u64) -> Answer<(i128, i128)> {
-    let found = spacing(scale, zone)?;
-    if is_polar(zone) {
+/// A and B where a non-polar zone is needed: 1, 17, 1 (02, E4), 2, 3.
+pub fn non_polar(series: Series) -> Answer<(i128, i128)> {
+    let found = spacing(series)?;
+    if is_polar(series.zone) {
         return refuse(3, 0);
     }
     Ok((found.a as i128, found.b as i128))
@@ -135,11 +149,9 @@ pub fn basic_zone(lat: i64) -> Answer<u64> {
     Ok(walk(lat as i128))
 }
 
-/// Cover: 1, 4. Equatorward is downward in number, on both sides of the Equator.
-pub fn cover(scale: u64, lat: i64) -> Answer<Vec<u64>> {
-    if !scale_good(scale) {
-        return refuse(1, 0);
-    }
+/// Cover: 1, 17, 1 (02, E4), 4. Equatorward is downward in number on both sides of the Equator.
+pub fn cover(scale: u64, factor: u64, lat: i64) -> Answer<Vec<u64>> {
+    let scale = spacing_scale(scale, factor)?;
     let basic = basic_zone(lat)?;
     let zones: Vec<u64> = (1..=18).rev().filter(|z| covers(scale, *z, lat as i128)).collect();
     assert_eq!(zones[0], basic, "the basic zone comes first for {lat}");
@@ -159,12 +171,10 @@ fn stretch(scale: u64, zone: u64) -> (i128, i128) {
     }
 }
 
-/// Rectangles: 1, south 4, north 4, 16, which is also given when south equals north (02, E3).
+/// Rectangles: 1, 17, 1 (02, E4), south 4, north 4, 16, also when south equals north (02, E3).
 /// A zone is listed when it and the rectangle share a stretch of more than zero height.
-pub fn rectangle(scale: u64, south: i64, north: i64) -> Answer<Vec<u64>> {
-    if !scale_good(scale) {
-        return refuse(1, 0);
-    }
+pub fn rectangle(scale: u64, factor: u64, south: i64, north: i64) -> Answer<Vec<u64>> {
+    let scale = spacing_scale(scale, factor)?;
     if !lat_good(south) || !lat_good(north) {
         return refuse(4, 0);
     }

@@ -4,7 +4,7 @@ use std::collections::{BTreeMap, BTreeSet};
 use std::fmt::Debug;
 
 use crate::rule;
-use fordcask::{Card, Offset, Origin, Position, Record, Refusal, Spacing};
+use fordcask::{Card, Offset, Origin, Position, Record, Refusal, Series, Spacing};
 
 pub type Answer<T> = Result<T, Refusal>;
 
@@ -69,10 +69,9 @@ impl Ask {
         assert_eq!(met, places, "places met by {question} with {number}");
     }
 
-    pub fn spacing(&mut self, scale: u64, zone: u64) -> Answer<Spacing> {
-        let call = || format!("spacing({scale}, {zone})");
-        let (library, rule) = (fordcask::spacing(scale, zone), rule::spacing(scale, zone));
-        self.same("spacing", call, library, rule)
+    pub fn spacing(&mut self, series: Series) -> Answer<Spacing> {
+        let call = || format!("spacing({series:?})");
+        self.same("spacing", call, fordcask::spacing(series), rule::spacing(series))
     }
 
     pub fn basic_zone(&mut self, lat: i64) -> Answer<u64> {
@@ -81,24 +80,30 @@ impl Ask {
         self.same("basic_zone", call, library, rule)
     }
 
-    pub fn cover(&mut self, scale: u64, lat: i64) -> Answer<Vec<u64>> {
-        let call = || format!("cover({scale}, {lat})");
-        let library = fordcask::cover(scale, lat).map(|zones| zones.as_slice().to_vec());
-        self.same("cover", call, library, rule::cover(scale, lat))
+    pub fn cover(&mut self, scale: u64, factor: u64, lat: i64) -> Answer<Vec<u64>> {
+        let call = || format!("cover({scale}, {factor}, {lat})");
+        let library = fordcask::cover(scale, factor, lat).map(|zones| zones.as_slice().to_vec());
+        self.same("cover", call, library, rule::cover(scale, factor, lat))
     }
 
-    pub fn rectangle(&mut self, scale: u64, south: i64, north: i64) -> Answer<Vec<u64>> {
-        let call = || format!("rectangle({scale}, {south}, {north})");
-        let library = fordcask::rectangle(scale, south, north);
+    pub fn rectangle(
+        &mut self,
+        scale: u64,
+        factor: u64,
+        south: i64,
+        north: i64,
+    ) -> Answer<Vec<u64>> {
+        let call = || format!("rectangle({scale}, {factor}, {south}, {north})");
+        let library = fordcask::rectangle(scale, factor, south, north);
         let library = library.map(|zones| zones.as_slice().to_vec());
-        let rule = rule::rectangle(scale, south, north);
+        let rule = rule::rectangle(scale, factor, south, north);
         self.same("rectangle", call, library, rule)
     }
 
-    pub fn align(&mut self, scale: u64, zone: u64, lat: i64, lon: i64) -> Answer<Origin> {
-        let call = || format!("align({scale}, {zone}, {lat}, {lon})");
-        let library = fordcask::align(scale, zone, lat, lon);
-        self.same("align", call, library, rule::align(scale, zone, lat, lon))
+    pub fn align(&mut self, series: Series, lat: i64, lon: i64) -> Answer<Origin> {
+        let call = || format!("align({series:?}, {lat}, {lon})");
+        let library = fordcask::align(series, lat, lon);
+        self.same("align", call, library, rule::align(series, lat, lon))
     }
 
     /// Equal to the last bit: zero is never minus zero.
@@ -110,25 +115,19 @@ impl Ask {
         self.same("offset", call, library, rule)
     }
 
-    pub fn read(&mut self, scale: u64, zone: u64, card: &[u8]) -> Answer<Card> {
-        let call = || format!("read_card({scale}, {zone}, b\"{}\")", card.escape_ascii());
-        let library = fordcask::read_card(scale, zone, card);
-        self.same("read", call, library, rule::read(scale, zone, card))
+    pub fn read(&mut self, series: Series, card: &[u8]) -> Answer<Card> {
+        let call = || format!("read_card({series:?}, b\"{}\")", card.escape_ascii());
+        let library = fordcask::read_card(series, card);
+        self.same("read", call, library, rule::read(series, card))
     }
 
     /// The whole output, filled with 7 before: 98 bytes written, or nothing.
-    pub fn write(
-        &mut self,
-        scale: u64,
-        zone: u64,
-        record: &Record,
-        out_len: usize,
-    ) -> Answer<Vec<u8>> {
-        let call = || format!("write_card({scale}, {zone}, {record:?}, {out_len} bytes)");
+    pub fn write(&mut self, series: Series, record: &Record, out_len: usize) -> Answer<Vec<u8>> {
+        let call = || format!("write_card({series:?}, {record:?}, {out_len} bytes)");
         let mut out = vec![7; out_len];
-        let library = fordcask::write_card(scale, zone, record, &mut out);
+        let library = fordcask::write_card(series, record, &mut out);
         let mut expected = vec![7; out_len];
-        let rule = rule::write(scale, zone, record, out_len);
+        let rule = rule::write(series, record, out_len);
         if let Ok(bytes) = &rule {
             expected[..rule::CARD].copy_from_slice(bytes);
         }
@@ -143,9 +142,9 @@ impl Ask {
     }
 
     /// Writing what was read gives the bytes back from 10,000 up, below it 24 (02, E13).
-    pub fn write_back(&mut self, scale: u64, zone: u64, read: &Card, card: &[u8], out_len: usize) {
-        let written = self.write(scale, zone, &read.record, out_len);
-        let right = if scale >= 10_000 { Ok(card.to_vec()) } else { Err(RETIRED) };
-        assert_eq!(written, right, "writing what was read at 1:{scale} zone {zone}");
+    pub fn write_back(&mut self, series: Series, read: &Card, card: &[u8], out_len: usize) {
+        let written = self.write(series, &read.record, out_len);
+        let right = if series.scale >= 10_000 { Ok(card.to_vec()) } else { Err(RETIRED) };
+        assert_eq!(written, right, "writing what was read at {series:?}");
     }
 }

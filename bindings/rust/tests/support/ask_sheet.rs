@@ -7,11 +7,12 @@ use fordcask::{Bands, Card, Pixel, Place, Position, Sheet, Tiles, Window};
 /// A sheet as it is shown in a message.
 pub fn shown(sheet: &Sheet) -> String {
     let card = sheet.card.escape_ascii();
-    format!("{} zone {} b\"{card}\"", sheet.scale, sheet.zone)
+    let series = sheet.series;
+    format!("{} times {} zone {} b\"{card}\"", series.scale, series.factor, series.zone)
 }
 
 fn read(sheet: &Sheet) -> Answer<Card> {
-    rule::read(sheet.scale, sheet.zone, sheet.card)
+    rule::read(sheet.series, sheet.card)
 }
 
 impl Ask {
@@ -31,6 +32,21 @@ impl Ask {
         let call = || format!("{} pixel({position:?})", shown(sheet));
         let rule = read(sheet).and_then(|card| rule::pixel(&card, position));
         self.same("pixel", call, sheet.pixel(position), rule)
+    }
+
+    /// Both cards are read before the pixel is looked at, the chart's first (02, E4).
+    pub fn overview_pixel(
+        &mut self,
+        chart: &Sheet,
+        overview: &Sheet,
+        pixel: Pixel,
+    ) -> Answer<Pixel> {
+        let call = || format!("{} overview_pixel({}, {pixel:?})", shown(chart), shown(overview));
+        let rule = read(chart).and_then(|card| {
+            let overview = read(overview)?;
+            rule::overview_pixel(&card, &overview, pixel)
+        });
+        self.same("overview_pixel", call, chart.overview_pixel(overview, pixel), rule)
     }
 
     /// Place and position of a pixel, and the pixel again from the position.

@@ -1,8 +1,8 @@
 //! Indexes of every kind, for images of few tiles.
 
-use super::make::{all_chart, with_edges, Scales, ZONES};
+use super::make::{all_chart, with_edges, Maker};
 use super::random::Random;
-use fordcask::Record;
+use fordcask::{Record, Series};
 
 /// An index that is accepted: each of 1..count once, the rest 0, in random order.
 pub fn good_index(random: &mut Random, tiles: usize, count: usize) -> Vec<u32> {
@@ -26,16 +26,16 @@ fn spoil(random: &mut Random, index: &mut [u32], count: usize) {
     };
 }
 
-/// A record of few tiles; scale and zone do not matter to the tiles.
-pub fn small(random: &mut Random, scales: Scales, most: i64, tif: bool) -> (u64, u64, Record) {
-    let (scale, zone) = (scales(random), random.pick(&ZONES));
+/// A record of few tiles; scale, factor and zone do not matter to the tiles.
+pub fn small(random: &mut Random, maker: Maker, most: i64, tif: bool) -> (Series, Record) {
+    let series = maker(random);
     let (nfl, nfc) = (random.between(1, most), random.between(1, most));
     let mut record = with_edges(random, nfl, 0, nfl, nfc);
     if random.once_in(2) {
         record = all_chart(nfl, 0, nfl as u64, nfc as u64, tif);
     }
     record.tif = tif;
-    (scale, zone, record)
+    (series, record)
 }
 
 /// An index and a count for a record, good or wrong.

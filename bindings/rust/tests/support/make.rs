@@ -1,9 +1,9 @@
-//! Scales, zones, records and pixels to ask about.
+//! Scales, factors, zones, records and pixels to ask about.
 
 use super::random::Random;
 use super::WORKED;
 use crate::rule;
-use fordcask::{Pixel, Record};
+use fordcask::{Pixel, Record, Series};
 
 /// The ends of each band of scales.
 pub const SCALE_BANDS: [(i64, i64); 6] = [
@@ -22,14 +22,18 @@ pub const SCALES: [u64; 20] = [
     20_000_000,
 ];
 
-/// A maker of scales.
-pub type Scales = fn(&mut Random) -> u64;
+/// A maker of what is stated beside a card, for conversions.
+pub type Maker = fn(&mut Random) -> Series;
 
 /// Scales and zones that are refused.
 pub const BAD_SCALES: [u64; 8] =
     [0, 1, 4_999, 20_000_001, 5_000 + (1 << 32), 1 << 63, u64::MAX - 1, u64::MAX];
 pub const BAD_ZONES: [u64; 8] =
     [0, 19, 20, 256 + 1, 1 + (1 << 32), 1 << 63, u64::MAX - 1, u64::MAX];
+
+/// Factors that are refused (02, E4).
+pub const BAD_FACTORS: [u64; 8] =
+    [0, 65, 66, 256 + 1, 1 + (1 << 32), 1 << 63, u64::MAX - 1, u64::MAX];
 
 /// Every zone that has conversions.
 pub const ZONES: [u64; 16] = [1, 2, 3, 4, 5, 6, 7, 8, 10, 11, 12, 13, 14, 15, 16, 17];
@@ -46,6 +50,35 @@ pub fn scale(random: &mut Random) -> u64 {
 /// A town scale, an end in half of the cases (02, E13).
 pub fn town_scale(random: &mut Random) -> u64 {
     toward_ends(random, 5_000, 9_999) as u64
+}
+
+/// A chart of any scale, its factor 1.
+pub fn chart(random: &mut Random) -> Series {
+    Series::chart(scale(random), random.pick(&ZONES))
+}
+
+/// A chart of a town scale.
+pub fn town_chart(random: &mut Random) -> Series {
+    Series::chart(town_scale(random), random.pick(&ZONES))
+}
+
+/// An overview of a factor above 1, the largest that its scale allows in many cases (02, E4).
+pub fn overview(random: &mut Random) -> Series {
+    let zone = random.pick(&ZONES);
+    if random.once_in(2) {
+        let factor = toward_ends(random, 2, 64);
+        let scale = toward_ends(random, 5_000, 20_000_000 / factor) as u64;
+        return Series { scale, factor: factor as u64, zone };
+    }
+    let scale = scale(random).min(10_000_000);
+    let most = (20_000_000 / scale).min(64) as i64;
+    Series { scale, factor: toward_ends(random, 2, most) as u64, zone }
+}
+
+/// An overview of a town scale (02, E4 and E13).
+pub fn town_overview(random: &mut Random) -> Series {
+    let factor = toward_ends(random, 2, 64) as u64;
+    Series { factor, ..town_chart(random) }
 }
 
 /// A good BAD.
@@ -76,8 +109,8 @@ fn edges(random: &mut Random, pixels: i64) -> (u64, u64) {
 }
 
 /// A record that every check accepts, with at most `most` tiles down and across.
-pub fn record(random: &mut Random, scale: u64, zone: u64, most: i64) -> Record {
-    let (a, b) = rule::non_polar(scale, zone).expect("a scale and a non-polar zone");
+pub fn record(random: &mut Random, series: Series, most: i64) -> Record {
+    let (a, b) = rule::non_polar(series).expect("a scale, a factor and a non-polar zone");
     let (south, across) = ((b / 512) as i64, (a / 128) as i64);
     let n = match random.below(4) {
         0 => random.between(-south + 1, (-south + 4).min(south)),
@@ -130,9 +163,9 @@ pub fn all_chart(n: i64, m: i64, nfl: u64, nfc: u64, tif: bool) -> Record {
 }
 
 /// The bytes of a good record at any scale, laid out by the rule and not by the library.
-pub fn card(scale: u64, zone: u64, record: &Record) -> Vec<u8> {
-    let laid_out = rule::lay_out(scale, zone, record, rule::CARD);
-    laid_out.unwrap_or_else(|refusal| panic!("{refusal}: {scale} {zone} {record:?}"))
+pub fn card(series: Series, record: &Record) -> Vec<u8> {
+    let laid_out = rule::lay_out(series, record, rule::CARD);
+    laid_out.unwrap_or_else(|refusal| panic!("{refusal}: {series:?} {record:?}"))
 }
 
 /// Rows at each edge of chart and tiles, one inside and one outside.

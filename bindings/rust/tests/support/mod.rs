@@ -4,11 +4,18 @@
 
 pub mod angles;
 pub mod ask;
+pub mod ask_all;
+pub mod ask_lists;
 pub mod ask_sheet;
+pub mod cuts;
 pub mod damage;
+pub mod edges;
+pub mod faults;
 pub mod index;
 pub mod make;
 pub mod random;
+
+use fordcask::Series;
 
 pub use ask::{Ask, RETIRED};
 pub use random::{seeded, Random};
@@ -16,6 +23,9 @@ pub use random::{seeded, Random};
 /// The worked card of document 01, for 1:1,000,000 zone 1.
 pub const WORKED: &[u8; 98] = b"30036966400400384-0022935.07+113032.23000000000127000255000000\
 00200100012800012801008BASE0101.IMGN";
+
+/// What is stated beside the worked card.
+pub const WORKED_SERIES: Series = Series::chart(1_000_000, 1);
 
 /// Both ends of i64 and their neighbours, zero and its neighbours.
 pub const SIGNED_ENDS: [i64; 9] =

@@ -1,0 +1,80 @@
+//! Demand 3 for cards of one scale, one zone and one factor other than 1 (02, E4).
+
+mod rule;
+mod support;
+
+use fordcask::{Pixel, Refusal, Series, Sheet};
+use support::cuts::{list, Ends};
+use support::edges::greatest_scale;
+use support::make::{all_chart, card, overview, scale, town_overview, ZONES};
+use support::seeded;
+
+/// Every factor in every zone, at its greatest scale, both ends of the town scales and others.
+#[test]
+fn demand_3_every_factor() {
+    let mut random = seeded("demand_3_every_factor");
+    let mut ends = Ends::default();
+    for factor in 2..=64 {
+        let greatest = greatest_scale(factor);
+        for zone in ZONES {
+            for round in 0..60 {
+                let scale = match round % 6 {
+                    0 => greatest,
+                    1 => random.pick(&[greatest - 1, 5_000, 9_999, 10_000]),
+                    2 => random.between(5_000, greatest as i64) as u64,
+                    _ => scale(&mut random).min(greatest),
+                };
+                list(&mut random, Series { scale, factor, zone }, &mut ends);
+            }
+        }
+    }
+    println!("cases demand_3_every_factor {ends:?}");
+    assert!(ends.lists > 30_000 && ends.answered > 40_000, "{ends:?}");
+    assert!(ends.outside > 15_000 && ends.padding > 15_000, "{ends:?}");
+}
+
+/// Overviews of any scale, and those of the town scales.
+#[test]
+fn demand_3_overviews() {
+    let mut random = seeded("demand_3_overviews");
+    let mut ends = Ends::default();
+    for round in 0..100_000 {
+        let maker = if round % 4 == 0 { town_overview } else { overview };
+        let series = maker(&mut random);
+        list(&mut random, series, &mut ends);
+    }
+    println!("cases demand_3_overviews {ends:?}");
+    assert!(ends.lists > 50_000 && ends.answered > 80_000, "{ends:?}");
+    assert!(ends.outside > 30_000 && ends.padding > 30_000, "{ends:?}");
+}
+
+/// Every pixel of a card asked of another that has a part of it in common; 12 outside that part.
+#[test]
+fn common_part() {
+    let mut common = 0;
+    let series = [(5_000, 64, 1), (9_999, 2, 13), (10_000, 63, 8), (50_000, 20, 2)];
+    let larger = [(312_500, 64, 17), (317_460, 63, 3), (10_000_000, 2, 5), (6_666_666, 3, 16)];
+    for (scale, factor, zone) in series.into_iter().chain(larger) {
+        let series = Series { scale, factor, zone };
+        let head = card(series, &all_chart(9, -3, 4, 5, false));
+        let other = card(series, &all_chart(8, -1, 4, 4, true));
+        let head = Sheet { series, card: &head };
+        let other = Sheet { series, card: &other };
+        for row in 0..512 {
+            for column in 0..640 {
+                let position = head.position(Pixel { row, column }).expect("a pixel");
+                let expected = Pixel { row: row - 128, column: column - 256 };
+                let inside = expected.row >= 0 && expected.column >= 0;
+                let outside = Err(Refusal { number: 12, at: 0 });
+                let right = if inside { Ok(expected) } else { outside };
+                assert_eq!(other.pixel(position), right, "{series:?} {row} {column}");
+                if inside {
+                    common += 1;
+                    let again = other.position(expected);
+                    assert_eq!(again, Ok(position), "{series:?} {row} {column}");
+                }
+            }
+        }
+    }
+    assert_eq!(common, 8 * 384 * 384);
+}

@@ -1,0 +1,132 @@
+//! Demand 3 by running: a point asked down a list of cards of one scale, zone and factor.
+//! The place is the rule's, worked out from the first pixel alone and never rounded.
+
+use super::ask_sheet::shown;
+use super::make::{all_chart, card, pixel, record, with_edges};
+use super::random::Random;
+use crate::rule;
+use fordcask::{Card, Pixel, Place, Position, Refusal, Series, Sheet};
+
+/// How the calls of the later cards ended.
+#[derive(Default, Debug)]
+pub struct Ends {
+    pub lists: u64,
+    pub answered: u64,
+    pub outside: u64,
+    pub padding: u64,
+}
+
+/// The pixel of the card's tiles that has the place; there is at most one, as 128 × NFC ≤ A.
+pub fn pixel_with(card: &Card, place: Place) -> Option<Pixel> {
+    let record = &card.record;
+    let a = card.spacing.a as i128;
+    let row = 128 * record.n as i128 - place.row as i128;
+    let column = rule::modulo(place.column as i128 - 128 * record.m as i128, a);
+    let inside = (0..128 * record.nfl as i128).contains(&row) && column < 128 * record.nfc as i128;
+    inside.then_some(Pixel { row: row as i64, column: column as i64 })
+}
+
+/// A card whose tiles have the place in a tile of their own choosing, or nearly have it.
+pub fn cut(random: &mut Random, series: Series, place: Place) -> Vec<u8> {
+    let (a, b) = rule::non_polar(series).expect("a spacing");
+    let (pole, side) = ((b / 512) as i64, (a / 256) as i64);
+    let miss = i64::from(random.once_in(8));
+    // tiles above and to the left of the one with the place
+    let (above, before) = (random.between(-miss, 3), random.between(-miss, 3));
+    let n = (-(-place.row).div_euclid(128) + above).clamp(1 - pole, pole);
+    let nfl = random.between(1.max(above + 1 - miss), 5).min(n + pole);
+    let mut m = place.column.div_euclid(128) - before;
+    // the same meridian on either side of 180 degrees
+    if m > side {
+        m -= 2 * side;
+    }
+    if m.abs() == side && random.once_in(2) {
+        m = -m;
+    }
+    let nfc = random.between(1.max(before + 1 - miss), 5).min(2 * side);
+    let mut record = with_edges(random, n, m, nfl, nfc);
+    if random.once_in(2) {
+        record = all_chart(n, m, nfl as u64, nfc as u64, false);
+    }
+    card(series, &record)
+}
+
+/// The place of a series' grid at a position, or one next to it.
+pub fn place_at(series: Series, position: Position) -> Place {
+    let (a, b) = rule::non_polar(series).expect("a spacing");
+    let row = rule::nearest(i128::from(position.lat) * b, rule::H);
+    let column = rule::modulo(rule::nearest(i128::from(position.lon) * a, rule::H), a);
+    Place { row: row as i64, column: column as i64 }
+}
+
+/// A card of another series whose tiles have a position, or nearly have it.
+pub fn over(random: &mut Random, series: Series, position: Position) -> Vec<u8> {
+    cut(random, series, place_at(series, position))
+}
+
+/// The calls of demand 3 down one list; each answer is held to the first pixel's place.
+pub fn walk(series: Series, cards: &[Vec<u8>], first: Pixel, ends: &mut Ends) {
+    let sheets = || cards.iter().map(|card| Sheet { series, card });
+    let head = sheets().next().expect("a first card");
+    let head_card = rule::read(series, head.card).expect("an accepted card");
+    let place = rule::place(&head_card, first).expect("a pixel of the tiles");
+    let Ok(start) = head.position(first) else {
+        return;
+    };
+    ends.lists += 1;
+    let mut last = start;
+    for sheet in sheets().skip(1) {
+        let call = || format!("{} from {}, {first:?}, {last:?}", shown(&sheet), shown(&head));
+        let card = rule::read(series, sheet.card).expect("an accepted card");
+        match sheet.pixel(last) {
+            Ok(found) => {
+                ends.answered += 1;
+                let found_place = rule::place(&card, found);
+                assert_eq!(found_place, Ok(place), "place: {}", call());
+                assert_eq!(sheet.position(found), Ok(start), "position: {}", call());
+                last = sheet.position(found).expect("a position");
+            }
+            Err(refusal) => refused(&card, place, refusal, ends, call()),
+        }
+    }
+}
+
+/// 12 exactly where no pixel of the card's tiles has the place, else 13 and a padding pixel.
+fn refused(card: &Card, place: Place, refusal: Refusal, ends: &mut Ends, call: String) {
+    let number = match pixel_with(card, place) {
+        None => 12,
+        Some(_) => 13,
+    };
+    assert_eq!(refusal, Refusal { number, at: 0 }, "refusal: {call}");
+    match pixel_with(card, place) {
+        None => ends.outside += 1,
+        Some(pixel) => {
+            ends.padding += 1;
+            let padding = rule::position(card, pixel).map_err(|r| r.number);
+            assert_eq!(padding, Err(13), "a pixel of the padding: {call}");
+        }
+    }
+}
+
+/// A list of 2 to 8 cards round a pixel of the first; a card may be repeated.
+pub fn list(random: &mut Random, series: Series, ends: &mut Ends) {
+    let record = record(random, series, 4);
+    let first = pixel(random, &record);
+    let mut cards = vec![card(series, &record)];
+    let read = rule::read(series, &cards[0]).expect("an accepted card");
+    let Ok(place) = rule::place(&read, first) else {
+        return;
+    };
+    for _ in 0..random.between(1, 7) {
+        let next = match random.below(8) {
+            0 => random.pick(&cards.iter().collect::<Vec<_>>()).clone(),
+            1 => {
+                let record = super::make::record(random, series, 999);
+                card(series, &record)
+            }
+            _ => cut(random, series, place),
+        };
+        cards.push(next);
+    }
+    walk(series, &cards, first, ends);
+}
