@@ -28,9 +28,10 @@ returns : tie.Need-returns
 unfolding asked
 returns c =
     let s = c .before .before .before .before .before .before .before .before in
+    let f = asked _ (s .args .overview-series) (s .args .overview-card .now) in
     rw (← c .before .before .before .before .before .read-card .ensures, c .before .before .enum-told .given .1)
     (c .into-parts .ensures
-    ∙ ap pixelReport (c .before .pixel-on .ensures ∙ pair-asked (asked _ (s .args .overview-series) (s .args .overview-card .now)) (s .fits .row) (s .fits .column)))
+    ∙ ap pixelReport (c .before .pixel-on .ensures ∙ pair-asked f (s .fits .row) (s .fits .column)))
 
 returns-2 : tie.Need-returns-2
 returns-2 c = rw (← c .before .before .before .before .before .read-card .ensures, c .before .before .verdict .given .1) (c .into-parts2 .ensures)
