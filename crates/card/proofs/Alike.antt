@@ -8,17 +8,19 @@ use native.Mathlib.Omega.{arith}
 use borrow.Author.Tests.{le-leb, lt-ltb}
 use lib.Dec.{leb}
 use lib.IntN.{ℤ, pos, _+ℤ_, _-ℤ_, _*ℤ_}
-use Rattle.whole.specs.Whole.{near, nearest, modulo, outside, raise}
+use Rattle.whole.specs.Whole.{floorDiv, nearest, modulo, outside, raise}
 use Rattle.whole.proofs.Signed.{Is, is-equal, equal-is, is-raise}
 use Rattle.arc.specs.declared.Series.{Series}
 use Rattle.arc.specs.declared.Verdict.{Verdict}
 use Rattle.arc.specs.Refusals.{refusal}
 use Rattle.arc.specs.Zones.{circle, half}
 use Rattle.card.specs.declared.Card.{Card}
+use Rattle.card.specs.declared.Pair.{Pair}
 use Rattle.card.specs.declared.Extents.{Extents}
 use Rattle.card.specs.declared.PlaceAnswer.{PlaceAnswer}
 use Rattle.card.specs.Read.{Accepted}
-use Rattle.card.specs.Grid.{placeRow, placeColumn, inTiles, inChart, extentsOf, rowOf, columnOf, verdictOf, placeOf, positionOf, pixelOf}
+use Rattle.card.specs.Grid.{placeRow, placeColumn, inTiles, inChart, extentsOf, rowValue, rowOf, columnOf, verdictOf, placeOf, positionOf, pixelOf}
+use Rattle.card.specs.Steps.{inward}
 use Rattle.card.specs.Copies.{Alike, AnswerAlike, AlikeExactly}
 use Rattle.card.proofs.Walked.{between}
 use Rattle.card.proofs.Laid.{Laid, accepted-laid, same-spacing}
@@ -97,8 +99,8 @@ extents-alike j k l l′ h =
     let x = covers j k l h in
     let y = covers k j l′ (record {
       place = λ r c. sym (h .place r c);
-      position = λ r c. sym (h .position r c);
-      pixel = λ r c. sym (h .pixel r c);
+      position = λ pair r c. sym (h .position pair r c);
+      pixel = λ pair r c. sym (h .pixel pair r c);
       verdict = λ r c. sym (h .verdict r c);
     }) in
     let nul : j .nul ≡ k .nul = omega (arith, x .top, y .top) in
@@ -138,8 +140,10 @@ module _ (series : Series) (j k : Card) (p : Accepted series j) (q : Accepted se
   column-place′ : (c : ℕ) → placeColumn k (pos c) ≡ pos ((k .east + c + j .a / 2) % j .a)
   column-place′ c = column-place k l′ c ∙ ap (λ (a : ℕ). pos ((k .east + c + a / 2) % a)) same-a
 
-  column-at′ : (lon : ℤ) (n : ℕ) → Is lon n half → columnOf k lon ≡ pos ((near (n * j .a) circle + (j .a - k .east)) % j .a)
-  column-at′ lon n h = column-at k l′ lon n h ∙ ap (λ (a : ℕ). pos ((near (n * a) circle + (a - k .east)) % a)) same-a
+  column-at′ : (pair : Pair) (lon : ℤ) (n : ℕ) → Is lon n half
+      → columnOf pair k lon ≡ pos (((n * j .a + (half - inward pair)) / circle + (j .a - k .east)) % j .a)
+  column-at′ pair lon n h =
+      column-at k l′ pair lon n h ∙ ap (λ (a : ℕ). pos (((n * a + (half - inward pair)) / circle + (a - k .east)) % a)) same-a
 
   module _ (row : placeRow j (pos 0) ≡ placeRow k (pos 0)) (column : placeColumn j (pos 0) ≡ placeColumn k (pos 0))
       (extents : extentsOf j ≡ extentsOf k) where
@@ -163,17 +167,22 @@ module _ (series : Series) (j k : Card) (p : Accepted series j) (q : Accepted se
         ∙ ap (λ (n : ℕ). pos (n % j .a)) (omega arith)
         ∙ sym (column-place′ c)
 
-    column-alike : (lon : ℤ) → outside half lon ≡ false → columnOf j lon ≡ columnOf k lon
-    column-alike lon o =
+    column-alike : (pair : Pair) (lon : ℤ) → outside half lon ≡ false → columnOf pair j lon ≡ columnOf pair k lon
+    column-alike pair lon o =
         let n : ℕ = raise half lon in
         let i = is-raise half lon o in
-        column-at j l lon n i
-        ∙ ap pos (turned (j .a) (near (n * j .a) circle) (j .east) (k .east) (east-high j l) (omega (arith, same-a, east-high k l′)) turn-alike)
-        ∙ sym (column-at′ lon n i)
+        let x : ℕ = (n * j .a + (half - inward pair)) / circle in
+        column-at j l pair lon n i
+        ∙ ap pos (turned (j .a) x (j .east) (k .east) (east-high j l) (omega (arith, same-a, east-high k l′)) turn-alike)
+        ∙ sym (column-at′ pair lon n i)
 
-    row-alike : (lat : ℤ) → rowOf j lat ≡ rowOf k lat
+    value-alike : (lat : ℤ) → rowValue j lat ≡ rowValue k lat
+    value-alike lat = ap₂ (λ (n : ℤ) (b : ℕ). pos 128 *ℤ n *ℤ pos circle -ℤ lat *ℤ pos b) n-alike (sym same-b)
+
+    row-alike : (pair : Pair) (lat : ℤ) → rowOf pair j lat ≡ rowOf pair k lat
     unfolding rowOf
-    row-alike lat = ap₂ (λ (n : ℤ) (b : ℕ). nearest (pos 128 *ℤ n *ℤ pos circle -ℤ lat *ℤ pos b) circle) n-alike (sym same-b)
+    row-alike Pair.Corner lat = ap (λ (z : ℤ). nearest z circle) (value-alike lat)
+    row-alike Pair.Centre lat = ap (λ (z : ℤ). floorDiv z circle) (value-alike lat)
 
     tiles-alike : (r c : ℤ) → inTiles j r c ≡ inTiles k r c
     tiles-alike r c = rw (ap (λ (e : Extents). e .nfl) extents, ap (λ (e : Extents). e .nfc) extents)
@@ -200,23 +209,25 @@ module _ (series : Series) (j k : Card) (p : Accepted series j) (q : Accepted se
             ∙ sym (placed k r c (sym (tiles-alike r c) ∙ t))
         go false t = rw (t, sym (tiles-alike r c) ∙ t)
 
-    position-answers : (r c : ℤ) → positionOf j r c ≡ positionOf k r c
+    position-answers : (pair : Pair) (r c : ℤ) → positionOf pair j r c ≡ positionOf pair k r c
     unfolding positionOf
-    position-answers r c = go (inTiles j r c) (inChart j r c) refl refl
+    position-answers pair r c = go (inTiles j r c) (inChart j r c) refl refl
       where
-        go : (a b : Bool) → inTiles j r c ≡ a → inChart j r c ≡ b → positionOf j r c ≡ positionOf k r c
-        go true true s t = place-alike series j k p q r c t r c (sym (chart-alike r c) ∙ t) .0 (place-answers r c)
+        go : (a b : Bool) → inTiles j r c ≡ a → inChart j r c ≡ b → positionOf pair j r c ≡ positionOf pair k r c
+        go true true s t = place-alike pair series j k p q r c t r c (sym (chart-alike r c) ∙ t) .0 (place-answers r c)
         go true false s t = rw (s, sym (tiles-alike r c) ∙ s, t, sym (chart-alike r c) ∙ t)
         go false b s t = rw (s, sym (tiles-alike r c) ∙ s)
 
-    pixel-answers : (lat lon : ℤ) → pixelOf j lat lon ≡ pixelOf k lat lon
+    pixel-answers : (pair : Pair) (lat lon : ℤ) → pixelOf pair j lat lon ≡ pixelOf pair k lat lon
     unfolding pixelOf
-    pixel-answers lat lon = go (outside half lon) refl
+    pixel-answers pair lat lon = go (outside half lon) refl
       where
-        go : (b : Bool) → outside half lon ≡ b → pixelOf j lat lon ≡ pixelOf k lat lon
+        go : (b : Bool) → outside half lon ≡ b → pixelOf pair j lat lon ≡ pixelOf pair k lat lon
         go true o = rw o
         go false o =
-            rw (o, row-alike lat, column-alike lon o, tiles-alike (rowOf k lat) (columnOf k lon), chart-alike (rowOf k lat) (columnOf k lon))
+            let r = rowOf pair k lat in
+            let c = columnOf pair k lon in
+            rw (o, row-alike pair lat, column-alike pair lon o, tiles-alike r c, chart-alike r c)
 
     answers : Alike j k
     answers =

@@ -12,40 +12,40 @@ use Rattle.arc.specs.Refusals.{onVerdict}
 use Rattle.arc.specs.Zones.{circle, half, quarter}
 use Rattle.origin.proofs.Line.{is-inside}
 use Rattle.card.specs.declared.Card.{Card}
+use Rattle.card.specs.declared.Pair.{Pair}
 use Rattle.card.specs.declared.PositionAnswer.{PositionAnswer}
 use Rattle.card.specs.Grid.{latitudeOf, longitudeOf, verdictOf, positionOf}
+use Rattle.card.specs.Steps.{inward}
 use Rattle.card.specs.Ranges.{InRange, AnsweredInRange}
 use Rattle.card.proofs.Laid.{Laid, known-laid}
 use Rattle.card.proofs.Axes.{north-high, down-high, latitude-is, longitude-is, latitude-high}
 use Rattle.card.proofs.Regions.{tiles-inside}
 use Rattle.card.proofs.Answers.{accepted-in}
 
-module _ (k : Card) (l : Laid k) where
-  position-in : (r c : ℕ) → r < 128 * k .nfl → InRange (latitudeOf k (pos r)) (longitudeOf k (pos c))
+module _ (p : Pair) (k : Card) (l : Laid k) where
+  position-in : (r c : ℕ) → r < 128 * k .nfl → InRange (latitudeOf p k (pos r)) (longitudeOf p k (pos c))
   position-in r c h =
-      let y : ℕ = near ((k .north - r) * circle) (k .b) in
-      let x : ℕ = near ((k .east + c) * circle) (k .a) % circle in
-      let u = latitude-is k l r (omega (arith, down-high k l)) in
-      let v = longitude-is k l c in
+      let y : ℕ = near ((k .north - r) * circle - inward p) (k .b) in
+      let x : ℕ = near ((k .east + c) * circle + inward p) (k .a) in
+      let u = latitude-is k l p r (omega (arith, down-high k l)) in
+      let v = longitude-is k l p c in
       record {
-        latitude = is-inside (latitudeOf k (pos r)) y quarter u (latitude-high k l (k .north - r) (omega (arith, north-high k l)));
-        west = is-le (negℤ (pos half)) (longitudeOf k (pos c)) 0 half x half (is-neg (pos half) half 0 (is-nat half)) v (omega arith);
-        east =
-            is-lt (longitudeOf k (pos c)) (pos half) x half half 0 v (is-nat half)
-            (omega (arith, mod-lt (near ((k .east + c) * circle) (k .a)) {m = circle} (omega arith)));
+        latitude = is-inside (latitudeOf p k (pos r)) y quarter u (latitude-high k l (k .north - r) (inward p) (omega (arith, north-high k l)));
+        west = is-le (negℤ (pos half)) (longitudeOf p k (pos c)) 0 half (x % circle) half (is-neg (pos half) half 0 (is-nat half)) v (omega arith);
+        east = is-lt (longitudeOf p k (pos c)) (pos half) (x % circle) half half 0 v (is-nat half) (omega (arith, mod-lt x {m = circle} (omega arith)));
       }
 
 pub answered-in-range : AnsweredInRange
 unfolding positionOf
-answered-in-range k w r c lat lon e = go (verdictOf k r c) refl e
+answered-in-range p k w r c lat lon e = go (verdictOf k r c) refl e
   where
     go : (v : Verdict) → verdictOf k r c ≡ v
-        → onVerdict v PositionAnswer.Refused (PositionAnswer.At (latitudeOf k r) (longitudeOf k c)) ≡ PositionAnswer.At lat lon
+        → onVerdict v PositionAnswer.Refused (PositionAnswer.At (latitudeOf p k r) (longitudeOf p k c)) ≡ PositionAnswer.At lat lon
         → InRange lat lon
-    go Verdict.Accepted t p =
+    go Verdict.Accepted t f =
         let i = tiles-inside k r c (accepted-in k r c t .0) in
-        let same-lat : latitudeOf k r ≡ lat = cc in
-        let same-lon : longitudeOf k c ≡ lon = cc in
-        subst₂ InRange (sym (ap (latitudeOf k) (i .row .same)) ∙ same-lat) (sym (ap (longitudeOf k) (i .column .same)) ∙ same-lon)
-        (position-in k (known-laid k w) (i .row .at) (i .column .at) (i .row .below))
-    go (Verdict.Refused n) t p = let z : _≡_ {A = ℕ} 0 1 = cc in absurd (omega arith)
+        let same-lat : latitudeOf p k r ≡ lat = cc in
+        let same-lon : longitudeOf p k c ≡ lon = cc in
+        subst₂ InRange (sym (ap (latitudeOf p k) (i .row .same)) ∙ same-lat) (sym (ap (longitudeOf p k) (i .column .same)) ∙ same-lon)
+        (position-in p k (known-laid k w) (i .row .at) (i .column .at) (i .row .below))
+    go (Verdict.Refused n) t f = let z : _≡_ {A = ℕ} 0 1 = cc in absurd (omega arith)

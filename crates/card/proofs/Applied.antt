@@ -14,6 +14,7 @@ use Rattle.arc.specs.Scales.{chartSeries}
 use Rattle.arc.specs.Spacing.{spacingAt}
 use Rattle.origin.specs.Origin.{storedAngle}
 use Rattle.card.specs.declared.Card.{Card}
+use Rattle.card.specs.declared.Pair.{Pair}
 use Rattle.card.specs.declared.PositionAnswer.{PositionAnswer}
 use Rattle.card.specs.declared.PixelAnswer.{PixelAnswer}
 use Rattle.text.specs.Text.{number, angleLaid, degrees, minutes, seconds, hundredths, angleSize, angleOf, angleValid, nameLaid}
@@ -101,29 +102,29 @@ all-accepted = (
 
 -- ---- the demand, from each card's pixels over the other and back
 
-pub paper-walked : NoDriftFrom paperCard (besideCard ∷ᴸ paperCard ∷ᴸ []ᴸ) (pos 0) (pos 0)
-    × NoDriftFrom paperCard (besideCard ∷ᴸ paperCard ∷ᴸ []ᴸ) (pos 200) (pos 100)
+pub paper-walked : (p : Pair) → NoDriftFrom p paperCard (besideCard ∷ᴸ paperCard ∷ᴸ []ᴸ) (pos 0) (pos 0)
+    × NoDriftFrom p paperCard (besideCard ∷ᴸ paperCard ∷ᴸ []ᴸ) (pos 200) (pos 100)
 unfolding cardOf number
-paper-walked =
-    let go = no-drift paperSeries paperCard (besideCard ∷ᴸ paperCard ∷ᴸ []ᴸ) (all-accepted .0 .0, (all-accepted .0 .1, (all-accepted .0 .0, tt))) in
+paper-walked p =
+    let go = no-drift p paperSeries paperCard (besideCard ∷ᴸ paperCard ∷ᴸ []ᴸ) (all-accepted .0 .0, (all-accepted .0 .1, (all-accepted .0 .0, tt))) in
     (go (pos 0) (pos 0) refl, go (pos 200) (pos 100) refl)
 
-pub beside-walked : NoDriftFrom besideCard (paperCard ∷ᴸ besideCard ∷ᴸ []ᴸ) (pos 64) (pos 64)
+pub beside-walked : (p : Pair) → NoDriftFrom p besideCard (paperCard ∷ᴸ besideCard ∷ᴸ []ᴸ) (pos 64) (pos 64)
 unfolding cardOf number
-beside-walked =
-    no-drift paperSeries besideCard (paperCard ∷ᴸ besideCard ∷ᴸ []ᴸ)
+beside-walked p =
+    no-drift p paperSeries besideCard (paperCard ∷ᴸ besideCard ∷ᴸ []ᴸ)
     (all-accepted .0 .1, (all-accepted .0 .0, (all-accepted .0 .1, tt))) (pos 64) (pos 64) refl
 
-pub town-walked : NoDriftFrom townCard (townBesideCard ∷ᴸ townCard ∷ᴸ []ᴸ) (pos 1) (pos 1)
+pub town-walked : (p : Pair) → NoDriftFrom p townCard (townBesideCard ∷ᴸ townCard ∷ᴸ []ᴸ) (pos 1) (pos 1)
 unfolding cardOf number
-town-walked =
-    no-drift townSeries townCard (townBesideCard ∷ᴸ townCard ∷ᴸ []ᴸ)
+town-walked p =
+    no-drift p townSeries townCard (townBesideCard ∷ᴸ townCard ∷ᴸ []ᴸ)
     (all-accepted .1 .0, (all-accepted .1 .1, (all-accepted .1 .0, tt))) (pos 1) (pos 1) refl
 
-pub over-walked : NoDriftFrom overCard (overBesideCard ∷ᴸ overCard ∷ᴸ []ᴸ) (pos 94) (pos 35)
+pub over-walked : (p : Pair) → NoDriftFrom p overCard (overBesideCard ∷ᴸ overCard ∷ᴸ []ᴸ) (pos 94) (pos 35)
 unfolding cardOf number
-over-walked =
-    no-drift overSeries overCard (overBesideCard ∷ᴸ overCard ∷ᴸ []ᴸ)
+over-walked p =
+    no-drift p overSeries overCard (overBesideCard ∷ᴸ overCard ∷ᴸ []ᴸ)
     (all-accepted .2 .0, (all-accepted .2 .1, (all-accepted .2 .0, tt))) (pos 94) (pos 35) refl
 
 -- ---- the same walks, computed: a pixel each time; 13, then a pixel; 12, then a pixel
@@ -131,18 +132,32 @@ over-walked =
 abbrev gives : ℤ → ℤ → ℤ → ℤ → Visit
 gives r c lat lon = gave r c (PositionAnswer.At lat lon)
 
-pub visited : (visits (pos 4143223) (negsuc 897506) (besideCard ∷ᴸ paperCard ∷ᴸ []ᴸ)
-    ≡ gives (pos 128) (pos 128) (pos 4143223) (negsuc 897506) ∷ᴸ gives (pos 0) (pos 0) (pos 4143223) (negsuc 897506) ∷ᴸ []ᴸ)
-    × (visits (pos 4078485) (negsuc 862447) (besideCard ∷ᴸ paperCard ∷ᴸ []ᴸ)
-    ≡ refused (refusal 13) ∷ᴸ gives (pos 200) (pos 100) (pos 4078485) (negsuc 862447) ∷ᴸ []ᴸ)
-    × (visits (pos 4163939) (negsuc 919944) (paperCard ∷ᴸ besideCard ∷ᴸ []ᴸ)
-    ≡ refused (refusal 12) ∷ᴸ gives (pos 64) (pos 64) (pos 4163939) (negsuc 919944) ∷ᴸ []ᴸ)
-    × (visits (pos 20714) (negsuc 4485) (townBesideCard ∷ᴸ townCard ∷ᴸ []ᴸ)
-    ≡ gives (pos 129) (pos 129) (pos 20714) (negsuc 4485) ∷ᴸ gives (pos 1) (pos 1) (pos 20714) (negsuc 4485) ∷ᴸ []ᴸ)
-    × (visits (pos 4142985) (negsuc 1216100) (overBesideCard ∷ᴸ overCard ∷ᴸ []ᴸ)
-    ≡ gives (pos 222) (pos 163) (pos 4142985) (negsuc 1216100) ∷ᴸ gives (pos 94) (pos 35) (pos 4142985) (negsuc 1216100) ∷ᴸ []ᴸ)
+-- over another card and back, from the position of a first card's pixel
+abbrev both-give : Pair → Card → ℤ → ℤ → Card → ℤ → ℤ → ℤ → ℤ → Type 0
+both-give p first r c other r′ c′ lat lon =
+    (positionOf p first r c ≡ PositionAnswer.At lat lon)
+    × (visits p lat lon (other ∷ᴸ first ∷ᴸ []ᴸ) ≡ gives r′ c′ lat lon ∷ᴸ gives r c lat lon ∷ᴸ []ᴸ)
+
+abbrev one-refuses : Pair → Card → ℤ → ℤ → Card → ℕ → ℤ → ℤ → Type 0
+one-refuses p first r c other number lat lon =
+    (positionOf p first r c ≡ PositionAnswer.At lat lon)
+    × (visits p lat lon (other ∷ᴸ first ∷ᴸ []ᴸ) ≡ refused (refusal number) ∷ᴸ gives r c lat lon ∷ᴸ []ᴸ)
+
+pub corner-visits : both-give Pair.Corner paperCard (pos 0) (pos 0) besideCard (pos 128) (pos 128) (pos 4143223) (negsuc 897506)
+    × one-refuses Pair.Corner paperCard (pos 200) (pos 100) besideCard 13 (pos 4078485) (negsuc 862447)
+    × one-refuses Pair.Corner besideCard (pos 64) (pos 64) paperCard 12 (pos 4163939) (negsuc 919944)
+    × both-give Pair.Corner townCard (pos 1) (pos 1) townBesideCard (pos 129) (pos 129) (pos 20714) (negsuc 4485)
+    × both-give Pair.Corner overCard (pos 94) (pos 35) overBesideCard (pos 222) (pos 163) (pos 4142985) (negsuc 1216100)
 unfolding cardOf number floorDiv nearest modulo latitudeOf longitudeOf rowOf columnOf positionOf pixelOf
-visited = (refl, refl, refl, refl, refl)
+corner-visits = ((refl, refl), (refl, refl), (refl, refl), (refl, refl), (refl, refl))
+
+pub centre-visits : both-give Pair.Centre paperCard (pos 0) (pos 0) besideCard (pos 128) (pos 128) (pos 4143061) (negsuc 897331)
+    × one-refuses Pair.Centre paperCard (pos 200) (pos 100) besideCard 13 (pos 4078323) (negsuc 862272)
+    × one-refuses Pair.Centre besideCard (pos 64) (pos 64) paperCard 12 (pos 4163777) (negsuc 919768)
+    × both-give Pair.Centre townCard (pos 1) (pos 1) townBesideCard (pos 129) (pos 129) (pos 20714) (negsuc 4484)
+    × both-give Pair.Centre overCard (pos 94) (pos 35) overBesideCard (pos 222) (pos 163) (pos 4140402) (negsuc 1213348)
+unfolding cardOf number floorDiv nearest modulo latitudeOf longitudeOf rowOf columnOf positionOf pixelOf
+centre-visits = ((refl, refl), (refl, refl), (refl, refl), (refl, refl), (refl, refl))
 
 -- the overview pixel of the worked example's third
 pub overviewed : overviewPixelOf paperCard overCard (pos 255) (pos 127) ≡ PixelAnswer.At (pos 110) (pos 101)

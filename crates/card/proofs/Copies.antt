@@ -24,6 +24,7 @@ use Rattle.origin.proofs.Axis.{tileAngle, stored-is}
 use Rattle.origin.proofs.Stored.{counted, counted-is, axis, stored-unique}
 use Rattle.text.specs.Text.{number, angleOf}
 use Rattle.card.specs.declared.Card.{Card}
+use Rattle.card.specs.declared.Pair.{Pair}
 use Rattle.card.specs.declared.PlaceAnswer.{PlaceAnswer}
 use Rattle.card.specs.declared.PositionAnswer.{PositionAnswer}
 use Rattle.card.specs.Layout.{Subfield, STR, ARV, BRV, LSO, PSO, layout, bytesOf, rightKind, rightValue, judge, judgeField, orElse, walk}
@@ -48,7 +49,7 @@ module _ (k : Card) (r c : ℤ) where
   unfolding placeOf
   placed t = rw t
 
-module _ (series : Series) (j k : Card) (p : Accepted series j) (q : Accepted series k) (r c : ℤ) (i : inChart j r c ≡ true)
+module _ (pair : Pair) (series : Series) (j k : Card) (p : Accepted series j) (q : Accepted series k) (r c : ℤ) (i : inChart j r c ≡ true)
     (r′ c′ : ℤ) (i′ : inChart k r′ c′ ≡ true) where
   place-at : placeOf j r c ≡ PlaceAnswer.At (placeRow j r) (placeColumn j c)
   place-at = placed j r c (chart-tiles j r c (accepted-laid series j p) i)
@@ -59,39 +60,40 @@ module _ (series : Series) (j k : Card) (p : Accepted series j) (q : Accepted se
   place-at′ : placeOf k r′ c′ ≡ PlaceAnswer.At (placeRow k r′) (placeColumn k c′)
   place-at′ = placed k r′ c′ tiles′
 
-  module _ (lat lon : ℤ) (e : positionOf j r c ≡ PositionAnswer.At lat lon) where
+  module _ (lat lon : ℤ) (e : positionOf pair j r c ≡ PositionAnswer.At lat lon) where
     -- the pixel of k that has the place of j's is the one that k gives
-    one-position : placeOf j r c ≡ placeOf k r′ c′ → positionOf j r c ≡ positionOf k r′ c′
+    one-position : placeOf j r c ≡ placeOf k r′ c′ → positionOf pair j r c ≡ positionOf pair k r′ c′
     one-position f =
         let g = sym place-at ∙ f ∙ place-at′ in
         let x : placeRow k r′ ≡ placeRow j r = cc in
         let y : placeColumn k c′ ≡ placeColumn j c = cc in
         let at : HasPlace k (placeRow j r) (placeColumn j c) r′ c′ = record { row = x; column = y } in
-        go (told-by-place series j p r c i lat lon e k q) at
+        go (told-by-place pair series j p r c i lat lon e k q) at
       where
-        go : Told k (placeRow j r) (placeColumn j c) lat lon → HasPlace k (placeRow j r) (placeColumn j c) r′ c′ → positionOf j r c ≡ positionOf k r′ c′
+        go : Told pair k (placeRow j r) (placeColumn j c) lat lon → HasPlace k (placeRow j r) (placeColumn j c) r′ c′
+            → positionOf pair j r c ≡ positionOf pair k r′ c′
         go t at = given (t .gives .1 (record { r = r′; c = c′; within = i′; at = at }))
           where
-            given : GivesPixel k lat lon → positionOf j r c ≡ positionOf k r′ c′
+            given : GivesPixel pair k lat lon → positionOf pair j r c ≡ positionOf pair k r′ c′
             given n =
                 let one = t .only (n .r) (n .c) (n .given) .1 r′ c′ tiles′ at in
-                e ∙ sym (ap₂ (positionOf k) (one .0) (one .1) ∙ t .back (n .r) (n .c) (n .given))
+                e ∙ sym (ap₂ (positionOf pair k) (one .0) (one .1) ∙ t .back (n .r) (n .c) (n .given))
 
     -- k gives one pixel for the position, and it has the places of both
-    one-place : positionOf j r c ≡ positionOf k r′ c′ → placeOf j r c ≡ placeOf k r′ c′
+    one-place : positionOf pair j r c ≡ positionOf pair k r′ c′ → placeOf j r c ≡ placeOf k r′ c′
     one-place f =
-        let t = told-by-place series j p r c i lat lon e k q in
-        let t′ = told-by-place series k q r′ c′ i′ lat lon (sym f ∙ e) k q in
+        let t = told-by-place pair series j p r c i lat lon e k q in
+        let t′ = told-by-place pair series k q r′ c′ i′ lat lon (sym f ∙ e) k q in
         let n = t′ .gives .1 (record { r = r′; c = c′; within = i′; at = record { row = refl; column = refl } }) in
         let at = t .only (n .r) (n .c) (n .given) .0 in
         let at′ = t′ .only (n .r) (n .c) (n .given) .0 in
         place-at ∙ ap₂ PlaceAnswer.At (sym (at .row) ∙ at′ .row) (sym (at .column) ∙ at′ .column) ∙ sym place-at′
 
 pub place-alike : PlaceAlike
-place-alike series j k p q r c i r′ c′ i′ =
-    let w = no-drift series j [] (p, tt) r c i in (
-      one-position series j k p q r c i r′ c′ i′ (w .lat) (w .lon) (w .answered),
-      one-place series j k p q r c i r′ c′ i′ (w .lat) (w .lon) (w .answered),
+place-alike pair series j k p q r c i r′ c′ i′ =
+    let w = no-drift pair series j [] (p, tt) r c i in (
+      one-position pair series j k p q r c i r′ c′ i′ (w .lat) (w .lon) (w .answered),
+      one-place pair series j k p q r c i r′ c′ i′ (w .lat) (w .lon) (w .answered),
     )
 
 -- ---- bytes

@@ -4,6 +4,7 @@ pub mod Found
 pub mod Acceptance
 pub mod Laid
 pub mod Line
+pub mod Pairs
 pub mod Axes
 pub mod Regions
 pub mod Chain

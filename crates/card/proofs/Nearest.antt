@@ -9,16 +9,17 @@ use native.Mathlib.Nat.{add-mul, mul-left-comm, mul-right-comm, mod-lt, mod-eq-o
 use native.Mathlib.Omega.{arith}
 use lib.IntN.{ℤ, pos, negsuc, negℤ, subℕ, natAbs, _+ℤ_, _-ℤ_, _*ℤ_}
 use lib.Signed.{_≤ℤ_, _<ℤ_}
-use Rattle.whole.specs.Whole.{near, outside, raise}
+use Rattle.whole.specs.Whole.{outside, raise}
 use Rattle.whole.proofs.Signed.{Is, over, under, is-parts, is-same, is-equal, equal-is, is-nat, is-neg, is-sub, is-add, is-minus, is-mul}
 use Rattle.whole.proofs.Signed.{is-times, is-size, le-is, lt-is, is-raise, raise-high, inside-size}
-use Rattle.whole.proofs.Near.{near-low, near-high, nearer}
+use Rattle.whole.proofs.Near.{nearer}
 use Rattle.arc.specs.declared.Refusal.{Refusal}
 use Rattle.arc.specs.declared.Verdict.{Verdict}
 use Rattle.arc.specs.Refusals.{refusal, onVerdict}
 use Rattle.arc.specs.Zones.{circle, half, quarter}
 use Rattle.arc.specs.Spacing.{Grid}
 use Rattle.card.specs.declared.Card.{Card}
+use Rattle.card.specs.declared.Pair.{Pair}
 use Rattle.card.specs.declared.PositionAnswer.{PositionAnswer}
 use Rattle.card.specs.declared.PixelAnswer.{PixelAnswer}
 use Rattle.card.specs.Grid.{placeRow, placeColumn, rowOf, columnOf, inTiles, inChart, verdictOf, latitudeOf, longitudeOf, positionOf, pixelOf}
@@ -102,39 +103,37 @@ round-nearest a v lon circles h within =
     }
 
 module _ (k : Card) (l : Laid k) where
-  row-nearest : (lat : ℤ) → outside quarter lat ≡ false → NearestRow (k .b) lat (placeRow k (rowOf k lat))
+  row-nearest : (lat : ℤ) → outside quarter lat ≡ false → NearestRow (k .b) lat (placeRow k (rowOf Pair.Corner k lat))
   row-nearest lat i =
       let p : ℕ = raise quarter lat in
       let few : p ≤ 64800000 = raise-high quarter lat i in
       let e : Is lat p quarter = is-raise quarter lat i in
       let o : ℕ = k .north + k .b / 2 in
       let x : ℕ = o * circle - p * k .b in
-      let y : ℕ = near x circle in
+      let y : ℕ = (x + half) / circle in
       let s : ℕ = 128 * (k .b / 512) in
-      let u : ℤ = placeRow k (rowOf k lat) in
+      let u : ℤ = placeRow k (rowOf Pair.Corner k lat) in
       let z : ℤ = lat *ℤ pos (k .b) -ℤ u *ℤ pos circle in
       let u-is : Is u o (s + y) =
-      is-minus (pos 128 *ℤ k .n) (rowOf k lat) (k .north) s y (k .b / 2) (north-is k l) (row-at k l lat p e few) in
+      is-minus (pos 128 *ℤ k .n) (rowOf Pair.Corner k lat) (k .north) s y (k .b / 2) (north-is k l) (row-at k l Pair.Corner lat p e few) in
       let z-is : Is z (p * k .b + (s + y) * circle) (quarter * k .b + o * circle) =
       is-minus (lat *ℤ pos (k .b)) (u *ℤ pos circle) (p * k .b) (quarter * k .b) (o * circle) ((s + y) * circle)
       (is-mul lat (k .b) p quarter e) (is-mul u circle o (s + y) u-is) in
-      let low = near-low circle (omega arith) x in
-      let high = near-high circle (omega arith) x in
       let small = half-less (k .b) p o y (l .rows) (omega (arith, row-fits k l p few)) (omega (arith, row-fits k l p few)) in
       let within : 2 * natAbs z < circle =
       omega (arith, is-size z (p * k .b + (s + y) * circle) (quarter * k .b + o * circle) z-is, l .rows .whole, small) in
       record { within = within; nearest = λ w other. nearer circle (lat *ℤ pos (k .b)) u w within other }
 
-  column-nearest : (lon : ℤ) → outside half lon ≡ false → NearestColumn (k .a) lon (placeColumn k (columnOf k lon))
+  column-nearest : (lon : ℤ) → outside half lon ≡ false → NearestColumn (k .a) lon (placeColumn k (columnOf Pair.Corner k lon))
   column-nearest lon i =
       let a : ℕ = k .a in
       let p : ℕ = raise half lon in
       let e : Is lon p half = is-raise half lon i in
-      let y : ℕ = near (p * a) circle in
+      let y : ℕ = (p * a + half) / circle in
       let v : ℕ = (y + a / 2) % a in
       let n : ℕ = (y + a / 2) / a in
-      let v-is : placeColumn k (columnOf k lon) ≡ pos v =
-      ap (placeColumn k) (column-at k l lon p e) ∙ column-place k l ((y + (a - k .east)) % a)
+      let v-is : placeColumn k (columnOf Pair.Corner k lon) ≡ pos v =
+      ap (placeColumn k) (column-at k l Pair.Corner lon p e) ∙ column-place k l ((y + (a - k .east)) % a)
       ∙ ap pos (same-place a y (k .east) (l .columns) (east-high k l) ((y + (a - k .east)) % a) refl) in
       let circles : ℤ = subℕ 1 n in
       let x : ℤ = pos v -ℤ circles *ℤ pos a in
@@ -147,8 +146,6 @@ module _ (k : Card) (l : Laid k) where
       let z-is : Is z (p * a + a / 2 * circle) (half * a + y * circle) =
       is-minus (lon *ℤ pos a) (x *ℤ pos circle) (p * a) (half * a) (y * circle) (a / 2 * circle)
       (is-mul lon a p half e) (is-mul x circle y (a / 2) x-at) in
-      let low = near-low circle (omega arith) (p * a) in
-      let high = near-high circle (omega arith) (p * a) in
       let small = half-less a p y 0 (l .columns) (omega arith) (omega arith) in
       let within : 2 * natAbs z < circle =
       omega (arith, is-size z (p * a + a / 2 * circle) (half * a + y * circle) z-is, l .columns .whole, small) in
@@ -156,28 +153,28 @@ module _ (k : Card) (l : Laid k) where
 
 -- ---- the pixel that is answered
 
-record FoundAt (k : Card) (lat lon r c : ℤ) : Type 0 where
+pub record FoundAt (p : Pair) (k : Card) (lat lon r c : ℤ) : Type 0 where
   pub lat-in : outside quarter lat ≡ false
   pub lon-in : outside half lon ≡ false
-  pub row : rowOf k lat ≡ r
-  pub column : columnOf k lon ≡ c
+  pub row : rowOf p k lat ≡ r
+  pub column : columnOf p k lon ≡ c
 
-found-at : (k : Card) (lat lon r c : ℤ) → pixelOf k lat lon ≡ PixelAnswer.At r c → FoundAt k lat lon r c
+pub found-at : (p : Pair) (k : Card) (lat lon r c : ℤ) → pixelOf p k lat lon ≡ PixelAnswer.At r c → FoundAt p k lat lon r c
 unfolding pixelOf
-found-at k lat lon r c e = go (outside quarter lat) (outside half lon) (verdictOf k (rowOf k lat) (columnOf k lon)) refl refl e
+found-at p k lat lon r c e = go (outside quarter lat) (outside half lon) (verdictOf k (rowOf p k lat) (columnOf p k lon)) refl refl e
   where
     go : (s t : Bool) (v : Verdict) → outside quarter lat ≡ s → outside half lon ≡ t
         → cond s (PixelAnswer.Refused (refusal 4)) (cond t (PixelAnswer.Refused (refusal 5))
-        (onVerdict v PixelAnswer.Refused (PixelAnswer.At (rowOf k lat) (columnOf k lon)))) ≡ PixelAnswer.At r c
-        → FoundAt k lat lon r c
-    go false false Verdict.Accepted p q f = record { lat-in = p; lon-in = q; row = cc; column = cc }
-    go false false (Verdict.Refused n) p q f = let z : _≡_ {A = ℕ} 0 1 = cc in absurd (omega arith)
-    go false true v p q f = let z : _≡_ {A = ℕ} 0 1 = cc in absurd (omega arith)
-    go true t v p q f = let z : _≡_ {A = ℕ} 0 1 = cc in absurd (omega arith)
+        (onVerdict v PixelAnswer.Refused (PixelAnswer.At (rowOf p k lat) (columnOf p k lon)))) ≡ PixelAnswer.At r c
+        → FoundAt p k lat lon r c
+    go false false Verdict.Accepted x y f = record { lat-in = x; lon-in = y; row = cc; column = cc }
+    go false false (Verdict.Refused n) x y f = let z : _≡_ {A = ℕ} 0 1 = cc in absurd (omega arith)
+    go false true v x y f = let z : _≡_ {A = ℕ} 0 1 = cc in absurd (omega arith)
+    go true t v x y f = let z : _≡_ {A = ℕ} 0 1 = cc in absurd (omega arith)
 
 pub pixel-nearest : PixelNearest
 pixel-nearest k w lat lon r c e =
-    let f = found-at k lat lon r c e in
+    let f = found-at Pair.Corner k lat lon r c e in
     let l = known-laid k w in
     subst₂ (NearestPlace k lat lon) (f .row) (f .column)
     (record { row = row-nearest k l lat (f .lat-in); column = column-nearest k l lon (f .lon-in) })
@@ -186,9 +183,10 @@ pixel-nearest k w lat lon r c e =
 
 pub overview-nearest : OverviewNearest
 unfolding overviewPixelOf
-overview-nearest chart overview h w r c r′ c′ e = go (positionOf chart r c) refl e
+overview-nearest chart overview h w r c r′ c′ e = go (positionOf Pair.Corner chart r c) refl e
   where
-    go : (x : PositionAnswer) → positionOf chart r c ≡ x → onPosition x PixelAnswer.Refused (λ lat lon. pixelOf overview lat lon) ≡ PixelAnswer.At r′ c′
+    go : (x : PositionAnswer) → positionOf Pair.Corner chart r c ≡ x
+        → onPosition x PixelAnswer.Refused (λ lat lon. pixelOf Pair.Corner overview lat lon) ≡ PixelAnswer.At r′ c′
         → OverviewFound chart overview r c r′ c′
     go (PositionAnswer.At lat lon) p f =
         record { lat = lat; lon = lon; position = p; pixel = pixel-nearest overview w lat lon r′ c′ f }
@@ -217,22 +215,23 @@ longitude-in lon west east =
 
 pub overview-refused : OverviewRefused
 unfolding overviewPixelOf positionOf pixelOf
-overview-refused chart overview h w r c e f = go (positionOf chart r c) refl f
+overview-refused chart overview h w r c e f = go (positionOf Pair.Corner chart r c) refl f
   where
-    go : (x : PositionAnswer) → positionOf chart r c ≡ x → onPosition x PixelAnswer.Refused (λ lat lon. pixelOf overview lat lon) ≡ PixelAnswer.Refused e
-        → ((positionOf chart r c ≡ PositionAnswer.Refused e) ⊎ OverviewRefuses chart overview r c e) × ((e ≡ refusal 12) ⊎ (e ≡ refusal 13))
+    go : (x : PositionAnswer) → positionOf Pair.Corner chart r c ≡ x
+        → onPosition x PixelAnswer.Refused (λ lat lon. pixelOf Pair.Corner overview lat lon) ≡ PixelAnswer.Refused e
+        → ((positionOf Pair.Corner chart r c ≡ PositionAnswer.Refused e) ⊎ OverviewRefuses chart overview r c e) × ((e ≡ refusal 12) ⊎ (e ≡ refusal 13))
     go (PositionAnswer.At lat lon) p f =
-        let i = answered-in-range chart h r c lat lon p in
-        let r′ = rowOf overview lat in
-        let c′ = columnOf overview lon in (
+        let i = answered-in-range Pair.Corner chart h r c lat lon p in
+        let r′ = rowOf Pair.Corner overview lat in
+        let c′ = columnOf Pair.Corner overview lon in (
           inr (record { lat = lat; lon = lon; position = p; pixel = f }),
           verdict-refuses PixelAnswer.Refused (PixelAnswer.At r′ c′) overview r′ c′ e
               (λ n g. cc) (λ g. let z : _≡_ {A = ℕ} 0 1 = cc in omega arith)
               (rw (i .latitude, longitude-in lon (i .west) (i .east)) at f),
         )
     go (PositionAnswer.Refused n) p f =
-        let g : positionOf chart r c ≡ PositionAnswer.Refused e = p ∙ ap PositionAnswer.Refused (cc) in (
+        let g : positionOf Pair.Corner chart r c ≡ PositionAnswer.Refused e = p ∙ ap PositionAnswer.Refused (cc) in (
           inl g,
-          verdict-refuses PositionAnswer.Refused (PositionAnswer.At (latitudeOf chart r) (longitudeOf chart c)) chart r c e
+          verdict-refuses PositionAnswer.Refused (PositionAnswer.At (latitudeOf Pair.Corner chart r) (longitudeOf Pair.Corner chart c)) chart r c e
               (λ n g. cc) (λ g. let z : _≡_ {A = ℕ} 0 1 = cc in omega arith) g,
         )

@@ -12,6 +12,7 @@ use Rattle.arc.specs.declared.Series.{Series}
 use Rattle.arc.specs.declared.Refusal.{Refusal}
 use Rattle.arc.specs.Refusals.{refusal}
 use Rattle.card.specs.declared.Card.{Card}
+use Rattle.card.specs.declared.Pair.{Pair}
 use Rattle.card.specs.declared.PositionAnswer.{PositionAnswer}
 use Rattle.card.specs.declared.PixelAnswer.{PixelAnswer}
 use Rattle.card.specs.Read.{Accepted}
@@ -57,11 +58,11 @@ module _ (k : Card) (l : Laid k) where
 
 -- ---- what one later card answers
 
-pub record Told (k : Card) (u v lat lon : ℤ) : Type 0 where
-  pub gives : GivesWhere k u v lat lon
-  pub only : GivesOnly k u v lat lon
-  pub back : (r c : ℤ) → pixelOf k lat lon ≡ PixelAnswer.At r c → positionOf k r c ≡ PositionAnswer.At lat lon
-  pub refuses : RefusesWhere k u v lat lon
+pub record Told (p : Pair) (k : Card) (u v lat lon : ℤ) : Type 0 where
+  pub gives : GivesWhere p k u v lat lon
+  pub only : GivesOnly p k u v lat lon
+  pub back : (r c : ℤ) → pixelOf p k lat lon ≡ PixelAnswer.At r c → positionOf p k r c ≡ PositionAnswer.At lat lon
+  pub refuses : RefusesWhere p k u v lat lon
 
 -- the answers differ
 no-pixel : {A : Type 0} {x : PixelAnswer} {r c : ℤ} {e : Refusal} → x ≡ PixelAnswer.Refused e → x ≡ PixelAnswer.At r c → A
@@ -72,22 +73,22 @@ not-both p q =
     let e : refusal 12 ≡ refusal 13 = cc in
     let z : _≡_ {A = ℕ} 12 13 = ap (λ (r : Refusal). r .number) e in absurd (omega arith)
 
-module _ (k : Card) (l : Laid k) (u v lat lon : ℤ) where
-  refuses : (e : Refusal) → pixelOf k lat lon ≡ PixelAnswer.Refused e → Right u v lat lon k (refused e) → RefusesWhere k u v lat lon
-  refuses e p (lacks, inl (is, bare)) =
-      let q = p ∙ ap PixelAnswer.Refused is in
+module _ (p : Pair) (k : Card) (l : Laid k) (u v lat lon : ℤ) where
+  refuses : (e : Refusal) → pixelOf p k lat lon ≡ PixelAnswer.Refused e → Right u v lat lon k (refused e) → RefusesWhere p k u v lat lon
+  refuses e x (lacks, inl (is, bare)) =
+      let q = x ∙ ap PixelAnswer.Refused is in
       (((λ f. bare), (λ n. q)), ((λ f. not-both q f), (λ n. absurd (bare (n .0)))))
-  refuses e p (lacks, inr (is, tiled)) =
-      let q = p ∙ ap PixelAnswer.Refused is in
+  refuses e x (lacks, inr (is, tiled)) =
+      let q = x ∙ ap PixelAnswer.Refused is in
       (((λ f. not-both f q), (λ n. absurd (n tiled))), ((λ f. (tiled, lacks)), (λ n. q)))
 
-  told : (x : PixelAnswer) → pixelOf k lat lon ≡ x → Right u v lat lon k (visitWith k x) → Told k u v lat lon
-  told (PixelAnswer.At r c) p h =
+  told : (x : PixelAnswer) → pixelOf p k lat lon ≡ x → Right u v lat lon k (visitWith p k x) → Told p k u v lat lon
+  told (PixelAnswer.At r c) g h =
       let tiles = chart-tiles k r c l (h .0) in
       let has : ChartHas k u v = record { r = r; c = c; within = h .0; at = h .1 } in
       let tiled : TilesHave k u v = record { r = r; c = c; within = tiles; at = h .1 } in
       record {
-        gives = ((λ g. has), (λ g. record { r = r; c = c; given = p }));
+        gives = ((λ f. has), (λ f. record { r = r; c = c; given = g }));
         only = λ i j f.
             let x : r ≡ i = cc in
             let y : c ≡ j = cc in
@@ -95,30 +96,30 @@ module _ (k : Card) (l : Laid k) (u v lat lon : ℤ) where
         back = λ i j f.
             let x : i ≡ r = cc in
             let y : j ≡ c = cc in
-            ap₂ (positionOf k) x y ∙ h .2;
-        refuses = (((λ f. no-pixel f p), (λ n. absurd (n tiled))), ((λ f. no-pixel f p), (λ n. absurd (n .1 has))));
+            ap₂ (positionOf p k) x y ∙ h .2;
+        refuses = (((λ f. no-pixel f g), (λ n. absurd (n tiled))), ((λ f. no-pixel f g), (λ n. absurd (n .1 has))));
       }
-  told (PixelAnswer.Refused e) p h =
+  told (PixelAnswer.Refused e) g h =
       record {
-        gives = ((λ g. no-pixel p (g .given)), (λ g. absurd (h .0 g)));
-        only = λ i j f. no-pixel p f;
-        back = λ i j f. no-pixel p f;
-        refuses = refuses e p h;
+        gives = ((λ f. no-pixel g (f .given)), (λ f. absurd (h .0 f)));
+        only = λ i j f. no-pixel g f;
+        back = λ i j f. no-pixel g f;
+        refuses = refuses e g h;
       }
 
 -- the walk over one later card
-module _ (series : Series) (first : Card) (p : Accepted series first) (r c : ℤ) (within : inChart first r c ≡ true)
-    (lat lon : ℤ) (answered : positionOf first r c ≡ PositionAnswer.At lat lon) where
-  visit-right : (k : Card) → Accepted series k → Right (placeRow first r) (placeColumn first c) lat lon k (visit k lat lon)
+module _ (p : Pair) (series : Series) (first : Card) (h : Accepted series first) (r c : ℤ) (within : inChart first r c ≡ true)
+    (lat lon : ℤ) (answered : positionOf p first r c ≡ PositionAnswer.At lat lon) where
+  visit-right : (k : Card) → Accepted series k → Right (placeRow first r) (placeColumn first c) lat lon k (visit p k lat lon)
   visit-right k q =
-      let w = no-drift series first (k ∷ []) (p, (q, tt)) r c within in
+      let w = no-drift p series first (k ∷ []) (h, (q, tt)) r c within in
       let e = w .answered in
       let x : w .lat ≡ lat = cc in
       let y : w .lon ≡ lon = cc in
-      subst₂ (λ (x y : ℤ). Right (placeRow first r) (placeColumn first c) x y k (visit k x y)) x y (w .each .0)
+      subst₂ (λ (x y : ℤ). Right (placeRow first r) (placeColumn first c) x y k (visit p k x y)) x y (w .each .0)
 
-  pub told-by-place : (k : Card) → Accepted series k → Told k (placeRow first r) (placeColumn first c) lat lon
-  told-by-place k q = told k (accepted-laid series k q) _ _ lat lon (pixelOf k lat lon) refl (visit-right k q)
+  pub told-by-place : (k : Card) → Accepted series k → Told p k (placeRow first r) (placeColumn first c) lat lon
+  told-by-place k q = told p k (accepted-laid series k q) _ _ lat lon (pixelOf p k lat lon) refl (visit-right k q)
 
   -- the position that goes on is the same
   kept : (k : Card) (x : Visit) → Right (placeRow first r) (placeColumn first c) lat lon k x
@@ -129,11 +130,11 @@ module _ (series : Series) (first : Card) (p : Accepted series first) (r c : ℤ
   )
   kept k (refused e) h = (refl, refl)
 
-  alike : (rest : List Card) → Every (Accepted series) rest → visits lat lon rest ≡ map (λ k. visit k lat lon) rest
-  alike [] h = refl
-  alike (k ∷ rest) h =
-      let e = kept k (visit k lat lon) (visit-right k (h .0)) in
-      ap (λ (l : List Visit). visit k lat lon ∷ l) (ap₂ (λ (x y : ℤ). visits x y rest) (e .0) (e .1) ∙ alike rest (h .1))
+  alike : (rest : List Card) → Every (Accepted series) rest → visits p lat lon rest ≡ map (λ k. visit p k lat lon) rest
+  alike [] q = refl
+  alike (k ∷ rest) q =
+      let e = kept k (visit p k lat lon) (visit-right k (q .0)) in
+      ap (λ (l : List Visit). visit p k lat lon ∷ l) (ap₂ (λ (x y : ℤ). visits p x y rest) (e .0) (e .1) ∙ alike rest (q .1))
 
 -- ---- the claims
 
@@ -141,18 +142,19 @@ every : {A B : Card → Type 0} → ((k : Card) → A k → B k) → (ks : List 
 every f [] h = tt
 every f (k ∷ ks) h = (f k (h .0), every f ks (h .1))
 
-each : {P : Card → ℤ → ℤ → ℤ → ℤ → Type 0} → ((k : Card) (u v lat lon : ℤ) → Told k u v lat lon → P k u v lat lon) → EachLater P
-each f series first rest all r c i lat lon a =
-    every (λ k q. f k _ _ lat lon (told-by-place series first (all .0) r c i lat lon a k q)) rest (all .1)
+each : {P : Pair → Card → ℤ → ℤ → ℤ → ℤ → Type 0} → ((p : Pair) (k : Card) (u v lat lon : ℤ) → Told p k u v lat lon → P p k u v lat lon)
+    → EachLater P
+each f p series first rest all r c i lat lon a =
+    every (λ k q. f p k _ _ lat lon (told-by-place p series first (all .0) r c i lat lon a k q)) rest (all .1)
 
 pub gives-exactly : GivesExactly
-gives-exactly = each (λ k u v lat lon t. t .gives)
+gives-exactly = each (λ p k u v lat lon t. t .gives)
 
 pub only-pixel : OnlyPixel
-only-pixel = each (λ k u v lat lon t. t .only)
+only-pixel = each (λ p k u v lat lon t. t .only)
 
 pub refuses-exactly : RefusesExactly
-refuses-exactly = each (λ k u v lat lon t. t .refuses)
+refuses-exactly = each (λ p k u v lat lon t. t .refuses)
 
 pub asked-alike : AskedAlike
-asked-alike series first rest all r c i lat lon a = alike series first (all .0) r c i lat lon a rest (all .1)
+asked-alike p series first rest all r c i lat lon a = alike p series first (all .0) r c i lat lon a rest (all .1)

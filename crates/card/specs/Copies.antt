@@ -1,7 +1,7 @@
 -- What makes two cards copies of one chart as far as any answer goes, and what a stored angle rounded again is worth
--- (01, "Origins and the zone grid"). Definitions and claims; the proof is proofs/Copies.antt, and of AnswerAlike and AlikeExactly proofs/Alike.antt.
+-- (01, "Origins and the zone grid"; 02, E8). Definitions and claims; the proof is proofs/Copies.antt, and of AnswerAlike and AlikeExactly proofs/Alike.antt.
 --     Copies j k             the same n and m, and the same extents: BAD and TIF may differ
---     Alike j k              every question on a pixel or a position is answered alike
+--     Alike j k              every question on a pixel or a position is answered alike, in either pair
 --     AnswerAlike            copies of one scale, zone and factor answer alike
 --     AlikeExactly           cards of one scale, zone and factor answer alike exactly where their upper left pixels have one place and the extents are the same
 --     PlaceAlike             on any two cards of one scale, zone and factor, pixels of one place have one position, and pixels of one position one place
@@ -24,6 +24,7 @@ use Rattle.arc.specs.Spacing.{Grid}
 use Rattle.origin.specs.Origin.{storedAngle}
 use Rattle.text.specs.Text.{angleOf}
 use Rattle.card.specs.declared.Card.{Card}
+use Rattle.card.specs.declared.Pair.{Pair}
 use Rattle.card.specs.Layout.{STR, ARV, BRV, LSO, PSO, NUL, NUS, NLL, NLS, NFL, NFC, PNC, PNL, COD, ROD, POR, PCB, PVB, BAD, TIF}
 use Rattle.card.specs.Layout.{Subfield, bytesOf, judgeField, orElse}
 use Rattle.card.specs.Read.{tileStoring, acceptedCard, refusedCard, readOf, Accepted}
@@ -38,8 +39,8 @@ pub record Copies (j k : Card) : Type 0 where
 
 pub record Alike (j k : Card) : Type 0 where
   pub place : (r c : ℤ) → placeOf j r c ≡ placeOf k r c
-  pub position : (r c : ℤ) → positionOf j r c ≡ positionOf k r c
-  pub pixel : (lat lon : ℤ) → pixelOf j lat lon ≡ pixelOf k lat lon
+  pub position : (p : Pair) (r c : ℤ) → positionOf p j r c ≡ positionOf p k r c
+  pub pixel : (p : Pair) (lat lon : ℤ) → pixelOf p j lat lon ≡ pixelOf p k lat lon
   pub verdict : (r c : ℤ) → verdictOf j r c ≡ verdictOf k r c
 
 abbrev pub AnswerAlike : Type 0
@@ -54,9 +55,9 @@ AlikeExactly =
 -- two cuts, each with its own n, m and extents, and a pixel of each one's chart rectangle
 abbrev pub PlaceAlike : Type 0
 PlaceAlike =
-    (series : Series) (j k : Card) → Accepted series j → Accepted series k
+    (p : Pair) (series : Series) (j k : Card) → Accepted series j → Accepted series k
     → (r c : ℤ) → inChart j r c ≡ true → (r′ c′ : ℤ) → inChart k r′ c′ ≡ true
-    → placeOf j r c ≡ placeOf k r′ c′ ↔ positionOf j r c ≡ positionOf k r′ c′
+    → placeOf j r c ≡ placeOf k r′ c′ ↔ positionOf p j r c ≡ positionOf p k r′ c′
 
 abbrev pub SameIn : List Subfield → List ℕ → List ℕ → Type 0
 SameIn [] s t = Unit {0}

@@ -1,21 +1,24 @@
--- Places of the zone grid, positions and pixels (001, 3.4.3, 3.4.4; 01, "Origins and the zone grid"). Definitions only.
---     placeRow k r, placeColumn k c    the place of pixel (r, c): (128n − r, (128m + c) modulo A)
---     latitudeOf k r, longitudeOf k c  its position
---     rowOf k lat, columnOf k lon      the pixel at a position, before the bounds are looked at
---     inTiles k r c, inChart k r c     the pixel is one of the card's tiles, of its chart rectangle
---     placeOf, positionOf, pixelOf     what the methods `place`, `position`, `pixel` answer
---     verdictOf, extentsOf             what `judge_pixel` and `extents` answer
+-- Places of the zone grid, positions and pixels (001, 3.4.3, 3.4.4; 01, "Origins and the zone grid"; 02, E8). Definitions only.
+--     placeRow k r, placeColumn k c        the place of pixel (r, c): (128n − r, (128m + c) modulo A)
+--     exactRow p u, exactColumn p v        the exact place of (u, v) in the pair p: the corner or the centre of a pixel there
+--     latitudeOf p k r, longitudeOf p k c  the position of pixel (r, c) in the pair p
+--     rowValue k lat, columnValue k lon    the row and the column of a position before they are made whole
+--     rowOf p k lat, columnOf p k lon      the pixel at a position in the pair p, before the bounds are looked at
+--     inTiles k r c, inChart k r c         the pixel is one of the card's tiles, of its chart rectangle
+--     placeOf, positionOf p, pixelOf p     what the methods `place`, `position_in` and `pixel_in` answer; `position` and `pixel` are the centre pair's
+--     verdictOf, extentsOf                 what `judge_pixel` and `extents` answer
 use Prim.Native.Nat.{_*_}
 use mathlib.Core.Bool.{Bool, cond, _&&_}
 use mathlib.Core.List.{[], _∷_}
 use lib.IntN.{ℤ, pos, _+ℤ_, _-ℤ_, _*ℤ_}
 use lib.Signed.{leZ, ltZ}
-use Rattle.whole.specs.Whole.{nearest, modulo, outside}
+use Rattle.whole.specs.Whole.{floorDiv, nearest, modulo, outside}
 use Rattle.arc.specs.declared.Verdict.{Verdict}
 use Rattle.arc.specs.Refusals.{refusal, Report, answered, refusedWith, onVerdict}
 use Rattle.arc.specs.Zones.{circle, half, quarter}
 use Rattle.card.specs.declared.Card.{Card}
 use Rattle.card.specs.declared.Extents.{Extents}
+use Rattle.card.specs.declared.Pair.{Pair}
 use Rattle.card.specs.declared.PlaceAnswer.{PlaceAnswer}
 use Rattle.card.specs.declared.PositionAnswer.{PositionAnswer}
 use Rattle.card.specs.declared.PixelAnswer.{PixelAnswer}
@@ -37,21 +40,41 @@ placeColumn k c = modulo (gridColumn k c) (k .a)
 abbrev pub intoRange : ℤ → ℤ
 intoRange z = modulo (z +ℤ pos half) circle -ℤ pos half
 
--- the nearest hundredth to (128n − r)H/B, and to (128m + c)H/A, longitude then brought into range
-unfoldable pub latitudeOf : Card → ℤ → ℤ
-latitudeOf k r = nearest (placeRow k r *ℤ pos circle) (k .b)
+-- ---- the two pairs: a pixel's corner, and the pixel whose corner is nearest; a pixel's centre, and the pixel that contains a position (02, E8)
 
-unfoldable pub longitudeOf : Card → ℤ → ℤ
-longitudeOf k c = intoRange (nearest (gridColumn k c *ℤ pos circle) (k .a))
+-- the exact place of (u, v), u H/B and v H/A; its centre is half a pixel south and east of that, (u − 1/2)H/B and (v + 1/2)H/A; times B and A
+abbrev pub exactRow : Pair → ℤ → ℤ
+exactRow Pair.Corner u = u *ℤ pos circle
+exactRow Pair.Centre u = u *ℤ pos circle -ℤ pos half
 
--- the nearest whole number to 128n − lat × B/H, both sides times H
-unfoldable pub rowOf : Card → ℤ → ℤ
-rowOf k lat = nearest (pos 128 *ℤ k .n *ℤ pos circle -ℤ lat *ℤ pos (k .b)) circle
+abbrev pub exactColumn : Pair → ℤ → ℤ
+exactColumn Pair.Corner v = v *ℤ pos circle
+exactColumn Pair.Centre v = v *ℤ pos circle +ℤ pos half
 
--- the nearest whole number to ((lon × A − 128 m H) modulo A H) / H, then modulo A again (001 has the absolute difference and no second modulo)
-unfoldable pub columnOf : Card → ℤ → ℤ
-columnOf k lon =
-    modulo (nearest (modulo (lon *ℤ pos (k .a) -ℤ pos 128 *ℤ k .m *ℤ pos circle) (k .a * circle)) circle) (k .a)
+-- the nearest hundredth to the exact place of (128n − r, 128m + c), longitude then brought into range
+unfoldable pub latitudeOf : Pair → Card → ℤ → ℤ
+latitudeOf p k r = nearest (exactRow p (placeRow k r)) (k .b)
+
+unfoldable pub longitudeOf : Pair → Card → ℤ → ℤ
+longitudeOf p k c = intoRange (nearest (exactColumn p (gridColumn k c)) (k .a))
+
+-- 128n − lat × B/H, times H
+abbrev pub rowValue : Card → ℤ → ℤ
+rowValue k lat = pos 128 *ℤ k .n *ℤ pos circle -ℤ lat *ℤ pos (k .b)
+
+-- (lon × A/H − 128m) modulo A, times H (001 has the absolute difference)
+abbrev pub columnValue : Card → ℤ → ℤ
+columnValue k lon = modulo (lon *ℤ pos (k .a) -ℤ pos 128 *ℤ k .m *ℤ pos circle) (k .a * circle)
+
+-- the nearest whole number to the row's value, or its floor
+unfoldable pub rowOf : Pair → Card → ℤ → ℤ
+rowOf Pair.Corner k lat = nearest (rowValue k lat) circle
+rowOf Pair.Centre k lat = floorDiv (rowValue k lat) circle
+
+-- the nearest whole number to the column's value, then modulo A again (001 has no second modulo), or its floor
+unfoldable pub columnOf : Pair → Card → ℤ → ℤ
+columnOf Pair.Corner k lon = modulo (nearest (columnValue k lon) circle) (k .a)
+columnOf Pair.Centre k lon = floorDiv (columnValue k lon) circle
 
 -- 12 where this fails: outside the tiles on any side
 abbrev pub inTiles : Card → ℤ → ℤ → Bool
@@ -75,19 +98,19 @@ unfoldable pub placeOf : Card → ℤ → ℤ → PlaceAnswer
 placeOf k r c = cond (inTiles k r c) (PlaceAnswer.At (placeRow k r) (placeColumn k c)) (PlaceAnswer.Refused (refusal 12))
 
 -- 12, 13
-unfoldable pub positionOf : Card → ℤ → ℤ → PositionAnswer
-positionOf k r c = onVerdict (verdictOf k r c) PositionAnswer.Refused (PositionAnswer.At (latitudeOf k r) (longitudeOf k c))
+unfoldable pub positionOf : Pair → Card → ℤ → ℤ → PositionAnswer
+positionOf p k r c = onVerdict (verdictOf k r c) PositionAnswer.Refused (PositionAnswer.At (latitudeOf p k r) (longitudeOf p k c))
 
 -- 12, 13, for the pixel found
 abbrev pub pixelAt : Card → ℤ → ℤ → PixelAnswer
 pixelAt k r c = onVerdict (verdictOf k r c) PixelAnswer.Refused (PixelAnswer.At r c)
 
 -- 4, 5, 12, 13
-unfoldable pub pixelOf : Card → ℤ → ℤ → PixelAnswer
-pixelOf k lat lon =
+unfoldable pub pixelOf : Pair → Card → ℤ → ℤ → PixelAnswer
+pixelOf p k lat lon =
     cond (outside quarter lat) (PixelAnswer.Refused (refusal 4))
     (cond (outside half lon) (PixelAnswer.Refused (refusal 5))
-    (pixelAt k (rowOf k lat) (columnOf k lon)))
+    (pixelAt k (rowOf p k lat) (columnOf p k lon)))
 
 -- ---- the paper's number, place and values: of an answer, and as `into_parts` tells them
 

@@ -1,6 +1,6 @@
--- Demand 3 (NoDrift), of each later card by itself: what it answers is told by the place alone (01, "Origins and the zone grid").
--- Definitions and claims; the proof is proofs/Places.antt.
---     GivesPixel k lat lon   the card gives a pixel for the position
+-- Demand 3 (NoDrift), of each later card by itself, in either pair: what it answers is told by the place alone (01, "Origins and the zone grid";
+-- 02, E8). Definitions and claims; the proof is proofs/Places.antt.
+--     GivesPixel p k lat lon   the card gives a pixel for the position
 --     AlongList Q, EachLater P   Q of the later cards, P of each later card, with the place and the position of the first card's pixel
 --     OnlyAt k u v r c       the pixel (r, c) has the place, and no other pixel of the card's tiles does
 --     GivesWhere, GivesOnly, RefusesWhere   what the three claims say of one later card
@@ -16,43 +16,44 @@ use lib.IntN.{ℤ}
 use Rattle.arc.specs.declared.Series.{Series}
 use Rattle.arc.specs.Refusals.{refusal}
 use Rattle.card.specs.declared.Card.{Card}
+use Rattle.card.specs.declared.Pair.{Pair}
 use Rattle.card.specs.declared.PositionAnswer.{PositionAnswer}
 use Rattle.card.specs.declared.PixelAnswer.{PixelAnswer}
 use Rattle.card.specs.Read.{Accepted}
 use Rattle.card.specs.Grid.{placeRow, placeColumn, inTiles, inChart, positionOf, pixelOf}
 use Rattle.card.specs.NoDrift.{HasPlace, TilesHave, ChartHas, visit, visits, Every}
 
-pub record GivesPixel (k : Card) (lat lon : ℤ) : Type 0 where
+pub record GivesPixel (p : Pair) (k : Card) (lat lon : ℤ) : Type 0 where
   pub r : ℤ
   pub c : ℤ
-  pub given : pixelOf k lat lon ≡ PixelAnswer.At r c
+  pub given : pixelOf p k lat lon ≡ PixelAnswer.At r c
 
 -- Q holds of the later cards of any list of accepted cards of one scale, zone and factor, with the place and the position of any pixel in
 -- the first card's chart rectangle
-abbrev pub AlongList : (List Card → ℤ → ℤ → ℤ → ℤ → Type 0) → Type 0
+abbrev pub AlongList : (Pair → List Card → ℤ → ℤ → ℤ → ℤ → Type 0) → Type 0
 AlongList Q =
-    (series : Series) (first : Card) (rest : List Card) → Every (Accepted series) (first ∷ rest)
-    → (r c : ℤ) → inChart first r c ≡ true → (lat lon : ℤ) → positionOf first r c ≡ PositionAnswer.At lat lon
-    → Q rest (placeRow first r) (placeColumn first c) lat lon
+    (p : Pair) (series : Series) (first : Card) (rest : List Card) → Every (Accepted series) (first ∷ rest)
+    → (r c : ℤ) → inChart first r c ≡ true → (lat lon : ℤ) → positionOf p first r c ≡ PositionAnswer.At lat lon
+    → Q p rest (placeRow first r) (placeColumn first c) lat lon
 
 -- P holds of each later card
-abbrev pub EachLater : (Card → ℤ → ℤ → ℤ → ℤ → Type 0) → Type 0
-EachLater P = AlongList (λ rest u v lat lon. Every (λ k. P k u v lat lon) rest)
+abbrev pub EachLater : (Pair → Card → ℤ → ℤ → ℤ → ℤ → Type 0) → Type 0
+EachLater P = AlongList (λ p rest u v lat lon. Every (λ k. P p k u v lat lon) rest)
 
--- what is said of a later card k, the place (u, v) and the position (lat, lon)
-abbrev pub GivesWhere : Card → ℤ → ℤ → ℤ → ℤ → Type 0
-GivesWhere k u v lat lon = GivesPixel k lat lon ↔ ChartHas k u v
+-- what is said of the pair p, a later card k, the place (u, v) and the position (lat, lon)
+abbrev pub GivesWhere : Pair → Card → ℤ → ℤ → ℤ → ℤ → Type 0
+GivesWhere p k u v lat lon = GivesPixel p k lat lon ↔ ChartHas k u v
 
 abbrev pub OnlyAt : Card → ℤ → ℤ → ℤ → ℤ → Type 0
 OnlyAt k u v r c = HasPlace k u v r c × ((i j : ℤ) → inTiles k i j ≡ true → HasPlace k u v i j → (i ≡ r) × (j ≡ c))
 
-abbrev pub GivesOnly : Card → ℤ → ℤ → ℤ → ℤ → Type 0
-GivesOnly k u v lat lon = (r c : ℤ) → pixelOf k lat lon ≡ PixelAnswer.At r c → OnlyAt k u v r c
+abbrev pub GivesOnly : Pair → Card → ℤ → ℤ → ℤ → ℤ → Type 0
+GivesOnly p k u v lat lon = (r c : ℤ) → pixelOf p k lat lon ≡ PixelAnswer.At r c → OnlyAt k u v r c
 
-abbrev pub RefusesWhere : Card → ℤ → ℤ → ℤ → ℤ → Type 0
-RefusesWhere k u v lat lon =
-    (pixelOf k lat lon ≡ PixelAnswer.Refused (refusal 12) ↔ (¬ TilesHave k u v))
-    × (pixelOf k lat lon ≡ PixelAnswer.Refused (refusal 13) ↔ (TilesHave k u v × (¬ ChartHas k u v)))
+abbrev pub RefusesWhere : Pair → Card → ℤ → ℤ → ℤ → ℤ → Type 0
+RefusesWhere p k u v lat lon =
+    (pixelOf p k lat lon ≡ PixelAnswer.Refused (refusal 12) ↔ (¬ TilesHave k u v))
+    × (pixelOf p k lat lon ≡ PixelAnswer.Refused (refusal 13) ↔ (TilesHave k u v × (¬ ChartHas k u v)))
 
 -- ---- the claims
 
@@ -66,4 +67,4 @@ abbrev pub RefusesExactly : Type 0
 RefusesExactly = EachLater RefusesWhere
 
 abbrev pub AskedAlike : Type 0
-AskedAlike = AlongList (λ rest u v lat lon. visits lat lon rest ≡ map (λ k. visit k lat lon) rest)
+AskedAlike = AlongList (λ p rest u v lat lon. visits p lat lon rest ≡ map (λ k. visit p k lat lon) rest)

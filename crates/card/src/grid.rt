@@ -1,6 +1,7 @@
-// Places of the zone grid, positions and pixels (001, 3.4.3, 3.4.4).
+// Places of the zone grid, positions and pixels (001, 3.4.3, 3.4.4; 02, E8).
 use crate::Card;
 use crate::Extents;
+use crate::Pair;
 use crate::PixelAnswer;
 use crate::PlaceAnswer;
 use crate::PositionAnswer;
@@ -12,7 +13,9 @@ use arc::Verdict;
 ghost use mathlib.Core.Path.{_≡_};
 ghost use Prim.Native.Nat.{_+_, _-_, _*_, _%_, _≤_, _<_};
 ghost use lib.IntN.{pos, _-ℤ_};
+ghost use Rattle.card.specs.declared.Pair.{Pair};
 ghost use Rattle.card.specs.Read.{Known};
+ghost use Rattle.card.specs.Steps.{inward};
 ghost use Rattle.card.specs.Grid.{placeRow, placeColumn, inTiles, inChart, latitudeOf, longitudeOf, extentsOf, verdictOf};
 ghost use Rattle.card.specs.Grid.{rowOf, columnOf, placeOf, positionOf, pixelAt, pixelOf};
 
@@ -28,6 +31,18 @@ fn turned(v: u64, s: u64, a: u64) -> u64
         return 0;
     }
     v - s
+}
+
+impl Pair {
+    // How far south and east of a pixel's corner the pair's exact place is, a pixel being H (02, E8).
+    pub fn inward(self) -> u64
+        ensures { λ r. ⌜ r ≡ inward self ⌝ }
+    {
+        match self {
+            Pair::Corner => 0,
+            Pair::Centre => Circle::H / 2,
+        }
+    }
 }
 
 impl Card {
@@ -93,42 +108,43 @@ impl Card {
         ((self.east + column + self.a / 2) % self.a) as i64
     }
 
-    // The nearest hundredth to (128n − r)H/B (001, 3.4.3).
-    fn latitude(self, row: u64) -> i64
+    // The nearest hundredth to the latitude of a row's exact place (001, 3.4.3).
+    fn latitude(self, pair: Pair, row: u64) -> i64
         requires { ⌜ Known self ⌝ ∗ ⌜ row < 128 * self .nfl ⌝ }
-        ensures { λ r. ⌜ r ≡ latitudeOf self (pos row) ⌝ }
+        ensures { λ r. ⌜ r ≡ latitudeOf pair self (pos row) ⌝ }
     {
-        whole::difference(
-            whole::nearest((self.north - row) * Circle::H, self.b) as u32,
-            Circle::LATITUDE,
-        )
+        let exact = (self.north - row) * Circle::H - pair.inward();
+        whole::difference(whole::nearest(exact, self.b) as u32, Circle::LATITUDE)
     }
 
-    // The nearest hundredth to (128m + c)H/A, brought into range (001, 3.4.3).
-    fn longitude(self, column: u64) -> i64
+    // The nearest hundredth to the longitude of a column's exact place, brought into range (001, 3.4.3).
+    fn longitude(self, pair: Pair, column: u64) -> i64
         requires { ⌜ Known self ⌝ ∗ ⌜ column < 128 * self .nfc ⌝ }
-        ensures { λ r. ⌜ r ≡ longitudeOf self (pos column) ⌝ }
+        ensures { λ r. ⌜ r ≡ longitudeOf pair self (pos column) ⌝ }
     {
-        let east = whole::nearest((self.east + column) * Circle::H, self.a) % Circle::H;
+        let exact = (self.east + column) * Circle::H + pair.inward();
+        let east = whole::nearest(exact, self.a) % Circle::H;
         whole::difference(east as u32, Circle::LONGITUDE)
     }
 
     // The row at a latitude counted from the South Pole, before the bounds are looked at (001, 3.4.4).
-    fn row_at(self, north: u64) -> i64
+    fn row_at(self, pair: Pair, north: u64) -> i64
         requires { ⌜ Known self ⌝ ∗ ⌜ north ≤ 64800000 ⌝ }
-        ensures { λ r. ⌜ r ≡ rowOf self (pos north -ℤ pos 32400000) ⌝ }
+        ensures { λ r. ⌜ r ≡ rowOf pair self (pos north -ℤ pos 32400000) ⌝ }
     {
         let half = self.b / 2;
-        let rows = whole::nearest((self.north + half) * Circle::H - north * self.b, Circle::H);
+        let up = Circle::H / 2 - pair.inward();
+        let rows = ((self.north + half) * Circle::H - north * self.b + up) / Circle::H;
         whole::difference(rows as u32, half as u32)
     }
 
     // The column at a longitude counted from 180° west, before the bounds are looked at (001, 3.4.4).
-    fn column_at(self, east: u64) -> i64
+    fn column_at(self, pair: Pair, east: u64) -> i64
         requires { ⌜ Known self ⌝ ∗ ⌜ east ≤ 129600000 ⌝ }
-        ensures { λ r. ⌜ r ≡ columnOf self (pos east -ℤ pos 64800000) ⌝ }
+        ensures { λ r. ⌜ r ≡ columnOf pair self (pos east -ℤ pos 64800000) ⌝ }
     {
-        turned(whole::nearest(east * self.a, Circle::H), self.east, self.a) as i64
+        let up = Circle::H / 2 - pair.inward();
+        turned((east * self.a + up) / Circle::H, self.east, self.a) as i64
     }
 
     // The place of a pixel (01, "Origins and the zone grid"). Refuses 12.
@@ -145,18 +161,26 @@ impl Card {
         }
     }
 
-    // The position of a pixel (01, "Origins and the zone grid"). Refuses 12, 13.
-    pub fn position(self, row: i64, column: i64) -> PositionAnswer
+    // The position of a pixel in either pair (01, "Origins and the zone grid"; 02, E8). Refuses 12, 13.
+    pub fn position_in(self, pair: Pair, row: i64, column: i64) -> PositionAnswer
         requires { ⌜ Known self ⌝ }
-        ensures { λ r. ⌜ r ≡ positionOf self row column ⌝ }
+        ensures { λ r. ⌜ r ≡ positionOf pair self row column ⌝ }
     {
         match self.judge_pixel(row, column) {
             Verdict::Accepted => PositionAnswer::At {
-                lat: self.latitude(row as u64),
-                lon: self.longitude(column as u64),
+                lat: self.latitude(pair, row as u64),
+                lon: self.longitude(pair, column as u64),
             },
             Verdict::Refused(r) => PositionAnswer::Refused(r),
         }
+    }
+
+    // The position of a pixel's centre (02, E8). Refuses 12, 13.
+    pub fn position(self, row: i64, column: i64) -> PositionAnswer
+        requires { ⌜ Known self ⌝ }
+        ensures { λ r. ⌜ r ≡ positionOf Pair.Centre self row column ⌝ }
+    {
+        self.position_in(Pair::Centre, row, column)
     }
 
     // The pixel found, within the bounds. Refuses 12, 13.
@@ -170,14 +194,24 @@ impl Card {
         }
     }
 
-    // The pixel at a position (01, "Origins and the zone grid"). Refuses 4, 5, 12, 13.
-    pub fn pixel(self, lat: i64, lon: i64) -> PixelAnswer
+    // The pixel at a position in either pair (01, "Origins and the zone grid"; 02, E8). Refuses 4, 5, 12, 13.
+    pub fn pixel_in(self, pair: Pair, lat: i64, lon: i64) -> PixelAnswer
         requires { ⌜ Known self ⌝ }
-        ensures { λ r. ⌜ r ≡ pixelOf self lat lon ⌝ }
+        ensures { λ r. ⌜ r ≡ pixelOf pair self lat lon ⌝ }
     {
         match range::count_position(lat, lon) {
-            Ranged::At { north, east } => self.pixel_at(self.row_at(north), self.column_at(east)),
+            Ranged::At { north, east } => {
+                self.pixel_at(self.row_at(pair, north), self.column_at(pair, east))
+            }
             Ranged::Refused(r) => PixelAnswer::Refused(r),
         }
+    }
+
+    // The pixel that contains a position (02, E8). Refuses 4, 5, 12, 13.
+    pub fn pixel(self, lat: i64, lon: i64) -> PixelAnswer
+        requires { ⌜ Known self ⌝ }
+        ensures { λ r. ⌜ r ≡ pixelOf Pair.Centre self lat lon ⌝ }
+    {
+        self.pixel_in(Pair::Centre, lat, lon)
     }
 }

@@ -1,5 +1,6 @@
-// The overview pixel of a chart's pixel (02, E4).
+// The overview pixel of a chart's pixel, in the corner pair (02, E4, E8).
 use crate::Card;
+use crate::Pair;
 use crate::PixelAnswer;
 use crate::PositionAnswer;
 ghost use mathlib.Core.Path.{_≡_};
@@ -12,8 +13,8 @@ impl Card {
         requires { ⌜ Known self ⌝ ∗ ⌜ Known overview ⌝ }
         ensures { λ r. ⌜ r ≡ overviewPixelOf self overview row column ⌝ }
     {
-        match self.position(row, column) {
-            PositionAnswer::At { lat, lon } => overview.pixel(lat, lon),
+        match self.position_in(Pair::Corner, row, column) {
+            PositionAnswer::At { lat, lon } => overview.pixel_in(Pair::Corner, lat, lon),
             PositionAnswer::Refused(r) => PixelAnswer::Refused(r),
         }
     }
