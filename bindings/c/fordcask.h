@@ -20,10 +20,25 @@
    spacing is that of scale 1:(S x k); a chart has the factor 1. A range x..y
    has both its ends. What lies outside a range named below is refused.
 
-   This header breaks callers of earlier ones: each function that took a scale
-   now takes the factor too. Where scale and zone were handed in, that is a
-   struct fordcask_series by value; fordcask_cover and fordcask_rectangle take
-   the factor right after the scale. With the factor 1 each answers as before.
+   Pixels and positions are asked for in one of two pairs. In the centre pair
+   a pixel's position is its centre's, and a position gives the pixel that
+   contains it: a pixel's north and west edges belong to it, its south and east
+   edges do not. In the corner pair a pixel's position is its upper left
+   corner's, and a position gives the pixel whose corner is nearest. The centre
+   pair is meant where no name says "corner". A position of one pair handed to
+   the other carries no promise.
+
+   This header breaks callers of earlier ones, in two ways:
+   - The four functions fordcask_position, fordcask_pixel, fordcask_positions
+     and fordcask_pixels kept their names and now answer in the centre pair.
+     Nothing tells the compiler. Who needs the answers as they were calls
+     fordcask_corner_position, fordcask_corner_pixel, fordcask_corner_positions
+     and fordcask_corner_pixels: those are the same functions by a new name.
+     Positions that were kept from before are the corner pair's.
+   - Each function that took a scale takes the factor too. Where scale and zone
+     were handed in, that is a struct fordcask_series by value; fordcask_cover
+     and fordcask_rectangle take the factor right after the scale. With the
+     factor 1 each answers as before the factor.
 
    A and B are the pixels in the circle along a parallel and along a meridian.
    A tile is 128 by 128 pixels. The chart is a rectangle of the tiles' pixels;
@@ -291,7 +306,8 @@ struct fordcask_place fordcask_place(struct fordcask_series series,
                                      const uint8_t *card, size_t card_len,
                                      int64_t row, int64_t column);
 
-/* The position of a pixel of the chart, in hundredths of an arc-second. row
+/* The position of the centre of a pixel of the chart, half a pixel south and
+   east of its corner, to the nearest hundredth of an arc-second. row
    0..128 x NFL - 1 and column 0..128 x NFC - 1, else 12; row NUL..NLL and
    column NLS..NUS, else 13. Refuses 12, 13. */
 struct fordcask_position fordcask_position(struct fordcask_series series,
@@ -299,15 +315,31 @@ struct fordcask_position fordcask_position(struct fordcask_series series,
                                            size_t card_len, int64_t row,
                                            int64_t column);
 
-/* The pixel of the chart at a position. lat and lon in hundredths of an
-   arc-second, latitude -32400000..32400000, longitude -64800000..64800000.
-   Refuses 4, 5, 12, 13. */
+/* The same of the pixel's upper left corner: the corner pair. Refuses 12,
+   13. */
+struct fordcask_position fordcask_corner_position(struct fordcask_series series,
+                                                  const uint8_t *card,
+                                                  size_t card_len, int64_t row,
+                                                  int64_t column);
+
+/* The pixel of the chart that contains a position. lat and lon in hundredths
+   of an arc-second, latitude -32400000..32400000, longitude
+   -64800000..64800000. Latitude -32400000 lies in no pixel. Refuses 4, 5, 12,
+   13. */
 struct fordcask_pixel fordcask_pixel(struct fordcask_series series,
                                      const uint8_t *card, size_t card_len,
                                      int64_t lat, int64_t lon);
 
+/* The pixel of the chart whose upper left corner is nearest to a position: the
+   corner pair. lat and lon as for fordcask_pixel. Refuses 4, 5, 12, 13. */
+struct fordcask_pixel fordcask_corner_pixel(struct fordcask_series series,
+                                            const uint8_t *card,
+                                            size_t card_len, int64_t lat,
+                                            int64_t lon);
+
 /* The overview pixel of a chart's pixel: the pixel of the overview's card at
-   the position of pixel (row, column) of the chart's card. series and card are
+   the position of pixel (row, column) of the chart's card, both in the corner
+   pair. series and card are
    the chart's, overview_series and overview_card the overview's; the two need
    not fit. row 0..128 x NFL - 1 and column 0..128 x NFC - 1 of the chart's
    card, else 12; row NUL..NLL and column NLS..NUS, else 13; the pixel answered
@@ -391,6 +423,15 @@ struct fordcask_refusal fordcask_positions(struct fordcask_series series,
                                            uint32_t *numbers,
                                            size_t numbers_len);
 
+/* The same in the corner pair: pair i is the answer of
+   fordcask_corner_position. */
+struct fordcask_refusal
+fordcask_corner_positions(struct fordcask_series series, const uint8_t *card,
+                          size_t card_len, const int64_t *pixels,
+                          size_t pixels_len, int64_t *positions,
+                          size_t positions_len, uint32_t *numbers,
+                          size_t numbers_len);
+
 /* The pixels at many positions. positions: lat, lon, lat, lon, ... in
    hundredths of an arc-second, latitude -32400000..32400000, longitude
    -64800000..64800000; pixels: row, column, row, column, ...; one number for
@@ -404,6 +445,15 @@ struct fordcask_refusal fordcask_pixels(struct fordcask_series series,
                                         size_t positions_len, int64_t *pixels,
                                         size_t pixels_len, uint32_t *numbers,
                                         size_t numbers_len);
+
+/* The same in the corner pair: pair i is the answer of
+   fordcask_corner_pixel. */
+struct fordcask_refusal
+fordcask_corner_pixels(struct fordcask_series series, const uint8_t *card,
+                       size_t card_len, const int64_t *positions,
+                       size_t positions_len, int64_t *pixels,
+                       size_t pixels_len, uint32_t *numbers,
+                       size_t numbers_len);
 
 #ifdef __cplusplus
 }

@@ -5,15 +5,20 @@
 //! -64,800,000 to 64,800,000. Each function answers or refuses for every number, byte and length
 //! handed in; a [`Refusal`] carries the number of document 01 or 02 and a place.
 //!
+//! Pixels and positions are asked for in one of two pairs ([`Pair`]): the centre pair where none is
+//! named, else the corner pair. A position of the one pair handed to the other carries no promise.
+//!
 //! ```
-//! use fordcask::{Pixel, Position, Refusal, Series, Sheet};
+//! use fordcask::{Pair, Pixel, Position, Refusal, Series, Sheet};
 //!
 //! let card = b"30036966400400384-0022935.07+113032.23000000000127000255000000\
 //!              00200100012800012801008BASE0101.IMGN";
 //! let sheet = Sheet { series: Series::chart(1_000_000, 1), card };
 //! let position = sheet.position(Pixel { row: 1, column: 1 })?;
-//! assert_eq!(position, Position { lat: 4_142_899, lon: -897_156 });
+//! assert_eq!(position, Position { lat: 4_142_737, lon: -896_981 });
 //! assert_eq!(sheet.pixel(position)?, Pixel { row: 1, column: 1 });
+//! let corner = sheet.position_in(Pair::Corner, Pixel { row: 1, column: 1 })?;
+//! assert_eq!(corner, Position { lat: 4_142_899, lon: -897_156 });
 //! let outside = sheet.position(Pixel { row: 256, column: 0 });
 //! assert_eq!(outside, Err(Refusal { number: 12, at: 0 }));
 //! # Ok::<(), Refusal>(())
@@ -22,6 +27,7 @@
 #![warn(missing_docs)]
 
 mod card;
+mod pair;
 mod position;
 pub mod raw;
 mod refusal;
@@ -31,6 +37,7 @@ mod tiles;
 mod zone;
 
 pub use card::{read_card, write_card, Card, Record, CARD_LENGTH};
+pub use pair::Pair;
 pub use position::{offset, Offset, Pixel, Place, Position};
 pub use refusal::Refusal;
 pub use series::Series;

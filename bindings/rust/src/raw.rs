@@ -42,7 +42,21 @@ unsafe extern "C" {
         row: i64,
         column: i64,
     ) -> Position;
+    pub fn fordcask_corner_position(
+        series: Series,
+        card: *const u8,
+        card_len: usize,
+        row: i64,
+        column: i64,
+    ) -> Position;
     pub fn fordcask_pixel(
+        series: Series,
+        card: *const u8,
+        card_len: usize,
+        lat: i64,
+        lon: i64,
+    ) -> Pixel;
+    pub fn fordcask_corner_pixel(
         series: Series,
         card: *const u8,
         card_len: usize,
@@ -118,7 +132,29 @@ unsafe extern "C" {
         numbers: *mut u32,
         numbers_len: usize,
     ) -> Refusal;
+    pub fn fordcask_corner_positions(
+        series: Series,
+        card: *const u8,
+        card_len: usize,
+        pixels: *const i64,
+        pixels_len: usize,
+        positions: *mut i64,
+        positions_len: usize,
+        numbers: *mut u32,
+        numbers_len: usize,
+    ) -> Refusal;
     pub fn fordcask_pixels(
+        series: Series,
+        card: *const u8,
+        card_len: usize,
+        positions: *const i64,
+        positions_len: usize,
+        pixels: *mut i64,
+        pixels_len: usize,
+        numbers: *mut u32,
+        numbers_len: usize,
+    ) -> Refusal;
+    pub fn fordcask_corner_pixels(
         series: Series,
         card: *const u8,
         card_len: usize,

@@ -1,4 +1,5 @@
 use crate::card::{read_card, Card};
+use crate::pair::Pair;
 use crate::position::{Pixel, Place, Position};
 use crate::raw;
 use crate::refusal::{answer, Refusal};
@@ -37,40 +38,47 @@ impl Sheet<'_> {
         answer(given.number, given.at, value)
     }
 
-    /// The position of a pixel of the chart; its longitude is below 64,800,000. Refuses 12, 13.
+    /// The position of the centre of a pixel of the chart. Refuses 12, 13.
     pub fn position(&self, pixel: Pixel) -> Result<Position, Refusal> {
+        self.position_in(Pair::Centre, pixel)
+    }
+
+    /// The position of a pixel of the chart in either pair; its longitude is below 64,800,000.
+    /// Refuses 12, 13.
+    pub fn position_in(&self, pair: Pair, pixel: Pixel) -> Result<Position, Refusal> {
+        let ask = match pair {
+            Pair::Corner => raw::fordcask_corner_position,
+            Pair::Centre => raw::fordcask_position,
+        };
         // SAFETY: the pointer and length are those of one slice, which is only read.
         let given = unsafe {
-            raw::fordcask_position(
-                self.series,
-                self.card.as_ptr(),
-                self.card.len(),
-                pixel.row,
-                pixel.column,
-            )
+            ask(self.series, self.card.as_ptr(), self.card.len(), pixel.row, pixel.column)
         };
         let value = Position { lat: given.lat, lon: given.lon };
         answer(given.number, given.at, value)
     }
 
-    /// The pixel of the chart at a position. Refuses 4, 5, 12, 13.
+    /// The pixel of the chart that contains a position. Refuses 4, 5, 12, 13.
     pub fn pixel(&self, position: Position) -> Result<Pixel, Refusal> {
+        self.pixel_in(Pair::Centre, position)
+    }
+
+    /// The pixel of the chart at a position in either pair. Refuses 4, 5, 12, 13.
+    pub fn pixel_in(&self, pair: Pair, position: Position) -> Result<Pixel, Refusal> {
+        let ask = match pair {
+            Pair::Corner => raw::fordcask_corner_pixel,
+            Pair::Centre => raw::fordcask_pixel,
+        };
         // SAFETY: the pointer and length are those of one slice, which is only read.
         let given = unsafe {
-            raw::fordcask_pixel(
-                self.series,
-                self.card.as_ptr(),
-                self.card.len(),
-                position.lat,
-                position.lon,
-            )
+            ask(self.series, self.card.as_ptr(), self.card.len(), position.lat, position.lon)
         };
         let value = Pixel { row: given.row, column: given.column };
         answer(given.number, given.at, value)
     }
 
-    /// The pixel of `overview` at the position of a pixel of this sheet, the chart. The two need
-    /// not fit: any two accepted cards are served. The refusals of [`read_card`] for the chart's
+    /// The pixel of `overview` at the position of a pixel of this sheet, the chart, both in the corner
+    /// pair. The two need not fit: any two accepted cards are served. The refusals of [`read_card`] for the chart's
     /// card, then for the overview's; then 12, 13 of the chart, then 12, 13 of the overview.
     pub fn overview_pixel(&self, overview: &Sheet, pixel: Pixel) -> Result<Pixel, Refusal> {
         // SAFETY: each pointer and length are those of one slice; both slices are only read.
@@ -90,20 +98,36 @@ impl Sheet<'_> {
         answer(given.number, given.at, value)
     }
 
-    /// The positions of many pixels: `numbers[i]` is 0 and `positions[i]` the answer for `pixels[i]`,
-    /// or `numbers[i]` is 12 or 13 and `positions[i]` is 0, 0. What lies past the pixels stays.
-    ///
-    /// Refuses 6 where `positions` or `numbers` is shorter than `pixels`; both then stay.
+    /// The positions of the centres of many pixels, as [`Sheet::positions_in`] answers them.
     pub fn positions(
         &self,
         pixels: &[Pixel],
         positions: &mut [Position],
         numbers: &mut [u32],
     ) -> Result<(), Refusal> {
+        self.positions_in(Pair::Centre, pixels, positions, numbers)
+    }
+
+    /// The positions of many pixels in either pair: `numbers[i]` is 0 and `positions[i]` the answer
+    /// for `pixels[i]`, or `numbers[i]` is 12 or 13 and `positions[i]` is 0, 0. What lies past the
+    /// pixels stays.
+    ///
+    /// Refuses 6 where `positions` or `numbers` is shorter than `pixels`; both then stay.
+    pub fn positions_in(
+        &self,
+        pair: Pair,
+        pixels: &[Pixel],
+        positions: &mut [Position],
+        numbers: &mut [u32],
+    ) -> Result<(), Refusal> {
+        let ask = match pair {
+            Pair::Corner => raw::fordcask_corner_positions,
+            Pair::Centre => raw::fordcask_positions,
+        };
         // SAFETY: each pointer and length are those of one slice; a Pixel and a Position are two
         // i64 each, with the alignment of i64; the two slices written to are lent for writing.
         let given = unsafe {
-            raw::fordcask_positions(
+            ask(
                 self.series,
                 self.card.as_ptr(),
                 self.card.len(),
@@ -118,20 +142,36 @@ impl Sheet<'_> {
         answer(given.number, given.at, ())
     }
 
-    /// The pixels at many positions: `numbers[i]` is 0 and `pixels[i]` the answer for `positions[i]`,
-    /// or `numbers[i]` is 4, 5, 12 or 13 and `pixels[i]` is 0, 0. What lies past the positions stays.
-    ///
-    /// Refuses 6 where `pixels` or `numbers` is shorter than `positions`; both then stay.
+    /// The pixels that contain many positions, as [`Sheet::pixels_in`] answers them.
     pub fn pixels(
         &self,
         positions: &[Position],
         pixels: &mut [Pixel],
         numbers: &mut [u32],
     ) -> Result<(), Refusal> {
+        self.pixels_in(Pair::Centre, positions, pixels, numbers)
+    }
+
+    /// The pixels at many positions in either pair: `numbers[i]` is 0 and `pixels[i]` the answer for
+    /// `positions[i]`, or `numbers[i]` is 4, 5, 12 or 13 and `pixels[i]` is 0, 0. What lies past the
+    /// positions stays.
+    ///
+    /// Refuses 6 where `pixels` or `numbers` is shorter than `positions`; both then stay.
+    pub fn pixels_in(
+        &self,
+        pair: Pair,
+        positions: &[Position],
+        pixels: &mut [Pixel],
+        numbers: &mut [u32],
+    ) -> Result<(), Refusal> {
+        let ask = match pair {
+            Pair::Corner => raw::fordcask_corner_pixels,
+            Pair::Centre => raw::fordcask_pixels,
+        };
         // SAFETY: each pointer and length are those of one slice; a Pixel and a Position are two
         // i64 each, with the alignment of i64; the two slices written to are lent for writing.
         let given = unsafe {
-            raw::fordcask_pixels(
+            ask(
                 self.series,
                 self.card.as_ptr(),
                 self.card.len(),
