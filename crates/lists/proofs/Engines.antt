@@ -1,4 +1,4 @@
--- An engine's axes give the plain rule's angles and pixels, for every row and column of its card's tiles. Assumes nothing.
+-- An engine's axes give the plain rule's angles and pixels in its pair, for every row and column of its card's tiles. Assumes nothing.
 use mathlib.Core.Path.{_≡_, sym, ap, ap₂, _∙_, subst⁻¹}
 use mathlib.Core.Bool.{Bool, true, false}
 use Prim.Native.Nat.{ℕ, _+_, _-_, _*_, _/_, _%_, _≤_, _<_}
@@ -6,17 +6,29 @@ use native.Mathlib.Nat.{mul-le-mul, mul-le-mul-right, lt-of-mul-lt-mul-right, mo
 use native.Mathlib.Omega.{arith}
 use Rattle.whole.specs.Whole.{near}
 use Rattle.whole.proofs.Near.{near-low}
-use Rattle.arc.specs.Zones.{circle}
+use Rattle.arc.specs.Zones.{circle, half}
 use Rattle.arc.specs.Spacing.{Grid}
 use Rattle.card.specs.declared.Card.{Card}
+use Rattle.card.specs.declared.Pair.{Pair}
 use Rattle.card.specs.Read.{Known}
+use Rattle.card.specs.Steps.{inward}
 use Rattle.card.proofs.Laid.{Laid, known-laid}
+use Rattle.card.proofs.Pairs.{inward-high}
 use Rattle.card.proofs.Axes.{north-high, down-high, east-high, row-fits}
 use Rattle.lists.specs.declared.engine.Axis.{Axis}
 use Rattle.lists.specs.declared.engine.Engine.{Engine}
-use Rattle.lists.specs.Steps.{scaleUp, startOf, rowAxis, columnAxis, engineOf, Made}
+use Rattle.lists.specs.Steps.{scaleUp, startOf, shiftOf, rowAxis, columnAxis, engineOf, Made}
 use Rattle.lists.proofs.Fixed.{scale-high, fixed}
 use Rattle.lists.proofs.Units.{angle-unit, pixel-unit, quotient-under, quotient-down}
+
+-- ---- a pair's shift
+pub shift-is : (p : Pair) → inward p ≡ 256 * shiftOf p
+shift-is Pair.Corner = omega arith
+shift-is Pair.Centre = omega arith
+
+pub shift-high : (p : Pair) → shiftOf p ≤ 253125
+shift-high Pair.Corner = omega arith
+shift-high Pair.Centre = omega arith
 
 -- ---- a spacing of 512 u, in u
 module _ (x : ℕ) (g : Grid x) where
@@ -51,30 +63,39 @@ module _ (x : ℕ) (g : Grid x) where
       omega (arith, most)
 
 -- ---- what `engine_of` answered
-pub engine-card : {k : Card} {e : Engine} → e ≡ engineOf k → e .card ≡ k
+pub engine-card : (p : Pair) (k : Card) {e : Engine} → e ≡ engineOf p k → e .card ≡ k
 unfolding engineOf
-engine-card same = ap (λ (x : Engine). x .card) same
+engine-card p k same = ap (λ (x : Engine). x .card) same
 
-pub engine-made : {k : Card} {e : Engine} → Known k → e ≡ engineOf k → Made e
-engine-made known same = record { known = subst⁻¹ Known (engine-card same) known; same = same ∙ ap engineOf (sym (engine-card same)) }
+pub engine-pair : (p : Pair) (k : Card) {e : Engine} → e ≡ engineOf p k → e .pair ≡ p
+unfolding engineOf
+engine-pair p k same = ap (λ (x : Engine). x .pair) same
+
+pub engine-made : (p : Pair) (k : Card) {e : Engine} → Known k → e ≡ engineOf p k → Made e
+engine-made p k known same =
+    let card = engine-card p k same in
+    record { known = subst⁻¹ Known card known; same = same ∙ ap₂ engineOf (sym (engine-pair p k same)) (sym card) }
 
 -- ---- an engine's answers
 module _ (e : Engine) (made : Made e) where
   abbrev k : Card
   k = e .card
 
+  abbrev s : ℕ
+  s = shiftOf (e .pair)
+
   pub laid : Laid (e .card)
   laid = known-laid k (made .known)
 
-  rows-are : e .rows ≡ rowAxis k
+  rows-are : e .rows ≡ rowAxis (e .pair) k
   unfolding engineOf
   rows-are = ap (λ (x : Engine). x .rows) (made .same)
 
-  columns-are : e .columns ≡ columnAxis k
+  columns-are : e .columns ≡ columnAxis (e .pair) k
   unfolding engineOf
   columns-are = ap (λ (x : Engine). x .columns) (made .same)
 
-  top-is : e .top ≡ 506250 * (k .north + k .b / 2) + 253125
+  top-is : e .top ≡ 506250 * (k .north + k .b / 2) + (253125 - s)
   unfolding engineOf
   top-is = ap (λ (x : Engine). x .top) (made .same)
 
@@ -82,7 +103,7 @@ module _ (e : Engine) (made : Made e) where
   unfolding engineOf
   down-is = ap (λ (x : Engine). x .down) (made .same)
 
-  left-is : e .left ≡ 506250 * (k .a - k .east) + 253125
+  left-is : e .left ≡ 506250 * (k .a - k .east) + (253125 - s)
   unfolding engineOf
   left-is = ap (λ (x : Engine). x .left) (made .same)
 
@@ -99,9 +120,9 @@ module _ (e : Engine) (made : Made e) where
     n = 2 * u
 
     abbrev top : ℕ
-    top = 506250 * k .north + u
+    top = 506250 * k .north - s + u
 
-    le : r ≤ k .north
+    le : r < k .north
     le = omega (arith, down-high k laid)
 
     steps : (r * e .rows .rate + e .rows .start) / 68719476736 ≡ (n - 1 - top % n + 506250 * r) / n
@@ -114,15 +135,16 @@ module _ (e : Engine) (made : Made e) where
         rw rows-are (reach (k .b) (laid .rows) r (n - 1 - top % n) (omega (arith, le, north-high k laid)) (omega (arith, some (k .b) (laid .rows))))
 
     pub row-under : (r * e .rows .rate + e .rows .start) / 68719476736 ≤ e .rows .base
-    row-under = rw (steps, rows-are) (quotient-under n (some (k .b) (laid .rows)) top (506250 * r) (omega (arith, le)))
+    row-under = rw (steps, rows-are) (quotient-under n (some (k .b) (laid .rows)) top (506250 * r) (omega (arith, le, shift-high (e .pair))))
 
-    pub row-angle : e .rows .base - (r * e .rows .rate + e .rows .start) / 68719476736 ≡ near ((e .card .north - r) * circle) (e .card .b)
+    pub row-angle : e .rows .base - (r * e .rows .rate + e .rows .start) / 68719476736
+        ≡ near ((e .card .north - r) * circle - inward (e .pair)) (e .card .b)
     row-angle =
         ap₂ _-_ (ap (λ (x : Axis). x .base) rows-are) steps
-        ∙ quotient-down n (some (k .b) (laid .rows)) top (506250 * r) (omega (arith, le))
-        ∙ ap (λ (y : ℕ). y / n) (omega (arith, le))
-        ∙ sym (angle-unit u (k .north - r))
-        ∙ ap (near ((k .north - r) * circle)) (sym (laid .rows .whole))
+        ∙ quotient-down n (some (k .b) (laid .rows)) top (506250 * r) (omega (arith, le, shift-high (e .pair)))
+        ∙ ap (λ (y : ℕ). y / n) (omega (arith, le, shift-high (e .pair)))
+        ∙ sym (angle-unit u (506250 * (k .north - r) - s))
+        ∙ ap₂ near (omega (arith, shift-is (e .pair))) (sym (laid .rows .whole))
 
   -- ---- the longitude of a column, from 180° west, before the circle is taken off
   module _ (c : ℕ) (h : c < 128 * e .card .nfc) where
@@ -133,30 +155,32 @@ module _ (e : Engine) (made : Made e) where
     m = 2 * v
 
     abbrev left : ℕ
-    left = 506250 * k .east + v
+    left = 506250 * k .east + s + v
 
     pub column-fits-64 : c * e .columns .rate + e .columns .start < 18446744073709551616
     column-fits-64 =
         rw columns-are (reach (k .a) (laid .columns) c (left % m) (omega (arith, laid .across)) (mod-lt left (some (k .a) (laid .columns))))
 
-    pub column-angle : e .columns .base + (c * e .columns .rate + e .columns .start) / 68719476736 ≡ near ((e .card .east + c) * circle) (e .card .a)
+    pub column-angle : e .columns .base + (c * e .columns .rate + e .columns .start) / 68719476736
+        ≡ near ((e .card .east + c) * circle + inward (e .pair)) (e .card .a)
     column-angle =
         ap (λ (x : Axis). x .base + (c * x .rate + x .start) / 68719476736) columns-are
         ∙ ap (λ (q : ℕ). left / m + q)
         (fixed m (some (k .a) (laid .columns)) 506250 (left % m) c (close (k .a) (laid .columns) c (omega (arith, laid .across-most))))
         ∙ sym (mul-add-div-right (some (k .a) (laid .columns)) (left / m) (left % m + 506250 * c))
         ∙ ap (λ (y : ℕ). y / m) (omega (arith, div-add-mod' left m))
-        ∙ sym (angle-unit v (k .east + c))
-        ∙ ap (near ((k .east + c) * circle)) (sym (laid .columns .whole))
+        ∙ sym (angle-unit v (506250 * (k .east + c) + s))
+        ∙ ap₂ near (omega (arith, shift-is (e .pair))) (sym (laid .columns .whole))
 
     -- one circle at most
-    pub column-below : near ((e .card .east + c) * circle) (e .card .a) < 2 * circle
+    pub column-below : near ((e .card .east + c) * circle + inward (e .pair)) (e .card .a) < 2 * circle
     column-below =
-        let x : ℕ = near ((k .east + c) * circle) (k .a) in
+        let x : ℕ = near ((k .east + c) * circle + inward (e .pair)) (k .a) in
         lt-of-mul-lt-mul-right (k .a)
         (omega (
           arith,
-          near-low (k .a) (omega (arith, laid .columns .some)) ((k .east + c) * circle),
+          near-low (k .a) (omega (arith, laid .columns .some)) ((k .east + c) * circle + inward (e .pair)),
+          inward-high (e .pair),
           east-high k laid,
           laid .across,
           laid .columns .most,
@@ -170,21 +194,25 @@ module _ (e : Engine) (made : Made e) where
   pub row-product : (p : ℕ) → p ≤ 64800000 → e .down * p ≤ e .top
   row-product p h = rw (down-is, top-is) (omega (arith, row-fits k laid p h, by-unit (k .b) (laid .rows) p))
 
-  pub row-count : (p : ℕ) → p ≤ 64800000 → (e .top - e .down * p) / 506250 ≡ near ((e .card .north + e .card .b / 2) * circle - p * e .card .b) circle
-  unfolding near
+  pub row-count : (p : ℕ) → p ≤ 64800000
+      → (e .top - e .down * p) / 506250 ≡ ((e .card .north + e .card .b / 2) * circle - p * e .card .b + (half - inward (e .pair))) / circle
   row-count p h =
       ap₂ (λ (x y : ℕ). (x - y * p) / 506250) top-is down-is
-      ∙ sym (ap (λ (y : ℕ). y / (2 * circle)) (omega (arith, row-fits k laid p h, by-unit (k .b) (laid .rows) p))
-      ∙ mul-div-mul-left {m = 512} (506250 * (k .north + k .b / 2) + 253125 - 2 * (k .b / 512) * p) 506250 (omega arith))
+      ∙ sym (pixel-unit (506250 * (k .north + k .b / 2) + (253125 - s) - 2 * (k .b / 512) * p))
+      ∙ ap (λ (y : ℕ). y / circle)
+      (omega (arith, row-fits k laid p h, by-unit (k .b) (laid .rows) p, shift-is (e .pair), shift-high (e .pair)))
 
   pub column-product : (p : ℕ) → p ≤ 129600000 → e .across * p + e .left < 18446744073709551616
   column-product p h =
       let q : 2 * (k .a / 512) * p ≤ 312800 * 129600000 = mul-le-mul (most (k .a) (laid .columns)) h in
       rw (across-is, left-is) (omega (arith, laid .columns .most))
 
-  pub column-count : (p : ℕ) → (e .across * p + e .left) / 506250 ≡ near (p * e .card .a) circle + (e .card .a - e .card .east)
+  pub column-count : (p : ℕ)
+      → (e .across * p + e .left) / 506250 ≡ (p * e .card .a + (half - inward (e .pair))) / circle + (e .card .a - e .card .east)
   column-count p =
       ap₂ (λ (x y : ℕ). (x * p + y) / 506250) across-is left-is
       ∙ ap (λ (y : ℕ). y / 506250) (omega arith)
-      ∙ add-mul-div-right (2 * (k .a / 512) * p + 253125) (k .a - k .east) (omega arith)
-      ∙ ap (λ (q : ℕ). q + (k .a - k .east)) (sym (pixel-unit (k .a / 512) p) ∙ ap (λ (y : ℕ). near (p * y) circle) (sym (laid .columns .whole)))
+      ∙ add-mul-div-right (2 * (k .a / 512) * p + (253125 - s)) (k .a - k .east) (omega arith)
+      ∙ ap (λ (q : ℕ). q + (k .a - k .east))
+      (sym (pixel-unit (2 * (k .a / 512) * p + (253125 - s)))
+      ∙ ap (λ (y : ℕ). y / circle) (omega (arith, by-unit (k .a) (laid .columns) p, shift-is (e .pair), shift-high (e .pair))))

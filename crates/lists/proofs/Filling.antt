@@ -16,6 +16,7 @@ use mir.Val.{SFits, toZ, ofZ}
 use mir.ValLaws.{toZ-ofZ}
 use Rattle.arc.specs.Refusals.{Report}
 use Rattle.card.specs.declared.Card.{Card}
+use Rattle.card.specs.declared.Pair.{Pair}
 use Rattle.card.specs.declared.PositionAnswer.{PositionAnswer}
 use Rattle.card.specs.declared.PixelAnswer.{PixelAnswer}
 use Rattle.whole.specs.Lists.{over, each}
@@ -116,6 +117,6 @@ pixel-values : (a : PixelAnswer) → length (pixelReport a .values) ≡ 2
 pixel-values (PixelAnswer.At row column) = refl
 pixel-values (PixelAnswer.Refused r) = refl
 
-pub report-values : (asked : Asked) (k : Card) (u v : ℤ) → length (askedReport asked k u v .values) ≡ 2
-report-values Asked.Positions k u v = position-values (positionOf k u v)
-report-values Asked.Pixels k u v = pixel-values (pixelOf k u v)
+pub report-values : (p : Pair) (asked : Asked) (k : Card) (u v : ℤ) → length (askedReport p asked k u v .values) ≡ 2
+report-values p Asked.Positions k u v = position-values (positionOf p k u v)
+report-values p Asked.Pixels k u v = pixel-values (pixelOf p k u v)

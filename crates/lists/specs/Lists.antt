@@ -1,12 +1,12 @@
--- Lists of pixels and of positions of one card (01, "Origins and the zone grid"). Definitions only.
+-- Lists of pixels and of positions of one card, in either pair (01, "Origins and the zone grid"; 02, E8). Definitions only.
 --     pairs p                the pairs in a list of length p
 --     listsFit p o n         the length p handed in is even, the list to fill, of length o, is no shorter, and there is a number for each pair
 --     listsVerdict p o n     6 where they do not fit
 --     pairAt ps i            pair i of a list: its first number stands at 2i, its second at 2i + 1
---     positionReportAt k ps i      the report of pixel i of the list, a pair of row and column
---     pixelReportAt k qs i     the report of position i of the list, a pair of latitude and longitude
---     askedReport asked k x y      the report of the position of pixel (x, y), or of the pixel at position (x, y)
---     reportAt asked k ps i  the same of pair i of the list
+--     askedReport p asked k x y   the report of the position of pixel (x, y), or of the pixel at position (x, y), in the pair p
+--     reportAt p asked k ps i     the same of pair i of the list
+--     positionReportAt p k ps i   the report of pixel i of the list, a pair of row and column
+--     pixelReportAt p k qs i      the report of position i of the list, a pair of latitude and longitude
 --     reportValues, reportNumbers  the value parts, and the numbers, of the first n reports
 --     valuesLeft, numbersLeft    what the list to fill and the numbers hold at the end
 use Prim.Native.Nat.{ℕ, _+_, _*_, _/_, _%_}
@@ -19,8 +19,9 @@ use Rattle.whole.specs.Lists.{each, over}
 use Rattle.arc.specs.declared.Verdict.{Verdict}
 use Rattle.arc.specs.Refusals.{refusal, Report}
 use Rattle.card.specs.declared.Card.{Card}
+use Rattle.card.specs.declared.Pair.{Pair}
 use Rattle.lists.specs.declared.Asked.{Asked}
-use Rattle.lists.specs.declared.Pair.{Pair}
+use Rattle.lists.specs.declared.ListPair.{ListPair}
 use Rattle.card.specs.Grid.{positionOf, pixelOf, positionReport, pixelReport}
 
 abbrev pub pairs : ℕ → ℕ
@@ -32,21 +33,21 @@ listsFit p o n = eqb (p % 2) 0 && leb p o && leb (pairs p) n
 abbrev pub listsVerdict : ℕ → ℕ → ℕ → Verdict
 listsVerdict p o n = cond (listsFit p o n) Verdict.Accepted (Verdict.Refused (refusal 6))
 
-abbrev pub pairAt : List ℤ → ℕ → Pair
+abbrev pub pairAt : List ℤ → ℕ → ListPair
 pairAt ps i = record { first = getD ps (2 * i) (pos 0); second = getD ps (2 * i + 1) (pos 0) }
 
-abbrev pub askedReport : Asked → Card → ℤ → ℤ → Report
-askedReport Asked.Positions k x y = positionReport (positionOf k x y)
-askedReport Asked.Pixels k x y = pixelReport (pixelOf k x y)
+abbrev pub askedReport : Pair → Asked → Card → ℤ → ℤ → Report
+askedReport p Asked.Positions k x y = positionReport (positionOf p k x y)
+askedReport p Asked.Pixels k x y = pixelReport (pixelOf p k x y)
 
-abbrev pub reportAt : Asked → Card → List ℤ → ℕ → Report
-reportAt asked k ps i = askedReport asked k (pairAt ps i .first) (pairAt ps i .second)
+abbrev pub reportAt : Pair → Asked → Card → List ℤ → ℕ → Report
+reportAt p asked k ps i = askedReport p asked k (pairAt ps i .first) (pairAt ps i .second)
 
-abbrev pub positionReportAt : Card → List ℤ → ℕ → Report
-positionReportAt k ps i = reportAt Asked.Positions k ps i
+abbrev pub positionReportAt : Pair → Card → List ℤ → ℕ → Report
+positionReportAt p k ps i = reportAt p Asked.Positions k ps i
 
-abbrev pub pixelReportAt : Card → List ℤ → ℕ → Report
-pixelReportAt k qs i = reportAt Asked.Pixels k qs i
+abbrev pub pixelReportAt : Pair → Card → List ℤ → ℕ → Report
+pixelReportAt p k qs i = reportAt p Asked.Pixels k qs i
 
 abbrev pub reportValues : ℕ → (ℕ → Report) → List ℤ
 reportValues n f = each n (λ i. f i .values)

@@ -1,7 +1,8 @@
-// The engine: positions and pixels of one card with no division by A or B (001, 3.4.3, 3.4.4).
+// The engine: positions and pixels of one card and one pair with no division by A or B (001, 3.4.3, 3.4.4; 02, E8).
 use arc::Circle;
 use arc::Verdict;
 use card::Card;
+use card::Pair;
 use card::PixelAnswer;
 use card::PositionAnswer;
 use card::Ranged;
@@ -12,10 +13,11 @@ ghost use Rattle.whole.specs.Whole.{near};
 ghost use Rattle.arc.specs.Zones.{circle};
 ghost use Rattle.arc.specs.Spacing.{Grid};
 ghost use Rattle.card.specs.Read.{Known};
+ghost use Rattle.card.specs.Steps.{inward};
 ghost use Rattle.card.specs.Grid.{rowOf, columnOf, positionOf, pixelOf};
 ghost use Rattle.lists.specs.Steps.{scaleUp, startOf, axisOf, engineOf, Made};
 
-// 2H / 512.
+// H / 256.
 const STEP: u64 = 506_250;
 
 // 2^36.
@@ -28,9 +30,10 @@ pub struct Axis {
     pub start: u64,
 }
 
-// A card's axes, and what its rows and columns are counted by.
+// A card's axes in a pair, and what its rows and columns are counted by.
 pub struct Engine {
     pub card: Card,
+    pub pair: Pair,
     pub rows: Axis,
     pub columns: Axis,
     pub top: u64,
@@ -72,14 +75,14 @@ fn start_of(rest: u64, d: u64, off: bool) -> u64
     rest
 }
 
-// The axis of x pixels a circle that begins at a pixel.
-fn axis_of(x: u64, pixel: u64, off: bool) -> Axis
-    requires { ⌜ Grid x ⌝ ∗ ⌜ pixel ≤ x ⌝ }
-    ensures { λ r. ⌜ r ≡ axisOf x pixel off ⌝ }
+// The axis of x pixels a circle, whose first pixel's exact place is so far from its end, a pixel being STEP.
+fn axis_of(x: u64, from: u64, off: bool) -> Axis
+    requires { ⌜ Grid x ⌝ ∗ ⌜ from ≤ 506250 * x + 253125 ⌝ }
+    ensures { λ r. ⌜ r ≡ axisOf x from off ⌝ }
 {
     let unit = x / 512;
     let d = 2 * unit;
-    let first = STEP * pixel + unit;
+    let first = from + unit;
     let start = start_of(first % d, d, off);
     Axis {
         base: first / d,
@@ -88,20 +91,23 @@ fn axis_of(x: u64, pixel: u64, off: bool) -> Axis
     }
 }
 
-// The engine of a card.
-pub fn engine_of(k: Card) -> Engine
+// The engine of a card for a pair.
+pub fn engine_of(pair: Pair, k: Card) -> Engine
     requires { ⌜ Known k ⌝ }
-    ensures { λ r. ⌜ r ≡ engineOf k ⌝ }
+    ensures { λ r. ⌜ r ≡ engineOf pair k ⌝ }
 {
-    let rows = axis_of(k.b, k.north, true);
-    let columns = axis_of(k.a, k.east, false);
+    let shift = pair.inward() / 256;
+    let up = STEP / 2 - shift;
+    let rows = axis_of(k.b, STEP * k.north - shift, true);
+    let columns = axis_of(k.a, STEP * k.east + shift, false);
     Engine {
         card: k,
+        pair,
         rows,
         columns,
-        top: STEP * (k.north + k.b / 2) + 253_125,
+        top: STEP * (k.north + k.b / 2) + up,
         down: 2 * (k.b / 512),
-        left: STEP * (k.a - k.east) + 253_125,
+        left: STEP * (k.a - k.east) + up,
         across: 2 * (k.a / 512),
     }
 }
@@ -110,7 +116,7 @@ impl Engine {
     // The latitude of a row, counted from the South Pole (001, 3.4.3).
     fn north_of(self, row: u64) -> u64
         requires { ⌜ Made self ⌝ ∗ ⌜ row < 128 * self .card .nfl ⌝ }
-        ensures { λ r. ⌜ r ≡ near ((self .card .north - row) * circle) (self .card .b) ⌝ }
+        ensures { λ r. ⌜ r ≡ near ((self .card .north - row) * circle - inward (self .pair)) (self .card .b) ⌝ }
     {
         let x = self.rows;
         x.base - (row * x.rate + x.start) / ONE
@@ -119,7 +125,7 @@ impl Engine {
     // The longitude of a column, counted from 180° west (001, 3.4.3).
     fn east_of(self, column: u64) -> u64
         requires { ⌜ Made self ⌝ ∗ ⌜ column < 128 * self .card .nfc ⌝ }
-        ensures { λ r. ⌜ r ≡ near ((self .card .east + column) * circle) (self .card .a) % circle ⌝ }
+        ensures { λ r. ⌜ r ≡ near ((self .card .east + column) * circle + inward (self .pair)) (self .card .a) % circle ⌝ }
     {
         let x = self.columns;
         let east = x.base + (column * x.rate + x.start) / ONE;
@@ -132,7 +138,7 @@ impl Engine {
     // The row at a latitude counted from the South Pole, before the bounds are looked at (001, 3.4.4).
     fn row_at(self, north: u64) -> i64
         requires { ⌜ Made self ⌝ ∗ ⌜ north ≤ 64800000 ⌝ }
-        ensures { λ r. ⌜ r ≡ rowOf (self .card) (pos north -ℤ pos 32400000) ⌝ }
+        ensures { λ r. ⌜ r ≡ rowOf (self .pair) (self .card) (pos north -ℤ pos 32400000) ⌝ }
     {
         let half = self.card.b / 2;
         let rows = (self.top - self.down * north) / STEP;
@@ -142,15 +148,15 @@ impl Engine {
     // The column at a longitude counted from 180° west, before the bounds are looked at (001, 3.4.4).
     fn column_at(self, east: u64) -> i64
         requires { ⌜ Made self ⌝ ∗ ⌜ east ≤ 129600000 ⌝ }
-        ensures { λ r. ⌜ r ≡ columnOf (self .card) (pos east -ℤ pos 64800000) ⌝ }
+        ensures { λ r. ⌜ r ≡ columnOf (self .pair) (self .card) (pos east -ℤ pos 64800000) ⌝ }
     {
         reduced((self.across * east + self.left) / STEP, self.card.a) as i64
     }
 
-    // The position of a pixel, as `Card::position` answers it. Refuses 12, 13.
+    // The position of a pixel, as `Card::position_in` answers it in the pair. Refuses 12, 13.
     pub fn position(self, row: i64, column: i64) -> PositionAnswer
         requires { ⌜ Made self ⌝ }
-        ensures { λ r. ⌜ r ≡ positionOf (self .card) row column ⌝ }
+        ensures { λ r. ⌜ r ≡ positionOf (self .pair) (self .card) row column ⌝ }
     {
         let k = self.card;
         match k.judge_pixel(row, column) {
@@ -162,10 +168,10 @@ impl Engine {
         }
     }
 
-    // The pixel at a position, as `Card::pixel` answers it. Refuses 4, 5, 12, 13.
+    // The pixel at a position, as `Card::pixel_in` answers it in the pair. Refuses 4, 5, 12, 13.
     pub fn pixel(self, lat: i64, lon: i64) -> PixelAnswer
         requires { ⌜ Made self ⌝ }
-        ensures { λ r. ⌜ r ≡ pixelOf (self .card) lat lon ⌝ }
+        ensures { λ r. ⌜ r ≡ pixelOf (self .pair) (self .card) lat lon ⌝ }
     {
         match card::count_position(lat, lon) {
             Ranged::At { north, east } => {

@@ -1,11 +1,13 @@
-// Lists of pixels and of positions of one card (01, "Origins and the zone grid").
+// Lists of pixels and of positions of one card, in either pair (01, "Origins and the zone grid"; 02, E8).
 use arc::Verdict;
 use card::Card;
+use card::Pair;
 use engine::Engine;
 ghost use mathlib.Core.Path.{_≡_};
 ghost use mathlib.Core.Bool.{true};
 ghost use Prim.Native.Nat.{_+_, _*_, _<_};
 ghost use lib.ListN.{length, set};
+ghost use Rattle.card.specs.declared.Pair.{Pair};
 ghost use Rattle.card.specs.Read.{Known};
 ghost use Rattle.lists.specs.Steps.{Made, pairTold};
 ghost use Rattle.lists.specs.Lists.{listsFit, listsVerdict, pairAt, askedReport, reportAt, positionReportAt, pixelReportAt, valuesLeft, numbersLeft};
@@ -26,19 +28,19 @@ fn lists_fit(handed: usize, fill: usize, numbers: usize) -> bool
 }
 
 // A row and a column, or a latitude and a longitude.
-struct Pair {
+struct ListPair {
     first: i64,
     second: i64,
 }
 
 // Pair i of a list.
-fn pair_at(list: &[i64], i: usize) -> Pair
+fn pair_at(list: &[i64], i: usize) -> ListPair
     requires { ⌜ 2 * i + 1 < length (now list) ⌝ }
     ensures { λ r. ⌜ r ≡ pairAt (now (list .entry)) i ⌝ }
 {
     let first = list[2 * i];
     let second = list[2 * i + 1];
-    Pair { first, second }
+    ListPair { first, second }
 }
 
 // Pair i of a list, and number i.
@@ -63,7 +65,7 @@ struct PairParts {
 // What is told of a pair.
 fn answer_pair(e: Engine, asked: Asked, first: i64, second: i64) -> PairParts
     requires { ⌜ Made e ⌝ }
-    ensures { λ r. ⌜ pairTold r ≡ askedReport asked (e .card) first second ⌝ }
+    ensures { λ r. ⌜ pairTold r ≡ askedReport (e .pair) asked (e .card) first second ⌝ }
 {
     match asked {
         Asked::Positions => {
@@ -90,8 +92,8 @@ fn answer_pair(e: Engine, asked: Asked, first: i64, second: i64) -> PairParts
 // What is told of each pair.
 fn fill(e: Engine, asked: Asked, list: &[i64], values: &mut [i64], numbers: &mut [u32])
     requires { ⌜ Made e ⌝ ∗ ⌜ listsFit (length (now list)) (length (now values)) (length (now numbers)) ≡ true ⌝ }
-    ensures values { λ _. ⌜ now (values .exit) ≡ valuesLeft (reportAt asked (e .card)) (now (list .entry)) (now (values .entry)) (now (numbers .entry)) ⌝ }
-    ensures numbers { λ _. ⌜ now (numbers .exit) ≡ numbersLeft (reportAt asked (e .card)) (now (list .entry)) (now (values .entry)) (now (numbers .entry)) ⌝ }
+    ensures values { λ _. ⌜ now (values .exit) ≡ valuesLeft (reportAt (e .pair) asked (e .card)) (now (list .entry)) (now (values .entry)) (now (numbers .entry)) ⌝ }
+    ensures numbers { λ _. ⌜ now (numbers .exit) ≡ numbersLeft (reportAt (e .pair) asked (e .card)) (now (list .entry)) (now (values .entry)) (now (numbers .entry)) ⌝ }
 {
     let n = list.len() / 2;
     let mut i = 0;
@@ -103,8 +105,9 @@ fn fill(e: Engine, asked: Asked, list: &[i64], values: &mut [i64], numbers: &mut
     }
 }
 
-// The answers to a list of pairs; a number is 0 where its pair is answered. Refuses 6, and then both lists stay.
+// The answers to a list of pairs of numbers, in either pair; a number is 0 where its pair of numbers is answered. Refuses 6, and then both lists stay.
 pub fn answer_list(
+    pair: Pair,
     k: Card,
     asked: Asked,
     list: &[i64],
@@ -113,33 +116,33 @@ pub fn answer_list(
 ) -> Verdict
     requires { ⌜ Known k ⌝ }
     ensures answer { λ r. ⌜ r ≡ listsVerdict (length (now (list .entry))) (length (now (values .entry))) (length (now (numbers .entry))) ⌝ }
-    ensures values { λ _. ⌜ now (values .exit) ≡ valuesLeft (reportAt asked k) (now (list .entry)) (now (values .entry)) (now (numbers .entry)) ⌝ }
-    ensures numbers { λ _. ⌜ now (numbers .exit) ≡ numbersLeft (reportAt asked k) (now (list .entry)) (now (values .entry)) (now (numbers .entry)) ⌝ }
+    ensures values { λ _. ⌜ now (values .exit) ≡ valuesLeft (reportAt pair asked k) (now (list .entry)) (now (values .entry)) (now (numbers .entry)) ⌝ }
+    ensures numbers { λ _. ⌜ now (numbers .exit) ≡ numbersLeft (reportAt pair asked k) (now (list .entry)) (now (values .entry)) (now (numbers .entry)) ⌝ }
 {
     if !lists_fit(list.len(), values.len(), numbers.len()) {
         return Verdict::Refused(arc::refused(6));
     }
-    fill(engine::engine_of(k), asked, list, values, numbers);
+    fill(engine::engine_of(pair, k), asked, list, values, numbers);
     Verdict::Accepted
 }
 
-// The positions of a list of pixels, pairs of row and column; a number is 0 where its pixel is answered. Refuses 6, and then both lists stay.
+// The positions of the centres of a list of pixels, pairs of row and column; a number is 0 where its pixel is answered. Refuses 6, and then both lists stay.
 pub fn positions(k: Card, pixels: &[i64], positions: &mut [i64], numbers: &mut [u32]) -> Verdict
     requires { ⌜ Known k ⌝ }
     ensures answer { λ r. ⌜ r ≡ listsVerdict (length (now (pixels .entry))) (length (now (positions .entry))) (length (now (numbers .entry))) ⌝ }
     ensures positions { λ _. ⌜ now (positions .exit)
-        ≡ valuesLeft (positionReportAt k) (now (pixels .entry)) (now (positions .entry)) (now (numbers .entry)) ⌝ }
-    ensures numbers { λ _. ⌜ now (numbers .exit) ≡ numbersLeft (positionReportAt k) (now (pixels .entry)) (now (positions .entry)) (now (numbers .entry)) ⌝ }
+        ≡ valuesLeft (positionReportAt Pair.Centre k) (now (pixels .entry)) (now (positions .entry)) (now (numbers .entry)) ⌝ }
+    ensures numbers { λ _. ⌜ now (numbers .exit) ≡ numbersLeft (positionReportAt Pair.Centre k) (now (pixels .entry)) (now (positions .entry)) (now (numbers .entry)) ⌝ }
 {
-    answer_list(k, Asked::Positions, pixels, positions, numbers)
+    answer_list(Pair::Centre, k, Asked::Positions, pixels, positions, numbers)
 }
 
-// The pixels of a list of positions, likewise.
+// The pixels that contain a list of positions, likewise.
 pub fn pixels(k: Card, positions: &[i64], pixels: &mut [i64], numbers: &mut [u32]) -> Verdict
     requires { ⌜ Known k ⌝ }
     ensures answer { λ r. ⌜ r ≡ listsVerdict (length (now (positions .entry))) (length (now (pixels .entry))) (length (now (numbers .entry))) ⌝ }
-    ensures pixels { λ _. ⌜ now (pixels .exit) ≡ valuesLeft (pixelReportAt k) (now (positions .entry)) (now (pixels .entry)) (now (numbers .entry)) ⌝ }
-    ensures numbers { λ _. ⌜ now (numbers .exit) ≡ numbersLeft (pixelReportAt k) (now (positions .entry)) (now (pixels .entry)) (now (numbers .entry)) ⌝ }
+    ensures pixels { λ _. ⌜ now (pixels .exit) ≡ valuesLeft (pixelReportAt Pair.Centre k) (now (positions .entry)) (now (pixels .entry)) (now (numbers .entry)) ⌝ }
+    ensures numbers { λ _. ⌜ now (numbers .exit) ≡ numbersLeft (pixelReportAt Pair.Centre k) (now (positions .entry)) (now (pixels .entry)) (now (numbers .entry)) ⌝ }
 {
-    answer_list(k, Asked::Pixels, positions, pixels, numbers)
+    answer_list(Pair::Centre, k, Asked::Pixels, positions, pixels, numbers)
 }

@@ -2,7 +2,7 @@
 use mathlib.Core.Path.{refl, sym, ap, _∙_}
 use borrow.Author.Tests.{not-true, not-false}
 use Rattle.arc.specs.declared.Verdict.{Verdict}
-use Rattle.lists.proofs.Engines.{engine-card, engine-made}
+use Rattle.lists.proofs.Engines.{engine-card, engine-pair, engine-made}
 use borrow.Author.Needs.{needs}
 use Rattle.lists.proofs.answer_list.Statement.{statement}
 use Rattle.lists.proofs.answer_list.Tie as tie
@@ -14,7 +14,7 @@ returns c =
 
 fill-requires : tie.Need-fill-requires
 fill-requires c κs = (
-  engine-made (c .before .before .before .before .before .before .pre) (c .before .before .engine-of .ensures),
+  engine-made _ _ (c .before .before .before .before .before .before .pre) (c .before .before .engine-of .ensures),
   sym (c .before .before .before .before .lists-fit .ensures) ∙ not-false _ (c .before .before .before .if1 .left),
 )
 
@@ -23,8 +23,10 @@ returns-2 c =
     let f =
     sym (c .before .before .before .before .before .before .before .before .lists-fit .ensures)
     ∙ not-false _ (c .before .before .before .before .before .before .before .if1 .left) in
-    let card = engine-card (c .before .before .before .before .before .before .engine-of .ensures) in
-    (rw f refl, (rw card at (c .before .before .before .fill .ensures .0), rw card at (c .before .before .before .fill .ensures .1)))
+    let same = c .before .before .before .before .before .before .engine-of .ensures in
+    let card = engine-card _ _ same in
+    let pair = engine-pair _ _ same in
+    (rw f refl, (rw (card, pair) at (c .before .before .before .fill .ensures .0), rw (card, pair) at (c .before .before .before .fill .ensures .1)))
 
 pub answer-list-spec : {M : Type 1} → statement M
 answer-list-spec =

@@ -12,7 +12,7 @@ returns : tie.Need-returns
 returns c =
     let s = c .before .before .before .before .before in
     rw (c .before .before .before .enum-told .given .1)
-    (pair-told (askedReport Asked.Positions (s .args .e .card)) (s .fits .first) (s .fits .second)
+    (pair-told (askedReport (s .args .e .pair) Asked.Positions (s .args .e .card)) (s .fits .first) (s .fits .second)
     (record { sfits = c .struct-told .given .1 .1 .0 .1 }) (record { sfits = c .struct-told .given .1 .1 .1 .0 .1 })
     (c .before .into-parts .ensures ∙ ap positionReport (c .before .before .position .ensures)))
 
@@ -20,7 +20,7 @@ returns-2 : tie.Need-returns-2
 returns-2 c =
     let s = c .before .before .before .before .before in
     rw (c .before .before .before .enum-told2 .given .1)
-    (pair-told (askedReport Asked.Pixels (s .args .e .card)) (s .fits .first) (s .fits .second)
+    (pair-told (askedReport (s .args .e .pair) Asked.Pixels (s .args .e .card)) (s .fits .first) (s .fits .second)
     (record { sfits = c .struct-told2 .given .1 .1 .0 .1 }) (record { sfits = c .struct-told2 .given .1 .1 .1 .0 .1 })
     (c .before .into-parts2 .ensures ∙ ap pixelReport (c .before .before .pixel .ensures)))
 

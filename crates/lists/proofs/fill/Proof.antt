@@ -4,7 +4,7 @@ use Prim.Native.Nat.{ℕ, _-_, _/_}
 use native.Mathlib.Omega.{arith}
 use lib.ListN.{length}
 use Rattle.arc.specs.Refusals.{Report}
-use Rattle.lists.specs.declared.Pair.{Pair}
+use Rattle.lists.specs.declared.ListPair.{ListPair}
 use Rattle.lists.specs.Steps.{pairTold}
 use Rattle.lists.specs.Lists.{pairAt, askedReport, reportAt}
 use Rattle.lists.proofs.Filling.{Filled, filled-length, filled-numbers, filled-room, filled-next, report-values}
@@ -13,17 +13,17 @@ use Rattle.lists.proofs.fill.Statement.{statement}
 use Rattle.lists.proofs.fill.Tie as tie
 
 abbrev Inv-loop : tie.InvT-loop
-Inv-loop e asked list values₀ numbers₀ n i₀ values numbers i = Filled (reportAt asked (e .card) list) n values₀ numbers₀ i values numbers
+Inv-loop e asked list values₀ numbers₀ n i₀ values numbers i = Filled (reportAt (e .pair) asked (e .card) list) n values₀ numbers₀ i values numbers
 
 abbrev μ-loop : tie.MeasureT-loop
 μ-loop e asked list values₀ numbers₀ n i₀ values numbers i = n - i
 
 -- the reports of the pairs handed in, and their value parts
 abbrev reports : tie.Start Inv-loop μ-loop → ℕ → Report
-reports s = reportAt (s .args .asked) (s .args .e .card) (s .args .list .now)
+reports s = reportAt (s .args .e .pair) (s .args .asked) (s .args .e .card) (s .args .list .now)
 
 two : (s : tie.Start Inv-loop μ-loop) (i : ℕ) → length (reports s i .values) ≡ 2
-two s i = report-values (s .args .asked) (s .args .e .card) (pairAt (s .args .list .now) i .first) (pairAt (s .args .list .now) i .second)
+two s i = report-values (s .args .e .pair) (s .args .asked) (s .args .e .card) (pairAt (s .args .list .now) i .first) (pairAt (s .args .list .now) i .second)
 
 loop-holds : tie.Need-loop-holds Inv-loop μ-loop
 loop-holds c = record { upto = omega arith; values = refl; numbers = refl }
@@ -58,9 +58,9 @@ loop-again c =
     let p = a .answer-pair .result in
     let told : pairTold p ≡ reports s (l .loop .i) =
     a .answer-pair .ensures
-    ∙ pair-asked (askedReport (s .args .asked) (s .args .e .card)) {u = b .pair-at .result .first} {v = b .pair-at .result .second}
+    ∙ pair-asked (askedReport (s .args .e .pair) (s .args .asked) (s .args .e .card)) {u = b .pair-at .result .first} {v = b .pair-at .result .second}
     (record { sfits = a .before .before .struct-told .given .0 .1 }) (record { sfits = a .before .struct-told2 .given .1 .0 .1 })
-    ∙ ap (λ (x : Pair). askedReport (s .args .asked) (s .args .e .card) (x .first) (x .second)) (b .pair-at .ensures) in
+    ∙ ap (λ (x : ListPair). askedReport (s .args .e .pair) (s .args .asked) (s .args .e .card) (x .first) (x .second)) (b .pair-at .ensures) in
     rw (d .put-pair .ensures .0, d .put-pair .ensures .1)
     (filled-next (reports s) (two s) (length (s .args .list .now)) (s .pre .1) (l .loop .inv) (omega (arith, b .before .loop-test .taken))
     (p .first) (p .second) (p .number)

@@ -1,47 +1,77 @@
 -- Every number fits, and the axes are the definition's. Assumes nothing.
+use mathlib.Core.Path.{_≡_, ap}
+use Prim.Native.Nat.{ℕ, _/_}
 use native.Mathlib.Omega.{arith}
-use Rattle.card.proofs.Laid.{known-laid}
-use Rattle.card.proofs.Axes.{north-high, east-high}
-use Rattle.lists.specs.Steps.{engineOf}
+use Rattle.card.specs.declared.Card.{Card}
+use Rattle.card.proofs.Laid.{Laid, known-laid}
+use Rattle.card.proofs.Axes.{north-high, down-high, east-high}
+use Rattle.lists.specs.Steps.{shiftOf, engineOf}
+use Rattle.lists.proofs.Engines.{shift-high}
 use borrow.Author.Needs.{needs}
 use Rattle.lists.proofs.engine.engine_of.Statement.{statement}
 use Rattle.lists.proofs.engine.engine_of.Tie as tie
 
+-- the shift in the code is the pair's
+shift : (c : tie.After-inward) → c .inward .result / 256 ≡ shiftOf (c .before .args .pair)
+shift c = ap (λ (n : ℕ). n / 256) (c .inward .ensures)
+
+laid : (c : tie.After-struct-known4) → Laid (c .before .before .before .before .before .before .before .args .k)
+laid c = known-laid _ (c .before .before .before .before .before .before .before .pre)
+
+sub-up : tie.Need-sub-up
+sub-up c = omega (arith, shift c, shift-high (c .before .args .pair))
+
+mul-axis-of : tie.Need-mul-axis-of
+mul-axis-of c = omega (arith, known-laid _ (c .before .before .pre))
+
+sub-axis-of : tie.Need-sub-axis-of
+sub-axis-of c =
+    let s = c .before .before in
+    let l = known-laid _ (s .pre) in
+    omega (arith, shift (c .before), shift-high (s .args .pair), l .down-some, down-high _ l)
+
 axis-of-requires : tie.Need-axis-of-requires
-axis-of-requires c κs = let l = known-laid _ (c .pre) in (l .rows, omega (arith, north-high _ l))
+axis-of-requires c κs = let l = known-laid _ (c .before .before .pre) in (l .rows, omega (arith, north-high _ l))
+
+mul-axis-of-2 : tie.Need-mul-axis-of-2
+mul-axis-of-2 c = omega (arith, known-laid _ (c .before .before .before .before .pre))
+
+add-axis-of : tie.Need-add-axis-of
+add-axis-of c = let s = c .before .before .before in omega (arith, known-laid _ (s .before .pre), shift s, shift-high (s .before .args .pair))
 
 axis-of-requires-2 : tie.Need-axis-of-requires-2
-axis-of-requires-2 c κs = let l = known-laid _ (c .before .pre) in (l .columns, east-high _ l)
+axis-of-requires-2 c κs =
+    let s = c .before .before .before in
+    let l = known-laid _ (s .before .pre) in
+    (l .columns, omega (arith, east-high _ l, shift s, shift-high (s .before .args .pair)))
 
-add-t5 : tie.Need-add-t5
-add-t5 c = omega (arith, known-laid _ (c .before .before .before .before .pre))
+add-t8 : tie.Need-add-t8
+add-t8 c = omega (arith, laid c)
 
-mul-t6 : tie.Need-mul-t6
-mul-t6 c = omega (arith, known-laid _ (c .before .before .before .before .pre))
+mul-t9 : tie.Need-mul-t9
+mul-t9 c = omega (arith, laid c)
 
-add-t7 : tie.Need-add-t7
-add-t7 c = omega (arith, known-laid _ (c .before .before .before .before .pre))
+add-t10 : tie.Need-add-t10
+add-t10 c = omega (arith, laid c)
 
-sub-t10 : tie.Need-sub-t10
-sub-t10 c =
-    omega (
-      arith,
-      known-laid _ (c .before .before .before .before .before .before .pre),
-      east-high _ (known-laid _ (c .before .before .before .before .before .before .pre)),
-    )
+sub-t13 : tie.Need-sub-t13
+sub-t13 c = east-high _ (laid (c .before .before))
 
-mul-t11 : tie.Need-mul-t11
-mul-t11 c = omega (arith, known-laid _ (c .before .before .before .before .before .before .pre))
+mul-t14 : tie.Need-mul-t14
+mul-t14 c = omega (arith, laid (c .before .before))
 
-add-t12 : tie.Need-add-t12
-add-t12 c = omega (arith, known-laid _ (c .before .before .before .before .before .before .pre))
+add-t15 : tie.Need-add-t15
+add-t15 c = omega (arith, laid (c .before .before))
 
 returns : tie.Need-returns
 unfolding engineOf
 returns c =
-    rw (c .before .before .before .before .before .axis-of2 .ensures, c .before .before .before .before .before .before .axis-of .ensures)
+    let d = c .before .before .before .before .before in
+    let s = d .before .before .before .before in
+    rw (d .axis-of2 .ensures, d .before .before .axis-of .ensures, shift s)
 
 pub engine-of-spec : {M : Type 1} → statement M
 engine-of-spec =
     tie.close
-    (tie.spec axis-of-requires axis-of-requires-2 add-t5 mul-t6 add-t7 (λ c. search needs) sub-t10 mul-t11 add-t12 (λ c. search needs) returns)
+    (tie.spec (λ c κs. search needs) sub-up mul-axis-of sub-axis-of axis-of-requires mul-axis-of-2 add-axis-of axis-of-requires-2 add-t8 mul-t9 add-t10
+    (λ c. search needs) sub-t13 mul-t14 add-t15 (λ c. search needs) returns)

@@ -8,6 +8,7 @@ use mir.Syntax.{w64}
 use mir.ValLaws.{toZ-pos}
 use Rattle.whole.proofs.Signed.{is-difference}
 use Rattle.arc.specs.Zones.{half}
+use Rattle.card.specs.Steps.{inward}
 use Rattle.card.proofs.Axes.{column-at, column-high}
 use Rattle.lists.proofs.Engines.{laid, column-product, column-count}
 use Rattle.lists.proofs.engine.Engine.column_at.Statement.{statement}
@@ -35,7 +36,8 @@ reduced-requires : tie.Need-reduced-requires
 reduced-requires c κs =
     let s = c .before .before in
     let e = s .args .self in
-    omega (arith, column-count e (s .pre .0) (s .args .east), column-high (e .card) (laid e (s .pre .0)) (s .args .east) (s .pre .1), laid e (s .pre .0))
+    let l = laid e (s .pre .0) in
+    omega (arith, column-count e (s .pre .0) (s .args .east), column-high (e .card) l (s .args .east) (inward (e .pair)) (s .pre .1), l)
 
 cast-result : tie.Need-cast-result
 cast-result c = record { sfits = omega (arith, below c) }
@@ -47,7 +49,7 @@ returns c =
     let k = e .card in
     toZ-pos w64 (c .reduced .result) (omega (arith, below c))
     ∙ ap pos (c .reduced .ensures ∙ ap (λ (n : ℕ). n % k .a) (column-count e (s .pre .0) (s .args .east)))
-    ∙ sym (column-at k (laid e (s .pre .0)) (pos (s .args .east) -ℤ pos half) (s .args .east) (is-difference (s .args .east) half))
+    ∙ sym (column-at k (laid e (s .pre .0)) (e .pair) (pos (s .args .east) -ℤ pos half) (s .args .east) (is-difference (s .args .east) half))
 
 pub column-at-spec : {M : Type 1} → statement M
 column-at-spec = tie.close (tie.spec mul-reduced add-reduced reduced-requires cast-result returns)

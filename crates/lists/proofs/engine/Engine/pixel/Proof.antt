@@ -5,6 +5,7 @@ use mir.Syntax.{w64}
 use mir.Val.{SFits}
 use mir.ValLaws.{toZ-ofZ}
 use Rattle.card.specs.declared.Card.{Card}
+use Rattle.card.specs.declared.Pair.{Pair}
 use Rattle.card.specs.declared.PixelAnswer.{PixelAnswer}
 use Rattle.card.specs.Grid.{rowOf, columnOf, pixelAt, pixelOf}
 use Rattle.card.proofs.Answers.{judged-refused, judged-accepted}
@@ -21,21 +22,22 @@ counts c =
     ranged-at (s .args .lat) (s .args .lon) (s .fits .lat) (s .fits .lon) (c .before .before .before .count-position .ensures) (c .before .north .given .1)
 
 -- the row and the column found, and that they are the plain rule's
-record Found (k : Card) (lat lon row column : ℤ) : Type 0 where
+record Found (p : Pair) (k : Card) (lat lon row column : ℤ) : Type 0 where
   row-fits : SFits w64 row
   column-fits : SFits w64 column
-  same : pixelAt k row column ≡ pixelAt k (rowOf k lat) (columnOf k lon)
+  same : pixelAt k row column ≡ pixelAt k (rowOf p k lat) (columnOf p k lon)
 
 found : (c : tie.After-column-at)
-    → Found (c .before .before .before .before .before .before .args .self .card) (c .before .before .before .before .before .before .args .lat)
-    (c .before .before .before .before .before .before .args .lon) (c .before .row-at .result) (c .column-at .result)
+    → Found (c .before .before .before .before .before .before .args .self .pair) (c .before .before .before .before .before .before .args .self .card)
+    (c .before .before .before .before .before .before .args .lat) (c .before .before .before .before .before .before .args .lon) (c .before .row-at .result) (c .column-at .result)
 found c =
     let k = c .before .before .before .before .before .before .args .self .card in
+    let p = c .before .before .before .before .before .before .args .self .pair in
     let i = counts (c .before .before) in
     record {
       row-fits = record { sfits = c .before .row-at .ok };
       column-fits = record { sfits = c .column-at .ok };
-      same = ap₂ (pixelAt k) (c .before .row-at .ensures ∙ ap (rowOf k) (i .rows .same)) (c .column-at .ensures ∙ ap (columnOf k) (i .columns .same));
+      same = ap₂ (pixelAt k) (c .before .row-at .ensures ∙ ap (rowOf p k) (i .rows .same)) (c .column-at .ensures ∙ ap (columnOf p k) (i .columns .same));
     }
 
 row-at-requires : tie.Need-row-at-requires
@@ -77,8 +79,9 @@ unfolding pixelOf
 returns-3 c =
     let s = c .before .before .before .before in
     let k = s .args .self .card in
+    let p = s .args .self .pair in
     ranged-refused (s .args .lat) (s .args .lon) (s .fits .lat) (s .fits .lon) (c .before .before .before .count-position .ensures)
-    PixelAnswer.Refused (pixelAt k (rowOf k (s .args .lat)) (columnOf k (s .args .lon))) (c .before .r2 .given .1)
+    PixelAnswer.Refused (pixelAt k (rowOf p k (s .args .lat)) (columnOf p k (s .args .lon))) (c .before .r2 .given .1)
 
 pub pixel-spec : {M : Type 1} → statement M
 pixel-spec =

@@ -11,6 +11,7 @@ use Rattle.whole.specs.Whole.{near}
 use Rattle.arc.specs.Zones.{circle, half, quarter}
 use Rattle.card.specs.declared.PositionAnswer.{PositionAnswer}
 use Rattle.card.specs.Grid.{inTiles, inChart, latitudeOf, longitudeOf, positionOf}
+use Rattle.card.specs.Steps.{inward}
 use Rattle.card.proofs.Regions.{PixelInside, tiles-inside}
 use Rattle.card.proofs.Axes.{north-high, down-high, latitude-is, latitude-high, longitude-is}
 use Rattle.card.proofs.Answers.{judged-refused, judged-accepted, cast-fits, cast-below, cast-same}
@@ -52,7 +53,7 @@ cast-difference c =
     omega (
       arith,
       latitude-high (e .card) (laid e (s .pre)) (e .card .north - natAbs (toZ w64 (ofZ w64 (s .args .row))))
-          (omega (arith, north-high (e .card) (laid e (s .pre)))),
+          (inward (e .pair)) (omega (arith, north-high (e .card) (laid e (s .pre)))),
       c .north-of .ensures,
     )
 
@@ -72,6 +73,7 @@ returns c =
     let s = c .before .before .before .before .before .before .before .before in
     let e = s .args .self in
     let k = e .card in
+    let p = e .pair in
     let l = laid e (s .pre) in
     let t = tests (c .before .before .before .before) in
     let i = inside (c .before .before .before .before) in
@@ -80,14 +82,14 @@ returns c =
     let high = cast-below _ (s .args .row) (s .fits .row) (i .row) in
     rw (t .0, t .1)
     (ap₂ PositionAnswer.At
-    (told (near ((k .north - r) * circle) (k .b)) quarter (c .before .before .difference .ok)
+    (told (near ((k .north - r) * circle - inward p) (k .b)) quarter (c .before .before .difference .ok)
     (c .before .before .difference .ensures ∙ ap (λ (n : ℕ). pos n -ℤ pos quarter) (c .before .before .before .north-of .ensures))
-    (latitude-is k l r (omega (arith, down-high k l, high)))
-    ∙ ap (latitudeOf k) (cast-same _ (s .args .row) (s .fits .row) (i .row)))
-    (told (near ((k .east + v) * circle) (k .a) % circle) half (c .difference2 .ok)
+    (latitude-is k l p r (omega (arith, down-high k l, high)))
+    ∙ ap (latitudeOf p k) (cast-same _ (s .args .row) (s .fits .row) (i .row)))
+    (told (near ((k .east + v) * circle + inward p) (k .a) % circle) half (c .difference2 .ok)
     (c .difference2 .ensures ∙ ap (λ (n : ℕ). pos n -ℤ pos half) (c .before .east-of .ensures))
-    (longitude-is k l v)
-    ∙ ap (longitudeOf k) (cast-same _ (s .args .column) (s .fits .column) (i .column))))
+    (longitude-is k l p v)
+    ∙ ap (longitudeOf p k) (cast-same _ (s .args .column) (s .fits .column) (i .column))))
 
 returns-2 : tie.Need-returns-2
 unfolding positionOf

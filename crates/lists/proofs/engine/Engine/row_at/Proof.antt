@@ -1,13 +1,13 @@
--- The rows from the top are the plain rule's, which divides 512 times as much. Assumes nothing.
+-- The rows from the top are the plain rule's, which divides 256 times as much. Assumes nothing.
 use mathlib.Core.Path.{ap, _∙_}
 use Prim.Native.Nat.{ℕ, _+_, _-_, _*_, _/_}
 use native.Mathlib.Omega.{arith}
 use lib.IntN.{pos, _-ℤ_}
 use Rattle.whole.proofs.Machine.{told}
-use Rattle.whole.specs.Whole.{near}
 use Rattle.whole.proofs.Signed.{is-difference}
-use Rattle.arc.specs.Zones.{circle, quarter}
-use Rattle.card.proofs.Axes.{row-at, row-high}
+use Rattle.arc.specs.Zones.{circle, half, quarter}
+use Rattle.card.specs.Steps.{inward}
+use Rattle.card.proofs.Axes.{row-at}
 use Rattle.lists.proofs.Engines.{laid, row-product, row-count, top-low}
 use borrow.Author.Needs.{needs}
 use Rattle.lists.proofs.engine.Engine.row_at.Statement.{statement}
@@ -24,9 +24,7 @@ cast-difference : tie.Need-cast-difference
 cast-difference c =
     let s = c .before .before .before in
     let e = s .args .self in
-    record {
-      fits = omega (arith, row-count e (s .pre .0) (s .args .north) (s .pre .1), row-high (e .card) (laid e (s .pre .0)) (s .args .north), laid e (s .pre .0));
-    }
+    record { fits = omega (arith, row-count e (s .pre .0) (s .args .north) (s .pre .1), laid e (s .pre .0)) }
 
 cast-difference-2 : tie.Need-cast-difference-2
 cast-difference-2 c = omega (arith, laid _ (c .before .before .before .pre .0))
@@ -37,9 +35,9 @@ returns c =
     let e = s .args .self in
     let k = e .card in
     let north = s .args .north in
-    told (near ((k .north + k .b / 2) * circle - north * k .b) circle) (k .b / 2) (c .difference .ok)
+    told (((k .north + k .b / 2) * circle - north * k .b + (half - inward (e .pair))) / circle) (k .b / 2) (c .difference .ok)
     (c .difference .ensures ∙ ap (λ (n : ℕ). pos n -ℤ pos (k .b / 2)) (row-count e (s .pre .0) north (s .pre .1)))
-    (row-at k (laid e (s .pre .0)) (pos north -ℤ pos quarter) north (is-difference north quarter) (s .pre .1))
+    (row-at k (laid e (s .pre .0)) (e .pair) (pos north -ℤ pos quarter) north (is-difference north quarter) (s .pre .1))
 
 pub row-at-spec : {M : Type 1} → statement M
 row-at-spec =
