@@ -1,10 +1,12 @@
-// Questions on a card, handed in as its bytes with scale, factor and zone (01, "The image card, 98 bytes", "Origins and the zone grid").
+// Questions on a card, handed in as its bytes with scale, factor and zone (01, "The image card, 98 bytes", "Origins and the zone grid";
+// 02, E8).
 use crate::parts::CardParts;
 use crate::parts::RecordParts;
 use arc::Refusal;
 use arc::Series;
 use arc::Verdict;
 use card::Card;
+use card::Pair;
 use card::PixelAnswer;
 use card::PixelParts;
 use card::PlaceAnswer;
@@ -12,11 +14,9 @@ use card::PlaceParts;
 use card::PositionAnswer;
 use card::PositionParts;
 use card::Record;
-use lists::Asked;
 ghost use mathlib.Core.Path.{_≡_};
-ghost use lib.ListN.{length};
-ghost use Rattle.arc.specs.declared.Verdict.{Verdict};
 ghost use Rattle.arc.specs.Refusals.{refusalOf};
+ghost use Rattle.card.specs.declared.Pair.{Pair};
 ghost use Rattle.card.specs.declared.PlaceAnswer.{PlaceAnswer};
 ghost use Rattle.card.specs.declared.PositionAnswer.{PositionAnswer};
 ghost use Rattle.card.specs.declared.PixelAnswer.{PixelAnswer};
@@ -24,7 +24,6 @@ ghost use Rattle.card.specs.Read.{readOf, onCard, Known};
 ghost use Rattle.card.specs.Write.{writeOf, outOf};
 ghost use Rattle.card.specs.Grid.{placeOf, placeReport, placeTold, positionOf, positionReport, positionTold, pixelOf, pixelReport, pixelTold};
 ghost use Rattle.card.specs.Overview.{overviewPixelOf};
-ghost use Rattle.lists.specs.Lists.{listsVerdict, reportAt, positionReportAt, pixelReportAt, valuesLeft, numbersLeft};
 ghost use Rattle.fordcask.specs.Entry.{cardParts, recordFrom};
 
 // Reads a card. Refuses 1, 17, 1, 2, 3, 6, the subfields' 7 and 8, 9, 10, 11.
@@ -92,7 +91,21 @@ pub extern "C" fn fordcask_place(series: Series, card: &[u8], row: i64, column: 
     }
 }
 
-// The position of a pixel. Refuses reading's numbers, then 12, 13.
+// The position of a pixel in either pair. Refuses reading's numbers, then 12, 13.
+fn position_on_card(series: Series, card: &[u8], pair: Pair, row: i64, column: i64) -> PositionParts
+    ensures { λ r. ⌜ positionTold r
+        ≡ positionReport (onCard (readOf series (now (card .entry))) PositionAnswer.Refused (λ k. positionOf pair k row column)) ⌝ }
+{
+    let reading = card_text::read_card(series, card);
+    let verdict = reading.verdict;
+    let k = reading.card;
+    match verdict {
+        Verdict::Accepted => k.position_in(pair, row, column).into_parts(),
+        Verdict::Refused(e) => PositionAnswer::Refused(e).into_parts(),
+    }
+}
+
+// The position of a pixel's centre (02, E8). Refuses reading's numbers, then 12, 13.
 #[no_mangle]
 pub extern "C" fn fordcask_position(
     series: Series,
@@ -101,30 +114,60 @@ pub extern "C" fn fordcask_position(
     column: i64,
 ) -> PositionParts
     ensures { λ r. ⌜ positionTold r
-        ≡ positionReport (onCard (readOf series (now (card .entry))) PositionAnswer.Refused (λ k. positionOf k row column)) ⌝ }
+        ≡ positionReport (onCard (readOf series (now (card .entry))) PositionAnswer.Refused (λ k. positionOf Pair.Centre k row column)) ⌝ }
+{
+    position_on_card(series, card, Pair::Centre, row, column)
+}
+
+// The position of a pixel's corner (02, E8). Refuses reading's numbers, then 12, 13.
+#[no_mangle]
+pub extern "C" fn fordcask_corner_position(
+    series: Series,
+    card: &[u8],
+    row: i64,
+    column: i64,
+) -> PositionParts
+    ensures { λ r. ⌜ positionTold r
+        ≡ positionReport (onCard (readOf series (now (card .entry))) PositionAnswer.Refused (λ k. positionOf Pair.Corner k row column)) ⌝ }
+{
+    position_on_card(series, card, Pair::Corner, row, column)
+}
+
+// The pixel at a position in either pair. Refuses reading's numbers, then 4, 5, 12, 13.
+fn pixel_on_card(series: Series, card: &[u8], pair: Pair, lat: i64, lon: i64) -> PixelParts
+    ensures { λ r. ⌜ pixelTold r
+        ≡ pixelReport (onCard (readOf series (now (card .entry))) PixelAnswer.Refused (λ k. pixelOf pair k lat lon)) ⌝ }
 {
     let reading = card_text::read_card(series, card);
     let verdict = reading.verdict;
     let k = reading.card;
     match verdict {
-        Verdict::Accepted => k.position(row, column).into_parts(),
-        Verdict::Refused(e) => PositionAnswer::Refused(e).into_parts(),
+        Verdict::Accepted => k.pixel_in(pair, lat, lon).into_parts(),
+        Verdict::Refused(e) => PixelAnswer::Refused(e).into_parts(),
     }
 }
 
-// The pixel at a position. Refuses reading's numbers, then 4, 5, 12, 13.
+// The pixel that contains a position (02, E8). Refuses reading's numbers, then 4, 5, 12, 13.
 #[no_mangle]
 pub extern "C" fn fordcask_pixel(series: Series, card: &[u8], lat: i64, lon: i64) -> PixelParts
     ensures { λ r. ⌜ pixelTold r
-        ≡ pixelReport (onCard (readOf series (now (card .entry))) PixelAnswer.Refused (λ k. pixelOf k lat lon)) ⌝ }
+        ≡ pixelReport (onCard (readOf series (now (card .entry))) PixelAnswer.Refused (λ k. pixelOf Pair.Centre k lat lon)) ⌝ }
 {
-    let reading = card_text::read_card(series, card);
-    let verdict = reading.verdict;
-    let k = reading.card;
-    match verdict {
-        Verdict::Accepted => k.pixel(lat, lon).into_parts(),
-        Verdict::Refused(e) => PixelAnswer::Refused(e).into_parts(),
-    }
+    pixel_on_card(series, card, Pair::Centre, lat, lon)
+}
+
+// The pixel whose corner is nearest to a position (02, E8). Refuses reading's numbers, then 4, 5, 12, 13.
+#[no_mangle]
+pub extern "C" fn fordcask_corner_pixel(
+    series: Series,
+    card: &[u8],
+    lat: i64,
+    lon: i64,
+) -> PixelParts
+    ensures { λ r. ⌜ pixelTold r
+        ≡ pixelReport (onCard (readOf series (now (card .entry))) PixelAnswer.Refused (λ k. pixelOf Pair.Corner k lat lon)) ⌝ }
+{
+    pixel_on_card(series, card, Pair::Corner, lat, lon)
 }
 
 // The pixel of an overview, handed in as its bytes, for a pixel of a chart. Refuses reading's numbers, then 12, 13 of the chart, then of the overview.
@@ -141,7 +184,7 @@ fn pixel_on(chart: Card, series: Series, card: &[u8], row: i64, column: i64) -> 
     }
 }
 
-// The overview pixel of a chart's pixel (02, E4). Refuses reading's numbers, of the chart, then of the overview; then 12, 13, likewise.
+// The overview pixel of a chart's pixel, in the corner pair (02, E4, E8). Refuses reading's numbers, of the chart, then of the overview; then 12, 13, likewise.
 #[no_mangle]
 pub extern "C" fn fordcask_overview_pixel(
     series: Series,
@@ -168,67 +211,4 @@ pub extern "C" fn fordcask_overview_pixel(
         ).into_parts(),
         Verdict::Refused(r) => PixelAnswer::Refused(r).into_parts(),
     }
-}
-
-// The answers to a list of pairs, the card read once. Refuses reading's numbers, then 6; on a refusal both lists stay.
-fn list_on_card(
-    series: Series,
-    card: &[u8],
-    asked: Asked,
-    list: &[i64],
-    values: &mut [i64],
-    numbers: &mut [u32],
-) -> Refusal
-    ensures answer { λ r. ⌜ r ≡ refusalOf (onCard (readOf series (now (card .entry))) Verdict.Refused
-        (λ k. listsVerdict (length (now (list .entry))) (length (now (values .entry))) (length (now (numbers .entry))))) ⌝ }
-    ensures values { λ _. ⌜ now (values .exit) ≡ onCard (readOf series (now (card .entry))) (λ e. now (values .entry))
-        (λ k. valuesLeft (reportAt asked k) (now (list .entry)) (now (values .entry)) (now (numbers .entry))) ⌝ }
-    ensures numbers { λ _. ⌜ now (numbers .exit) ≡ onCard (readOf series (now (card .entry))) (λ e. now (numbers .entry))
-        (λ k. numbersLeft (reportAt asked k) (now (list .entry)) (now (values .entry)) (now (numbers .entry))) ⌝ }
-{
-    let reading = card_text::read_card(series, card);
-    let verdict = reading.verdict;
-    let k = reading.card;
-    match verdict {
-        Verdict::Accepted => lists::answer_list(k, asked, list, values, numbers).refusal(),
-        Verdict::Refused(e) => e,
-    }
-}
-
-// The positions of a list of pixels, the card read once. Refuses reading's numbers, then 6; on a refusal both lists stay.
-#[no_mangle]
-pub extern "C" fn fordcask_positions(
-    series: Series,
-    card: &[u8],
-    pixels: &[i64],
-    positions: &mut [i64],
-    numbers: &mut [u32],
-) -> Refusal
-    ensures answer { λ r. ⌜ r ≡ refusalOf (onCard (readOf series (now (card .entry))) Verdict.Refused
-        (λ k. listsVerdict (length (now (pixels .entry))) (length (now (positions .entry))) (length (now (numbers .entry))))) ⌝ }
-    ensures positions { λ _. ⌜ now (positions .exit) ≡ onCard (readOf series (now (card .entry))) (λ e. now (positions .entry))
-        (λ k. valuesLeft (positionReportAt k) (now (pixels .entry)) (now (positions .entry)) (now (numbers .entry))) ⌝ }
-    ensures numbers { λ _. ⌜ now (numbers .exit) ≡ onCard (readOf series (now (card .entry))) (λ e. now (numbers .entry))
-        (λ k. numbersLeft (positionReportAt k) (now (pixels .entry)) (now (positions .entry)) (now (numbers .entry))) ⌝ }
-{
-    list_on_card(series, card, Asked::Positions, pixels, positions, numbers)
-}
-
-// The pixels of a list of positions, likewise.
-#[no_mangle]
-pub extern "C" fn fordcask_pixels(
-    series: Series,
-    card: &[u8],
-    positions: &[i64],
-    pixels: &mut [i64],
-    numbers: &mut [u32],
-) -> Refusal
-    ensures answer { λ r. ⌜ r ≡ refusalOf (onCard (readOf series (now (card .entry))) Verdict.Refused
-        (λ k. listsVerdict (length (now (positions .entry))) (length (now (pixels .entry))) (length (now (numbers .entry))))) ⌝ }
-    ensures pixels { λ _. ⌜ now (pixels .exit) ≡ onCard (readOf series (now (card .entry))) (λ e. now (pixels .entry))
-        (λ k. valuesLeft (pixelReportAt k) (now (positions .entry)) (now (pixels .entry)) (now (numbers .entry))) ⌝ }
-    ensures numbers { λ _. ⌜ now (numbers .exit) ≡ onCard (readOf series (now (card .entry))) (λ e. now (numbers .entry))
-        (λ k. numbersLeft (pixelReportAt k) (now (positions .entry)) (now (pixels .entry)) (now (numbers .entry))) ⌝ }
-{
-    list_on_card(series, card, Asked::Pixels, positions, pixels, numbers)
 }

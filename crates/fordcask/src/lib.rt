@@ -1,15 +1,20 @@
 // The library for C: numbers and slices in, a block of numbers out (bindings/c/fordcask.h).
+mod card_lists;
 mod cards;
 mod indexes;
 mod parts;
 mod plain;
 
+pub use card_lists::fordcask_corner_pixels;
+pub use card_lists::fordcask_corner_positions;
+pub use card_lists::fordcask_pixels;
+pub use card_lists::fordcask_positions;
+pub use cards::fordcask_corner_pixel;
+pub use cards::fordcask_corner_position;
 pub use cards::fordcask_overview_pixel;
 pub use cards::fordcask_pixel;
-pub use cards::fordcask_pixels;
 pub use cards::fordcask_place;
 pub use cards::fordcask_position;
-pub use cards::fordcask_positions;
 pub use cards::fordcask_read_card;
 pub use cards::fordcask_write_card;
 pub use indexes::fordcask_bands;

@@ -134,7 +134,14 @@ pub fn positions(k: Card, pixels: &[i64], positions: &mut [i64], numbers: &mut [
         ≡ valuesLeft (positionReportAt Pair.Centre k) (now (pixels .entry)) (now (positions .entry)) (now (numbers .entry)) ⌝ }
     ensures numbers { λ _. ⌜ now (numbers .exit) ≡ numbersLeft (positionReportAt Pair.Centre k) (now (pixels .entry)) (now (positions .entry)) (now (numbers .entry)) ⌝ }
 {
-    answer_list(Pair::Centre, k, Asked::Positions, pixels, positions, numbers)
+    answer_list(
+        Pair::Centre,
+        k,
+        Asked::Positions,
+        pixels,
+        positions,
+        numbers,
+    )
 }
 
 // The pixels that contain a list of positions, likewise.

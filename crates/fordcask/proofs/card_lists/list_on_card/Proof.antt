@@ -3,8 +3,8 @@ use mathlib.Core.Path.{refl, ap, _∙_}
 use Rattle.arc.specs.Refusals.{refusalOf}
 use Rattle.card.proofs.Questions.{card-known}
 use borrow.Author.Needs.{needs}
-use Rattle.fordcask.proofs.cards.list_on_card.Statement.{statement}
-use Rattle.fordcask.proofs.cards.list_on_card.Tie as tie
+use Rattle.fordcask.proofs.card_lists.list_on_card.Statement.{statement}
+use Rattle.fordcask.proofs.card_lists.list_on_card.Tie as tie
 
 answer-list-requires : tie.Need-answer-list-requires
 answer-list-requires c κs =

@@ -1,0 +1,27 @@
+-- An accepted card answers, and a refused one gives its refusal. Assumes nothing.
+use mathlib.Core.Path.{ap, _∙_}
+use Rattle.card.specs.Grid.{pixelReport, pixelOf}
+use Rattle.card.proofs.Questions.{card-known}
+use Rattle.card.proofs.Answers.{pair-asked}
+use borrow.Author.Needs.{needs}
+use Rattle.fordcask.proofs.cards.pixel_on_card.Statement.{statement}
+use Rattle.fordcask.proofs.cards.pixel_on_card.Tie as tie
+
+pixel-in-requires : tie.Need-pixel-in-requires
+pixel-in-requires c κs =
+    let s = c .before .before .before .before .before in
+    card-known (s .args .series) (s .args .card .now) (c .before .before .before .read-card .ensures) (c .enum-told .given .1)
+
+returns : tie.Need-returns
+returns c =
+    let s = c .before .before .before .before .before .before .before in
+    rw (← c .before .before .before .before .before .read-card .ensures, c .before .before .enum-told .given .1)
+    (c .into-parts .ensures ∙ ap pixelReport (c .before .pixel-in .ensures ∙ pair-asked (pixelOf (s .args .pair) _) (s .fits .lat) (s .fits .lon)))
+
+returns-2 : tie.Need-returns-2
+returns-2 c = rw (← c .before .before .before .before .before .read-card .ensures, c .before .before .verdict .given .1) (c .into-parts2 .ensures)
+
+pub pixel-on-card-spec : {M : Type 1} → statement M
+pixel-on-card-spec =
+    tie.close
+    (tie.spec (λ c κs. search needs) (λ c. search needs) pixel-in-requires (λ c κs. search needs) (λ c. search needs) (λ c κs. search needs) returns returns-2)
