@@ -1,4 +1,4 @@
--- The twelve cases marked P, the factor being 1 (01, "Figures on both sides of each edge"). A claim: the proof is proofs/AllHold.antt.
+-- The twelve cases marked P, the factor being 1, the pixel case in the corner pair (01, "Figures on both sides of each edge"; 02, E8). A claim: the proof is proofs/AllHold.antt.
 --     Case               what the definitions give, and what document 01 states
 --     AllAs cs           in each case the two are the same
 --     card               the bytes of document 01's card, as its two parts
@@ -16,6 +16,7 @@ use Rattle.zones.specs.Cover.{coverOf, coverReport}
 use Rattle.origin.specs.Origin.{storedAngle}
 use Rattle.text.specs.Text.{bytes}
 use Rattle.card.specs.Read.{readOf}
+use Rattle.card.specs.declared.Pair.{Pair}
 use Rattle.card.specs.Grid.{positionOf, positionReport}
 
 pub record Case : Type 0 where
@@ -82,7 +83,8 @@ cases =
     -- m = −20 stores −897,507
     case (storedColumn (spacingOf (chartSeries 1000000 1)) (negℤ (pos 20))) (negℤ (pos 897507) ∷ []) ∷
     -- the card's pixel (1, 1) is 4,142,899 and −897,156
-    case (positionReport (positionOf (readOf (chartSeries 1000000 1) card .card) (pos 1) (pos 1)) .values) (pos 4142899 ∷ negℤ (pos 897156) ∷ []) ∷
+    case (positionReport (positionOf Pair.Corner (readOf (chartSeries 1000000 1) card .card) (pos 1) (pos 1)) .values)
+    (pos 4142899 ∷ negℤ (pos 897156) ∷ []) ∷
     []
 
 -- the statement

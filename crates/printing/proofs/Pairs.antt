@@ -45,7 +45,7 @@ module _ (s : List ℕ) (k : ℕ) (e : k ≡ 0 + length (upTo 32 s)) where
     bad-parts t = rw (← left-part, ← right-part, ← p, ← q, t)
 
     pub good-parts : x && y ≡ true → {v w : ℕ} → (isNumber (take k s) ≡ true → v ≡ number (take k s))
-        → (isNumber (rest s k) ≡ true → w ≡ number (rest s k)) → Numbers.Pair v w ≡ numbersAnswer (numbersOf s)
+        → (isNumber (rest s k) ≡ true → w ≡ number (rest s k)) → Numbers.Two v w ≡ numbersAnswer (numbersOf s)
     unfolding numbersOf
     good-parts t f g =
         let b = and-eq-true-iff x y .0 t in rw (← left-part, ← right-part, ← p, ← q, t, f (sym p ∙ b .0), g (sym q ∙ b .1))
@@ -85,7 +85,7 @@ pair-below l p e = split (isNumber (beforeSpace l) && isNumber (afterSpace l)) r
 
 -- ---- what `numbers_in` tells of a line
 
-pair-of : (o : Option TwoNumbers) {x y : ℕ} → numbersAnswer o ≡ Numbers.Pair x y → o ≡ some (record { left = x; right = y })
+pair-of : (o : Option TwoNumbers) {x y : ℕ} → numbersAnswer o ≡ Numbers.Two x y → o ≡ some (record { left = x; right = y })
 pair-of (some p) {x} {y} e =
     let l : p .left ≡ x = cc in
     let r : p .right ≡ y = cc in
@@ -97,10 +97,10 @@ none-of (some p) e = let z : _≡_ {A = ℕ} 0 1 = cc in absurd (omega arith)
 none-of none e = refl
 
 module _ (l : List ℕ) {a : Numbers} (e : a ≡ numbersAnswer (numbersOf l)) where
-  pub told-pair : {x y : ℕ} → a ≡ Numbers.Pair x y → numbersOf l ≡ some (record { left = x; right = y })
+  pub told-pair : {x y : ℕ} → a ≡ Numbers.Two x y → numbersOf l ≡ some (record { left = x; right = y })
   told-pair w = pair-of (numbersOf l) (sym e ∙ w)
 
-  pub told-below : {x y : ℕ} → a ≡ Numbers.Pair x y → (x < 1000000000) × (y < 1000000000)
+  pub told-below : {x y : ℕ} → a ≡ Numbers.Two x y → (x < 1000000000) × (y < 1000000000)
   told-below {x} {y} w = pair-below l (record { left = x; right = y }) (told-pair w)
 
   pub told-bad : a ≡ Numbers.Bad → numbersOf l ≡ none

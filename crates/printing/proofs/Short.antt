@@ -15,6 +15,7 @@ use Rattle.arc.specs.Scales.{chartSeries}
 use Rattle.text.specs.Text.{bytes, decimal}
 use Rattle.card.specs.declared.Card.{Card}
 use Rattle.card.specs.declared.PositionAnswer.{PositionAnswer}
+use Rattle.card.specs.declared.Pair.{Pair}
 use Rattle.card.specs.Grid.{positionOf}
 use Rattle.card.specs.Read.{readOf, Accepted, Known}
 use Rattle.printing.specs.Lines.{TwoNumbers, numbersOf}
@@ -48,7 +49,7 @@ line-short k l = split (numbersOf l) refl
     split : (o : Option TwoNumbers) → numbersOf l ≡ o → length (lineOut k o) ≤ 64
     split (some p) e =
         let b = pair-below l p e in
-        let a = positionOf k (pos (p .left)) (pos (p .right)) in
+        let a = positionOf Pair.Corner k (pos (p .left)) (pos (p .right)) in
         let lead = decimal (p .left) ++ bytes " " ++ decimal (p .right) ++ bytes " " in
         omega (arith, length-append lead (answerText a), lead-short (p .left) (p .right) (b .0) (b .1), answer-short a)
     split none e = omega arith

@@ -1,4 +1,4 @@
--- What the program prints, from input bytes to output bytes (01, "The printing program"). Definitions only.
+-- What the program prints, from input bytes to output bytes (01, "The printing program"). It asks the corner pair (02, E8). Definitions only.
 --     lineFor k l        what is printed for a line of row and column
 --     printed s          the whole output
 use Prim.Native.Nat.{ℕ}
@@ -11,6 +11,7 @@ use lib.IntN.{pos}
 use Rattle.arc.specs.declared.Verdict.{Verdict}
 use Rattle.arc.specs.Scales.{chartSeries}
 use Rattle.card.specs.declared.Card.{Card}
+use Rattle.card.specs.declared.Pair.{Pair}
 use Rattle.card.specs.declared.PositionAnswer.{PositionAnswer}
 use Rattle.text.specs.Text.{bytes, decimal, angleText}
 use Rattle.card.specs.Read.{readOf}
@@ -37,7 +38,7 @@ pixelText row column a = decimal row ++ bytes " " ++ decimal column ++ bytes " "
 
 -- other lines print "bad line"
 abbrev pub lineOut : Card → Option TwoNumbers → List ℕ
-lineOut k (some p) = pixelText (p .left) (p .right) (positionOf k (pos (p .left)) (pos (p .right)))
+lineOut k (some p) = pixelText (p .left) (p .right) (positionOf Pair.Corner k (pos (p .left)) (pos (p .right)))
 lineOut k none = badLine
 
 unfoldable pub lineFor : Card → List ℕ → List ℕ

@@ -33,7 +33,7 @@ pub record ReadNumber (s : List ℕ) (r : Digits) : Type 0 where
   pub read : isNumber s ≡ true → r .value ≡ number s
 
 abbrev pub numbersAnswer : Option TwoNumbers → Numbers
-numbersAnswer (some p) = Numbers.Pair (p .left) (p .right)
+numbersAnswer (some p) = Numbers.Two (p .left) (p .right)
 numbersAnswer none = Numbers.Bad
 
 unfoldable pub openingFor : List ℕ → List ℕ → Opened

@@ -2,11 +2,13 @@
 use crate::parse::Numbers;
 use crate::parse::{self};
 use card::Card;
+use card::Pair;
 use card::PositionAnswer;
 ghost use mathlib.Core.Path.{_≡_};
 ghost use Prim.Native.Nat.{_+_, _<_, _≤_};
 ghost use lib.IntN.{pos};
 ghost use lib.ListN.{length};
+ghost use Rattle.card.specs.declared.Pair.{Pair};
 ghost use Rattle.card.specs.Grid.{positionOf};
 ghost use Rattle.card.specs.Read.{Known};
 ghost use Rattle.text.specs.Steps.{Put};
@@ -44,12 +46,12 @@ fn put_line(out: &mut [u8], row: u64, column: u64, a: PositionAnswer) -> usize
     put_answer(out, o4, a)
 }
 
-// The answer for a row and a column of up to nine digits.
+// The answer for a row and a column of up to nine digits, in the corner pair (02, E8).
 fn position_at(k: Card, row: u64, column: u64) -> PositionAnswer
     requires { ⌜ Known k ⌝ ∗ ⌜ row < 1000000000 ⌝ ∗ ⌜ column < 1000000000 ⌝ }
-    ensures { λ r. ⌜ r ≡ positionOf k (pos row) (pos column) ⌝ }
+    ensures { λ r. ⌜ r ≡ positionOf Pair.Corner k (pos row) (pos column) ⌝ }
 {
-    k.position(row as i64, column as i64)
+    k.position_in(Pair::Corner, row as i64, column as i64)
 }
 
 // Row, column and the answer, or "bad line".
@@ -58,7 +60,7 @@ pub fn put_pixel(out: &mut [u8], k: Card, line: &[u8]) -> usize
     ensures { λ r. ⌜ Put (lineFor k (now (line .entry))) 0 (now (out .entry)) (now (out .exit)) r ⌝ }
 {
     match parse::numbers_in(line) {
-        Numbers::Pair { left, right } => {
+        Numbers::Two { left, right } => {
             let a = position_at(k, left, right);
             put_line(out, left, right, a)
         }

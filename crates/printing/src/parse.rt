@@ -8,7 +8,7 @@ ghost use Rattle.printing.specs.Steps.{ReadNumber, numbersAnswer};
 
 // What a line holds.
 pub enum Numbers {
-    Pair { left: u64, right: u64 },
+    Two { left: u64, right: u64 },
     Bad,
 }
 
@@ -49,7 +49,7 @@ pub fn numbers_in(s: &[u8]) -> Numbers
     let left = number_of(&s[..k]);
     let right = number_of(&s[k + 1..]);
     if left.ok & right.ok {
-        Numbers::Pair {
+        Numbers::Two {
             left: left.value,
             right: right.value,
         }

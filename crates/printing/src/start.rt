@@ -80,7 +80,7 @@ fn two_lines(out: &mut [u8], first: &[u8], second: &[u8], next: usize, end: usiz
     ensures { λ r. ⌜ Opens (openedCard (numbersOf (now (first .entry))) (now (second .entry)) next end) (now (out .entry)) (now (out .exit)) r ⌝ }
 {
     match parse::numbers_in(first) {
-        Numbers::Pair { left, right } => {
+        Numbers::Two { left, right } => {
             let series = Series {
                 scale: left,
                 factor: 1,
