@@ -17,4 +17,5 @@ pub mod Doubles
 pub mod Applied
 pub mod Answered
 pub mod Nearest
+pub mod Containing
 pub mod Questions

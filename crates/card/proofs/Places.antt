@@ -3,7 +3,7 @@
 use mathlib.Core.Path.{_≡_, refl, sym, ap, ap₂, _∙_, subst₂}
 use mathlib.Core.Bool.{true}
 use mathlib.Core.List.{List, [], _∷_, map}
-use mathlib.Core.Logic.{inl, inr}
+use mathlib.Core.Logic.{_⊎_, inl, inr, _↔_}
 use Prim.Native.Nat.{ℕ, _+_, _*_, _/_, _%_}
 use native.Mathlib.Omega.{arith}
 use lib.IntN.{ℤ, pos, _*ℤ_}
@@ -65,7 +65,7 @@ pub record Told (p : Pair) (k : Card) (u v lat lon : ℤ) : Type 0 where
   pub refuses : RefusesWhere p k u v lat lon
 
 -- the answers differ
-no-pixel : {A : Type 0} {x : PixelAnswer} {r c : ℤ} {e : Refusal} → x ≡ PixelAnswer.Refused e → x ≡ PixelAnswer.At r c → A
+pub no-pixel : {A : Type 0} {x : PixelAnswer} {r c : ℤ} {e : Refusal} → x ≡ PixelAnswer.Refused e → x ≡ PixelAnswer.At r c → A
 no-pixel p q = let z : _≡_ {A = ℕ} 0 1 = cc in absurd (omega arith)
 
 not-both : {A : Type 0} {x : PixelAnswer} → x ≡ PixelAnswer.Refused (refusal 12) → x ≡ PixelAnswer.Refused (refusal 13) → A
@@ -73,15 +73,18 @@ not-both p q =
     let e : refusal 12 ≡ refusal 13 = cc in
     let z : _≡_ {A = ℕ} 12 13 = ap (λ (r : Refusal). r .number) e in absurd (omega arith)
 
-module _ (p : Pair) (k : Card) (l : Laid k) (u v lat lon : ℤ) where
-  refuses : (e : Refusal) → pixelOf p k lat lon ≡ PixelAnswer.Refused e → Right u v lat lon k (refused e) → RefusesWhere p k u v lat lon
-  refuses e x (lacks, inl (is, bare)) =
-      let q = x ∙ ap PixelAnswer.Refused is in
-      (((λ f. bare), (λ n. q)), ((λ f. not-both q f), (λ n. absurd (bare (n .0)))))
-  refuses e x (lacks, inr (is, tiled)) =
-      let q = x ∙ ap PixelAnswer.Refused is in
-      (((λ f. not-both f q), (λ n. absurd (n tiled))), ((λ f. (tiled, lacks)), (λ n. q)))
+-- T being what a pixel of the tiles has, and C one of the chart
+pub refuses : {T C : Type 0} {x : PixelAnswer} (e : Refusal) → x ≡ PixelAnswer.Refused e
+    → (C → ⊥) × (((e ≡ refusal 12) × (T → ⊥)) ⊎ ((e ≡ refusal 13) × T))
+    → (x ≡ PixelAnswer.Refused (refusal 12) ↔ (¬ T)) × (x ≡ PixelAnswer.Refused (refusal 13) ↔ (T × (¬ C)))
+refuses e g (lacks, inl (is, bare)) =
+    let q = g ∙ ap PixelAnswer.Refused is in
+    (((λ f. bare), (λ n. q)), ((λ f. not-both q f), (λ n. absurd (bare (n .0)))))
+refuses e g (lacks, inr (is, tiled)) =
+    let q = g ∙ ap PixelAnswer.Refused is in
+    (((λ f. not-both f q), (λ n. absurd (n tiled))), ((λ f. (tiled, lacks)), (λ n. q)))
 
+module _ (p : Pair) (k : Card) (l : Laid k) (u v lat lon : ℤ) where
   told : (x : PixelAnswer) → pixelOf p k lat lon ≡ x → Right u v lat lon k (visitWith p k x) → Told p k u v lat lon
   told (PixelAnswer.At r c) g h =
       let tiles = chart-tiles k r c l (h .0) in

@@ -7,6 +7,7 @@ pub mod NoDrift
 pub mod Places
 pub mod Copies
 pub mod Ranges
+pub mod Contained
 pub mod Overview
 pub mod Offset
 pub mod RoundTrips
