@@ -1,4 +1,4 @@
-// Questions on a card (01, "The image card, 98 bytes", "Origins and the zone grid").
+// Questions on a card (01, "The image card, 98 bytes", "Origins and the zone grid"; 02, E8).
 use crate::buffer;
 use crate::lent;
 use crate::overview;
@@ -52,6 +52,16 @@ fn on_pair(name: &[u8], series: Series, card: &[u8], x: i64, y: i64) -> bool {
     }
     if check::same(name, b"pixel") {
         let r = fordcask::fordcask_pixel(series, card, x, y);
+        print::pair(r.number, r.at, r.row, r.column);
+        return true;
+    }
+    if check::same(name, b"corner_position") {
+        let r = fordcask::fordcask_corner_position(series, card, x, y);
+        print::pair(r.number, r.at, r.lat, r.lon);
+        return true;
+    }
+    if check::same(name, b"corner_pixel") {
+        let r = fordcask::fordcask_corner_pixel(series, card, x, y);
         print::pair(r.number, r.at, r.row, r.column);
         return true;
     }

@@ -1,4 +1,4 @@
-// Questions on lists of pixels or positions of one card (001, 3.4.3, 3.4.4).
+// Questions on lists of pixels or positions of one card (001, 3.4.3, 3.4.4; 02, E8).
 use crate::buffer;
 use crate::lent;
 use crate::list;
@@ -9,16 +9,22 @@ use arc::Series;
 // Whether the line is one of these questions, well formed; then it is answered.
 pub fn asked(name: &[u8], line: &[u8], at: usize) -> bool {
     if check::same(name, b"positions") {
-        return listed(true, line, at);
+        return listed(false, true, line, at);
     }
     if check::same(name, b"pixels") {
-        return listed(false, line, at);
+        return listed(false, false, line, at);
+    }
+    if check::same(name, b"corner_positions") {
+        return listed(true, true, line, at);
+    }
+    if check::same(name, b"corner_pixels") {
+        return listed(true, false, line, at);
     }
     false
 }
 
 // The positions of pixels, or the pixels of positions, and the two lists that are lent.
-fn listed(positions: bool, line: &[u8], at: usize) -> bool {
+fn listed(corner: bool, positions: bool, line: &[u8], at: usize) -> bool {
     let mut bytes = lent::bytes();
     let mut given = lent::values();
     let k = buffer::card(line, at, &mut bytes);
@@ -41,6 +47,7 @@ fn listed(positions: bool, line: &[u8], at: usize) -> bool {
     let mut left = lent::values();
     let mut told = lent::numbers();
     answer(
+        corner,
         positions,
         k.series,
         &bytes[..n],
@@ -52,6 +59,7 @@ fn listed(positions: bool, line: &[u8], at: usize) -> bool {
 }
 
 fn answer(
+    corner: bool,
     positions: bool,
     series: Series,
     card: &[u8],
@@ -59,6 +67,16 @@ fn answer(
     values: &mut [i64],
     numbers: &mut [u32],
 ) {
+    if corner & positions {
+        let r = fordcask::fordcask_corner_positions(series, card, given, values, numbers);
+        print::lists(r.number, r.at, values, numbers);
+        return;
+    }
+    if corner {
+        let r = fordcask::fordcask_corner_pixels(series, card, given, values, numbers);
+        print::lists(r.number, r.at, values, numbers);
+        return;
+    }
     if positions {
         let r = fordcask::fordcask_positions(series, card, given, values, numbers);
         print::lists(r.number, r.at, values, numbers);
