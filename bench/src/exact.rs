@@ -1,13 +1,13 @@
 //! The exact form without division for each pixel: fixed point with 36 binary places, u64 only.
 //! Angles and rows are shifted so that nothing is negative.
 
-use crate::plain::grid::{answer_list, in_range, Pair};
+use crate::plain::grid::{answer_list, in_range, inward, Found};
 use crate::plain::read::read_card;
 use crate::plain::{Card, Refusal, H};
 use fordcask::Series;
 
 const BITS: u32 = 36;
-/// Twice H / 512.
+/// H / 256.
 const UNIT: u64 = 506_250;
 const CIRCLE: u64 = H as u64;
 
@@ -23,10 +23,11 @@ struct Grid {
 }
 
 impl Grid {
-    fn new(card: Card) -> Grid {
+    fn new(card: Card, centre: bool) -> Grid {
+        let shift = inward(centre) as u64 / 256;
         let (a2, b2) = (card.a as u64 / 256, card.b as u64 / 256);
-        let north = UNIT * (128 * card.n + card.b / 4) as u64 + b2 / 2;
-        let east = UNIT * (128 * card.m + card.a / 2) as u64 + a2 / 2;
+        let north = UNIT * (128 * card.n + card.b / 4) as u64 + b2 / 2 - shift;
+        let east = UNIT * (128 * card.m + card.a / 2) as u64 + a2 / 2 + shift;
         let rate = |spacing: u64| (UNIT << BITS).div_ceil(spacing);
         let start = |rest: u64, spacing: u64| (rest << BITS).div_ceil(spacing);
         Grid {
@@ -40,7 +41,7 @@ impl Grid {
         }
     }
 
-    fn position(&self, row: i64, column: i64) -> Result<Pair, u32> {
+    fn position(&self, row: i64, column: i64) -> Result<Found, u32> {
         self.card.bounds(row, column)?;
         let south = (row as u64 * self.row_rate + self.row_start) >> BITS;
         let east = (column as u64 * self.column_rate + self.column_start) >> BITS;
@@ -60,17 +61,18 @@ struct Inverse {
 }
 
 impl Inverse {
-    fn new(card: Card) -> Inverse {
+    fn new(card: Card, centre: bool) -> Inverse {
+        let up = (H / 2 - inward(centre)) as u64 / 256;
         Inverse {
             card,
             a2: card.a as u64 / 256,
             b2: card.b as u64 / 256,
-            row_base: UNIT * (128 * card.n + card.b / 4 * 3) as u64 + UNIT / 2,
-            column_base: UNIT * (card.a / 2 - 128 * card.m) as u64 + UNIT / 2,
+            row_base: UNIT * (128 * card.n + card.b / 4 * 3) as u64 + up,
+            column_base: UNIT * (card.a / 2 - 128 * card.m) as u64 + up,
         }
     }
 
-    fn pixel(&self, lat: i64, lon: i64) -> Result<Pair, u32> {
+    fn pixel(&self, lat: i64, lon: i64) -> Result<Found, u32> {
         in_range(lat, lon)?;
         let (lat, lon) = ((lat + H / 4) as u64, (lon + H / 2) as u64);
         let row = ((self.row_base - self.b2 * lat) / UNIT) as i64 - self.card.b / 2;
@@ -88,28 +90,28 @@ impl Inverse {
 }
 
 #[inline(never)]
-pub fn positions(
+pub fn positions<const CENTRE: bool>(
     series: Series,
     card: &[u8],
     pixels: &[i64],
     positions: &mut [i64],
     numbers: &mut [u32],
 ) -> Result<(), Refusal> {
-    let grid = Grid::new(read_card(series, card)?);
+    let grid = Grid::new(read_card(series, card)?, CENTRE);
     answer_list(pixels, positions, numbers, |row, column| {
         grid.position(row, column)
     })
 }
 
 #[inline(never)]
-pub fn pixels(
+pub fn pixels<const CENTRE: bool>(
     series: Series,
     card: &[u8],
     positions: &[i64],
     pixels: &mut [i64],
     numbers: &mut [u32],
 ) -> Result<(), Refusal> {
-    let inverse = Inverse::new(read_card(series, card)?);
+    let inverse = Inverse::new(read_card(series, card)?, CENTRE);
     answer_list(positions, pixels, numbers, |lat, lon| {
         inverse.pixel(lat, lon)
     })

@@ -131,7 +131,9 @@ pub fn position(random: &mut Random, card: &Card) -> (i64, i64) {
     }
     let row = random.within(card.nul, card.nll);
     let column = random.within(card.nls, card.nus);
-    let (lat, lon) = card.position(row, column).expect("a pixel of the chart");
+    let (lat, lon) = card
+        .position::<false>(row, column)
+        .expect("a pixel of the chart");
     let (high, wide) = (H / card.b / 2, H / card.a / 2);
     let lat = lat + random.within(-high, high);
     let lon = lon + random.within(-wide, wide);

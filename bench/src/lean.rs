@@ -1,7 +1,7 @@
 //! The plain rule's division form, written tightly: one division for each answered number, a
 //! compare in place of each modulo, and numbers shifted so that nothing is negative.
 
-use crate::plain::grid::{answer_list, in_range, Pair};
+use crate::plain::grid::{answer_list, in_range, inward, Found};
 use crate::plain::read::read_card;
 use crate::plain::{Card, Refusal, H};
 use fordcask::Series;
@@ -19,18 +19,19 @@ struct Grid {
 }
 
 impl Grid {
-    fn new(card: Card) -> Grid {
+    fn new(card: Card, centre: bool) -> Grid {
+        let shift = inward(centre) / CUT;
         let (a, b) = (card.a / CUT, card.b / CUT);
         Grid {
             card,
             a: a as u64,
             b: b as u64,
-            north: (128 * card.n + card.b / 4) * (H / CUT) + b / 2,
-            east: (128 * card.m + card.a / 2) * (H / CUT) + a / 2,
+            north: (128 * card.n + card.b / 4) * (H / CUT) + b / 2 - shift,
+            east: (128 * card.m + card.a / 2) * (H / CUT) + a / 2 + shift,
         }
     }
 
-    fn position(&self, row: i64, column: i64) -> Result<Pair, u32> {
+    fn position(&self, row: i64, column: i64) -> Result<Found, u32> {
         self.card.bounds(row, column)?;
         let lat = (self.north - row * (H / CUT)) as u64 / self.b;
         let lon = ((self.east + column * (H / CUT)) as u64 / self.a) as i64;
@@ -48,15 +49,16 @@ struct Inverse {
 }
 
 impl Inverse {
-    fn new(card: Card) -> Inverse {
+    fn new(card: Card, centre: bool) -> Inverse {
+        let up = H / 2 - inward(centre);
         Inverse {
             card,
-            down: (128 * card.n + card.b / 2) * H + H / 2,
-            east: (card.a - 128 * card.m) * H + H / 2,
+            down: (128 * card.n + card.b / 2) * H + up,
+            east: (card.a - 128 * card.m) * H + up,
         }
     }
 
-    fn pixel(&self, lat: i64, lon: i64) -> Result<Pair, u32> {
+    fn pixel(&self, lat: i64, lon: i64) -> Result<Found, u32> {
         in_range(lat, lon)?;
         let (a, b) = (self.card.a, self.card.b);
         let row = ((self.down - lat * b) as u64 / H as u64) as i64 - b / 2;
@@ -70,28 +72,28 @@ impl Inverse {
 }
 
 #[inline(never)]
-pub fn positions(
+pub fn positions<const CENTRE: bool>(
     series: Series,
     card: &[u8],
     pixels: &[i64],
     positions: &mut [i64],
     numbers: &mut [u32],
 ) -> Result<(), Refusal> {
-    let grid = Grid::new(read_card(series, card)?);
+    let grid = Grid::new(read_card(series, card)?, CENTRE);
     answer_list(pixels, positions, numbers, |row, column| {
         grid.position(row, column)
     })
 }
 
 #[inline(never)]
-pub fn pixels(
+pub fn pixels<const CENTRE: bool>(
     series: Series,
     card: &[u8],
     positions: &[i64],
     pixels: &mut [i64],
     numbers: &mut [u32],
 ) -> Result<(), Refusal> {
-    let inverse = Inverse::new(read_card(series, card)?);
+    let inverse = Inverse::new(read_card(series, card)?, CENTRE);
     answer_list(positions, pixels, numbers, |lat, lon| {
         inverse.pixel(lat, lon)
     })

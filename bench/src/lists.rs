@@ -1,4 +1,4 @@
-//! Questions a and b: many pixels, or many positions, of one card in one call.
+//! Questions a and b: many pixels, or many positions, of one card in one call, in each pair.
 
 use std::hint::black_box;
 
@@ -21,18 +21,28 @@ const SCALES: [(u64, &str); 3] = [
 type List = fn(Series, &[u8], &[i64], &mut [i64], &mut [u32]) -> Result<(), Refusal>;
 
 pub fn positions(random: &mut Random) {
+    positions_in::<true>(random, "centres");
+    positions_in::<false>(random, "corners");
+}
+
+pub fn pixels(random: &mut Random) {
+    pixels_in::<true>(random, "centre pair");
+    pixels_in::<false>(random, "corner pair");
+}
+
+fn positions_in<const CENTRE: bool>(random: &mut Random, pair: &str) {
     let forms: [(&'static str, List); 5] = [
-        ("plain", plain::grid::positions),
-        ("lean", lean::positions),
-        ("ours", our_positions),
-        ("doubles", doubles::positions),
-        ("exact", exact::positions),
+        ("plain", plain::grid::positions::<CENTRE>),
+        ("lean", lean::positions::<CENTRE>),
+        ("ours", our_positions::<CENTRE>),
+        ("doubles", doubles::positions::<CENTRE>),
+        ("exact", exact::positions::<CENTRE>),
     ];
     for (scale, name) in SCALES {
         let sheet = largest(random, scale);
         let asked = pairs(|| pixel(random, &sheet.record));
         list(
-            &format!("a pixels to positions, {name}"),
+            &format!("a pixels to {pair}, {name}"),
             &sheet.write(),
             &asked,
             &forms,
@@ -40,24 +50,19 @@ pub fn positions(random: &mut Random) {
     }
 }
 
-pub fn pixels(random: &mut Random) {
+fn pixels_in<const CENTRE: bool>(random: &mut Random, pair: &str) {
     let forms: [(&'static str, List); 5] = [
-        ("plain", plain::grid::pixels),
-        ("lean", lean::pixels),
-        ("ours", our_pixels),
-        ("doubles", doubles::pixels),
-        ("exact", exact::pixels),
+        ("plain", plain::grid::pixels::<CENTRE>),
+        ("lean", lean::pixels::<CENTRE>),
+        ("ours", our_pixels::<CENTRE>),
+        ("doubles", doubles::pixels::<CENTRE>),
+        ("exact", exact::pixels::<CENTRE>),
     ];
     for (scale, name) in SCALES {
         let card = largest(random, scale).write();
         let read = plain::read::read_card(card.series, &card.bytes).expect("a valid card");
         let asked = pairs(|| position(random, &read));
-        list(
-            &format!("b positions to pixels, {name}"),
-            &card,
-            &asked,
-            &forms,
-        );
+        list(&format!("b pixels, {pair}, {name}"), &card, &asked, &forms);
     }
 }
 
@@ -107,17 +112,21 @@ fn done(refusal: raw::Refusal) -> Result<(), Refusal> {
     }
 }
 
-fn our_positions(
+fn our_positions<const CENTRE: bool>(
     series: Series,
     card: &[u8],
     pixels: &[i64],
     positions: &mut [i64],
     numbers: &mut [u32],
 ) -> Result<(), Refusal> {
+    let ask = match CENTRE {
+        true => raw::fordcask_positions,
+        false => raw::fordcask_corner_positions,
+    };
     // SAFETY: each pointer and length are those of one slice; the two slices written to are lent
     // for writing.
     done(unsafe {
-        raw::fordcask_positions(
+        ask(
             series,
             card.as_ptr(),
             card.len(),
@@ -131,17 +140,21 @@ fn our_positions(
     })
 }
 
-fn our_pixels(
+fn our_pixels<const CENTRE: bool>(
     series: Series,
     card: &[u8],
     positions: &[i64],
     pixels: &mut [i64],
     numbers: &mut [u32],
 ) -> Result<(), Refusal> {
+    let ask = match CENTRE {
+        true => raw::fordcask_pixels,
+        false => raw::fordcask_corner_pixels,
+    };
     // SAFETY: each pointer and length are those of one slice; the two slices written to are lent
     // for writing.
     done(unsafe {
-        raw::fordcask_pixels(
+        ask(
             series,
             card.as_ptr(),
             card.len(),

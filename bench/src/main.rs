@@ -58,10 +58,14 @@ fn check_plain() {
     );
     card[80..].copy_from_slice(b"01008BASE0101.IMGN");
     let series = Series::chart(1_000_000, 1);
-    let ask = |row, column| plain::grid::position(series, &card, row, column);
+    let ask = |row, column| plain::grid::position::<false>(series, &card, row, column);
     assert_eq!(ask(0, 0), Ok((4_143_223, -897_507)));
     assert_eq!(ask(1, 1), Ok((4_142_899, -897_156)));
     assert_eq!(ask(256, 0), plain::refuse(12, 0));
-    let found = plain::grid::pixel(series, &card, 4_142_899, -897_156);
+    let found = plain::grid::pixel::<false>(series, &card, 4_142_899, -897_156);
+    assert_eq!(found, Ok((1, 1)));
+    let centre = plain::grid::position::<true>(series, &card, 1, 1);
+    assert_eq!(centre, Ok((4_142_737, -896_981)));
+    let found = plain::grid::pixel::<true>(series, &card, 4_142_737, -896_981);
     assert_eq!(found, Ok((1, 1)));
 }

@@ -1,11 +1,21 @@
-//! Pixel to position and position to pixel: the rule for one card, lists and single calls.
+//! Pixel to position and position to pixel: the rule for one card, lists and single calls, in the
+//! corner pair or in the centre pair.
 
 use super::read::read_card;
 use super::{nearest, refuse, Card, Refusal, H};
 use fordcask::Series;
 
 /// A latitude and longitude, or a row and column.
-pub type Pair = (i64, i64);
+pub type Found = (i64, i64);
+
+/// How far south and east of a pixel's corner the pair's exact place is, H to a pixel.
+pub const fn inward(centre: bool) -> i64 {
+    if centre {
+        H / 2
+    } else {
+        0
+    }
+}
 
 impl Card {
     /// 12 outside the tiles, 13 in padding.
@@ -19,18 +29,22 @@ impl Card {
         Ok(())
     }
 
-    pub fn position(&self, row: i64, column: i64) -> Result<Pair, u32> {
+    pub fn position<const CENTRE: bool>(&self, row: i64, column: i64) -> Result<Found, u32> {
         self.bounds(row, column)?;
-        let lat = nearest((128 * self.n - row) * H, self.b);
-        let lon = nearest((128 * self.m + column) * H, self.a);
+        let lat = nearest((128 * self.n - row) * H - inward(CENTRE), self.b);
+        let lon = nearest((128 * self.m + column) * H + inward(CENTRE), self.a);
         Ok((lat, (lon + H / 2).rem_euclid(H) - H / 2))
     }
 
-    pub fn pixel(&self, lat: i64, lon: i64) -> Result<Pair, u32> {
+    pub fn pixel<const CENTRE: bool>(&self, lat: i64, lon: i64) -> Result<Found, u32> {
         in_range(lat, lon)?;
-        let row = nearest(128 * self.n * H - lat * self.b, H);
+        let down = 128 * self.n * H - lat * self.b;
         let east = (lon * self.a - 128 * self.m * H).rem_euclid(self.a * H);
-        let column = nearest(east, H).rem_euclid(self.a);
+        let (row, column) = if CENTRE {
+            (down.div_euclid(H), east.div_euclid(H))
+        } else {
+            (nearest(down, H), nearest(east, H).rem_euclid(self.a))
+        };
         self.bounds(row, column)?;
         Ok((row, column))
     }
@@ -52,7 +66,7 @@ pub fn answer_list(
     asked: &[i64],
     answers: &mut [i64],
     numbers: &mut [u32],
-    question: impl Fn(i64, i64) -> Result<Pair, u32>,
+    question: impl Fn(i64, i64) -> Result<Found, u32>,
 ) -> Result<(), Refusal> {
     let odd = !asked.len().is_multiple_of(2);
     if odd || answers.len() < asked.len() || numbers.len() < asked.len() / 2 {
@@ -72,7 +86,7 @@ pub fn answer_list(
 }
 
 #[inline(never)]
-pub fn positions(
+pub fn positions<const CENTRE: bool>(
     series: Series,
     card: &[u8],
     pixels: &[i64],
@@ -81,12 +95,12 @@ pub fn positions(
 ) -> Result<(), Refusal> {
     let card = read_card(series, card)?;
     answer_list(pixels, positions, numbers, |row, column| {
-        card.position(row, column)
+        card.position::<CENTRE>(row, column)
     })
 }
 
 #[inline(never)]
-pub fn pixels(
+pub fn pixels<const CENTRE: bool>(
     series: Series,
     card: &[u8],
     positions: &[i64],
@@ -94,19 +108,31 @@ pub fn pixels(
     numbers: &mut [u32],
 ) -> Result<(), Refusal> {
     let card = read_card(series, card)?;
-    answer_list(positions, pixels, numbers, |lat, lon| card.pixel(lat, lon))
+    answer_list(positions, pixels, numbers, |lat, lon| {
+        card.pixel::<CENTRE>(lat, lon)
+    })
 }
 
 #[inline(never)]
-pub fn position(series: Series, card: &[u8], row: i64, column: i64) -> Result<Pair, Refusal> {
+pub fn position<const CENTRE: bool>(
+    series: Series,
+    card: &[u8],
+    row: i64,
+    column: i64,
+) -> Result<Found, Refusal> {
     let card = read_card(series, card)?;
-    card.position(row, column)
+    card.position::<CENTRE>(row, column)
         .map_err(|number| Refusal { number, at: 0 })
 }
 
 #[inline(never)]
-pub fn pixel(series: Series, card: &[u8], lat: i64, lon: i64) -> Result<Pair, Refusal> {
+pub fn pixel<const CENTRE: bool>(
+    series: Series,
+    card: &[u8],
+    lat: i64,
+    lon: i64,
+) -> Result<Found, Refusal> {
     let card = read_card(series, card)?;
-    card.pixel(lat, lon)
+    card.pixel::<CENTRE>(lat, lon)
         .map_err(|number| Refusal { number, at: 0 })
 }
