@@ -1,12 +1,12 @@
--- An engine's axes give the plain rule's angles and pixels in its pair, for every row and column of its card's tiles. Assumes nothing.
+-- An engine's axes give the plain rule's angles in its pair, for every row and column of its card's tiles. Assumes nothing.
 use mathlib.Core.Path.{_≡_, sym, ap, ap₂, _∙_, subst⁻¹}
 use mathlib.Core.Bool.{Bool, true, false}
 use Prim.Native.Nat.{ℕ, _+_, _-_, _*_, _/_, _%_, _≤_, _<_}
-use native.Mathlib.Nat.{mul-le-mul, mul-le-mul-right, lt-of-mul-lt-mul-right, mod-lt, mul-add-div-right, add-mul-div-right, mul-div-mul-left, div-add-mod'}
+use native.Mathlib.Nat.{mul-le-mul, mul-le-mul-right, lt-of-mul-lt-mul-right, mod-lt, mul-add-div-right, div-add-mod'}
 use native.Mathlib.Omega.{arith}
 use Rattle.whole.specs.Whole.{near}
 use Rattle.whole.proofs.Near.{near-low}
-use Rattle.arc.specs.Zones.{circle, half}
+use Rattle.arc.specs.Zones.{circle}
 use Rattle.arc.specs.Spacing.{Grid}
 use Rattle.card.specs.declared.Card.{Card}
 use Rattle.card.specs.declared.Pair.{Pair}
@@ -14,12 +14,12 @@ use Rattle.card.specs.Read.{Known}
 use Rattle.card.specs.Steps.{inward}
 use Rattle.card.proofs.Laid.{Laid, known-laid}
 use Rattle.card.proofs.Pairs.{inward-high}
-use Rattle.card.proofs.Axes.{north-high, down-high, east-high, row-fits}
+use Rattle.card.proofs.Axes.{north-high, down-high, east-high}
 use Rattle.lists.specs.declared.engine.Axis.{Axis}
 use Rattle.lists.specs.declared.engine.Engine.{Engine}
-use Rattle.lists.specs.Steps.{scaleUp, startOf, shiftOf, rowAxis, columnAxis, engineOf, Made}
+use Rattle.lists.specs.Steps.{scaleUp, coarse, startOf, shiftOf, rowAxis, columnAxis, downSpan, acrossSpan, engineOf, Made}
 use Rattle.lists.proofs.Fixed.{scale-high, fixed}
-use Rattle.lists.proofs.Units.{angle-unit, pixel-unit, quotient-under, quotient-down}
+use Rattle.lists.proofs.Units.{angle-unit, quotient-under, quotient-down}
 
 -- ---- a pair's shift
 pub shift-is : (p : Pair) → inward p ≡ 256 * shiftOf p
@@ -47,18 +47,19 @@ module _ (x : ℕ) (g : Grid x) where
   pub close : (i : ℕ) → i < 127872 → (i + 1) * (2 * (x / 512)) ≤ 68719476736
   close i h = let m : (i + 1) * (2 * (x / 512)) ≤ 127872 * 312800 = mul-le-mul {n₂ = 127872} (omega arith) most in omega arith
 
-  pub by-unit : (p : ℕ) → p * x ≡ 256 * (2 * (x / 512) * p)
+  pub by-unit : (p : ℕ) → p * x ≡ 512 * (x / 512 * p)
   by-unit p = ap (λ (y : ℕ). p * y) (g .whole) ∙ omega arith
 
   -- a product of the engine fits 64 bits
-  pub reach : (i R : ℕ) → i ≤ x → R < 2 * (x / 512) → i * scaleUp 506250 (2 * (x / 512)) + scaleUp R (2 * (x / 512)) < 18446744073709551616
+  pub reach : (i R : ℕ) → i ≤ x → R < 2 * (x / 512)
+      → i * scaleUp coarse 506250 (2 * (x / 512)) + scaleUp coarse R (2 * (x / 512)) < 18446744073709551616
   reach i R h hR =
       let n : ℕ = 2 * (x / 512) in
-      let rate : ℕ = scaleUp 506250 n in
-      let start : ℕ = scaleUp R n in
+      let rate : ℕ = scaleUp coarse 506250 n in
+      let start : ℕ = scaleUp coarse R n in
       let p : i * rate ≤ 256 * n * rate = mul-le-mul-right rate (omega (arith, g .whole)) in
-      let r : rate * n < 506250 * 68719476736 + n = scale-high n some 506250 in
-      let s : start * n < R * 68719476736 + n = scale-high n some R in
+      let r : rate * n < 506250 * 68719476736 + n = scale-high coarse n some 506250 in
+      let s : start * n < R * 68719476736 + n = scale-high coarse n some R in
       let t : start < 68719476737 = lt-of-mul-lt-mul-right n (omega arith) in
       omega (arith, most)
 
@@ -95,19 +96,11 @@ module _ (e : Engine) (made : Made e) where
   unfolding engineOf
   columns-are = ap (λ (x : Engine). x .columns) (made .same)
 
-  top-is : e .top ≡ 506250 * (k .north + k .b / 2) + (253125 - s)
-  unfolding engineOf
-  top-is = ap (λ (x : Engine). x .top) (made .same)
-
-  down-is : e .down ≡ 2 * (k .b / 512)
+  pub down-is : e .down ≡ downSpan (e .pair) (e .card)
   unfolding engineOf
   down-is = ap (λ (x : Engine). x .down) (made .same)
 
-  left-is : e .left ≡ 506250 * (k .a - k .east) + (253125 - s)
-  unfolding engineOf
-  left-is = ap (λ (x : Engine). x .left) (made .same)
-
-  across-is : e .across ≡ 2 * (k .a / 512)
+  pub across-is : e .across ≡ acrossSpan (e .pair) (e .card)
   unfolding engineOf
   across-is = ap (λ (x : Engine). x .across) (made .same)
 
@@ -128,7 +121,7 @@ module _ (e : Engine) (made : Made e) where
     steps : (r * e .rows .rate + e .rows .start) / 68719476736 ≡ (n - 1 - top % n + 506250 * r) / n
     steps =
         ap (λ (x : Axis). (r * x .rate + x .start) / 68719476736) rows-are
-        ∙ fixed n (some (k .b) (laid .rows)) 506250 (n - 1 - top % n) r (close (k .b) (laid .rows) r (omega (arith, laid .down-most)))
+        ∙ fixed coarse n (some (k .b) (laid .rows)) 506250 (n - 1 - top % n) r (close (k .b) (laid .rows) r (omega (arith, laid .down-most)))
 
     pub row-fits-64 : r * e .rows .rate + e .rows .start < 18446744073709551616
     row-fits-64 =
@@ -166,7 +159,7 @@ module _ (e : Engine) (made : Made e) where
     column-angle =
         ap (λ (x : Axis). x .base + (c * x .rate + x .start) / 68719476736) columns-are
         ∙ ap (λ (q : ℕ). left / m + q)
-        (fixed m (some (k .a) (laid .columns)) 506250 (left % m) c (close (k .a) (laid .columns) c (omega (arith, laid .across-most))))
+        (fixed coarse m (some (k .a) (laid .columns)) 506250 (left % m) c (close (k .a) (laid .columns) c (omega (arith, laid .across-most))))
         ∙ sym (mul-add-div-right (some (k .a) (laid .columns)) (left / m) (left % m + 506250 * c))
         ∙ ap (λ (y : ℕ). y / m) (omega (arith, div-add-mod' left m))
         ∙ sym (angle-unit v (506250 * (k .east + c) + s))
@@ -186,33 +179,3 @@ module _ (e : Engine) (made : Made e) where
           laid .columns .most,
           laid .columns .some,
         ))
-
-  -- ---- the rows from the top, the columns from the left
-  pub top-low : e .top < 18446744073709551616
-  top-low = rw top-is (omega (arith, north-high k laid, laid .rows .most))
-
-  pub row-product : (p : ℕ) → p ≤ 64800000 → e .down * p ≤ e .top
-  row-product p h = rw (down-is, top-is) (omega (arith, row-fits k laid p h, by-unit (k .b) (laid .rows) p))
-
-  pub row-count : (p : ℕ) → p ≤ 64800000
-      → (e .top - e .down * p) / 506250 ≡ ((e .card .north + e .card .b / 2) * circle - p * e .card .b + (half - inward (e .pair))) / circle
-  row-count p h =
-      ap₂ (λ (x y : ℕ). (x - y * p) / 506250) top-is down-is
-      ∙ sym (pixel-unit (506250 * (k .north + k .b / 2) + (253125 - s) - 2 * (k .b / 512) * p))
-      ∙ ap (λ (y : ℕ). y / circle)
-      (omega (arith, row-fits k laid p h, by-unit (k .b) (laid .rows) p, shift-is (e .pair), shift-high (e .pair)))
-
-  pub column-product : (p : ℕ) → p ≤ 129600000 → e .across * p + e .left < 18446744073709551616
-  column-product p h =
-      let q : 2 * (k .a / 512) * p ≤ 312800 * 129600000 = mul-le-mul (most (k .a) (laid .columns)) h in
-      rw (across-is, left-is) (omega (arith, laid .columns .most))
-
-  pub column-count : (p : ℕ)
-      → (e .across * p + e .left) / 506250 ≡ (p * e .card .a + (half - inward (e .pair))) / circle + (e .card .a - e .card .east)
-  column-count p =
-      ap₂ (λ (x y : ℕ). (x * p + y) / 506250) across-is left-is
-      ∙ ap (λ (y : ℕ). y / 506250) (omega arith)
-      ∙ add-mul-div-right (2 * (k .a / 512) * p + (253125 - s)) (k .a - k .east) (omega arith)
-      ∙ ap (λ (q : ℕ). q + (k .a - k .east))
-      (sym (pixel-unit (2 * (k .a / 512) * p + (253125 - s)))
-      ∙ ap (λ (y : ℕ). y / circle) (omega (arith, by-unit (k .a) (laid .columns) p, shift-is (e .pair), shift-high (e .pair))))

@@ -1,17 +1,13 @@
--- The nearest hundredth over a spacing of 512 u, and a pixel made whole: the 256 cancels, since H is 256 times 506,250. Assumes nothing.
+-- The nearest hundredth over a spacing of 512 u: the 512 cancels, since H is 256 times 506,250. Assumes nothing.
 use mathlib.Core.Path.{_≡_, sym, ap, ap₂, _∙_}
 use Prim.Native.Nat.{ℕ, _+_, _-_, _*_, _/_, _%_, _≤_, _<_}
 use native.Mathlib.Nat.{mul-div-mul-left, div-eq-of-lt-le, div-mul-le-self, lt-div-mul-add, add-mul, lt-of-mul-lt-mul-right, mod-lt, div-add-mod'}
 use native.Mathlib.Omega.{arith}
 use Rattle.whole.specs.Whole.{near}
-use Rattle.arc.specs.Zones.{circle}
 
 pub angle-unit : (u x : ℕ) → near (256 * x) (512 * u) ≡ (x + u) / (2 * u)
 unfolding near
 angle-unit u x = ap₂ _/_ (omega arith) (omega arith) ∙ mul-div-mul-left {m = 512} (x + u) (2 * u) (omega arith)
-
-pub pixel-unit : (x : ℕ) → 256 * x / circle ≡ x / 506250
-pixel-unit x = mul-div-mul-left {m = 256} x 506250 (omega arith)
 
 -- y taken off a number, by what is taken off its quotient
 module _ (d : ℕ) (hd : 0 < d) (x y : ℕ) (h : y ≤ x) where

@@ -1,12 +1,15 @@
 -- What only the code needs: the engine, the numbers that a card gives once, so that no pixel of it needs a division by A or B
 -- (001, 3.4.3, 3.4.4; 02, E8). Definitions only; that its answers are the plain rule's is the contract of its methods. H / A is 506,250 / 2u, where u is A / 512.
---     scaleUp x d        the smallest whole number not below x × 2^36 / d
+--     scaleUp one x d    the smallest whole number not below x × one / d
 --     startOf rest d off what the rounding starts from, the angles being taken off or added
 --     shiftOf p          how far south and east of a pixel's corner the pair's exact place is, a pixel being 506,250
 --     axisOf x from off  the angle of the first pixel of an axis, x pixels making a circle, what a pixel adds to it or takes off, and that start
 --     axisAt first d off the same, by the nearest's numerator and denominator at the first pixel
 --     rowAxis p k        the northings of the rows, taken off that of row 0
 --     columnAxis p k     the eastings of the columns, added to that of column 0
+--     spanOf u from n    where n pixels begin, a hundredth adding u to what the first one has, a pixel being 253,125
+--     downSpan p k       the rows, counted southward
+--     acrossSpan p k     the columns, counted eastward round the circle
 --     engineOf p k       the engine of a card for a pair
 --     Made e             it is the engine of its card and its pair, and some accepted card gives that card
 --     pairTold p         the report that the parts of a pair tell
@@ -15,22 +18,31 @@ use Prim.Native.Nat.{ℕ, _+_, _-_, _*_, _/_, _%_}
 use mathlib.Core.Bool.{Bool, true, false, cond}
 use mathlib.Core.List.{[], _∷_}
 use Rattle.arc.specs.Refusals.{Report}
+use Rattle.arc.specs.Zones.{circle}
 use Rattle.card.specs.declared.Card.{Card}
 use Rattle.card.specs.declared.Pair.{Pair}
 use Rattle.card.specs.Read.{Known}
 use Rattle.card.specs.Steps.{inward}
 use Rattle.lists.specs.declared.PairParts.{PairParts}
 use Rattle.lists.specs.declared.engine.Axis.{Axis}
+use Rattle.lists.specs.declared.engine.Span.{Span}
 use Rattle.lists.specs.declared.engine.Engine.{Engine}
 
-abbrev pub scaleUp : ℕ → ℕ → ℕ
-scaleUp x d = (x * 68719476736 + (d - 1)) / d
+abbrev pub scaleUp : ℕ → ℕ → ℕ → ℕ
+scaleUp one x d = (x * one + (d - 1)) / d
+
+-- 2^36 and 2^45
+abbrev pub coarse : ℕ
+coarse = 68719476736
+
+abbrev pub fine : ℕ
+fine = 35184372088832
 
 abbrev pub startOf : ℕ → ℕ → Bool → ℕ
 startOf rest d off = cond off (d - 1 - rest) rest
 
 abbrev pub axisAt : ℕ → ℕ → Bool → Axis
-axisAt first d off = record { base = first / d; rate = scaleUp 506250 d; start = scaleUp (startOf (first % d) d off) d }
+axisAt first d off = record { base = first / d; rate = scaleUp coarse 506250 d; start = scaleUp coarse (startOf (first % d) d off) d }
 
 abbrev pub shiftOf : Pair → ℕ
 shiftOf p = inward p / 256
@@ -47,7 +59,28 @@ rowAxis p k = axisOf (k .b) (506250 * k .north - shiftOf p) true
 abbrev pub columnAxis : Pair → Card → Axis
 columnAxis p k = axisOf (k .a) (506250 * k .east + shiftOf p) false
 
--- top: 506,250 × (128n + B/2), and left: 506,250 × (A − 128m), counted from the South Pole and from 180° west, to the nearest or to the floor
+-- i hundredths past the first are (u i + from modulo u) / 253,125 pixels, and the last of n pixels is `most` past it
+abbrev pub spanOf : ℕ → ℕ → ℕ → Span
+spanOf u from n =
+    record {
+      first = from / u % circle;
+      most = (253125 * n - 1 - from % u) / u;
+      rate = scaleUp fine u 253125;
+      start = scaleUp fine (from % u) 253125;
+    }
+
+-- half a pixel is added for the nearest, nothing for the floor
+abbrev pub upOf : Pair → ℕ
+upOf p = (253125 - shiftOf p) / 2
+
+-- 253,125 × 128n, counted from the South Pole
+abbrev pub downSpan : Pair → Card → Span
+downSpan p k = spanOf (k .b / 512) (253125 * k .north + upOf p) (128 * k .nfl)
+
+-- 253,125 × (A − 128m), counted from 180° west
+abbrev pub acrossSpan : Pair → Card → Span
+acrossSpan p k = spanOf (k .a / 512) (253125 * (k .a - k .east) + upOf p) (128 * k .nfc)
+
 unfoldable pub engineOf : Pair → Card → Engine
 engineOf p k =
     record {
@@ -55,10 +88,8 @@ engineOf p k =
       pair = p;
       rows = rowAxis p k;
       columns = columnAxis p k;
-      top = 506250 * (k .north + k .b / 2) + (253125 - shiftOf p);
-      down = 2 * (k .b / 512);
-      left = 506250 * (k .a - k .east) + (253125 - shiftOf p);
-      across = 2 * (k .a / 512);
+      down = downSpan p k;
+      across = acrossSpan p k;
     }
 
 pub record Made (e : Engine) : Type 0 where

@@ -1,5 +1,6 @@
 // The engine: positions and pixels of one card and one pair with no division by A or B (001, 3.4.3, 3.4.4; 02, E8).
 use arc::Circle;
+use arc::Tile;
 use arc::Verdict;
 use card::Card;
 use card::Pair;
@@ -7,21 +8,27 @@ use card::PixelAnswer;
 use card::PositionAnswer;
 use card::Ranged;
 ghost use mathlib.Core.Path.{_≡_};
-ghost use Prim.Native.Nat.{_+_, _-_, _*_, _%_, _≤_, _<_};
+ghost use Prim.Native.Nat.{_+_, _-_, _*_, _/_, _%_, _≤_, _<_};
 ghost use lib.IntN.{pos, _-ℤ_};
 ghost use Rattle.whole.specs.Whole.{near};
 ghost use Rattle.arc.specs.Zones.{circle};
 ghost use Rattle.arc.specs.Spacing.{Grid};
 ghost use Rattle.card.specs.Read.{Known};
 ghost use Rattle.card.specs.Steps.{inward};
-ghost use Rattle.card.specs.Grid.{rowOf, columnOf, positionOf, pixelOf};
-ghost use Rattle.lists.specs.Steps.{scaleUp, startOf, axisOf, engineOf, Made};
+ghost use Rattle.card.specs.Grid.{rowOf, columnOf, positionOf, pixelAt, pixelOf};
+ghost use Rattle.lists.specs.Steps.{scaleUp, fine, startOf, axisOf, spanOf, engineOf, Made};
 
 // H / 256.
 const STEP: u64 = 506_250;
 
 // 2^36.
-const ONE: u64 = 68_719_476_736;
+const COARSE: u64 = 68_719_476_736;
+
+// H / 512.
+const UNIT: u64 = 253_125;
+
+// 2^45.
+const FINE: u64 = 35_184_372_088_832;
 
 // An axis: i pixels from its base is (i × rate + start) / 2^36 hundredths.
 pub struct Axis {
@@ -30,38 +37,41 @@ pub struct Axis {
     pub start: u64,
 }
 
-// A card's axes in a pair, and what its rows and columns are counted by.
+// An axis the other way: i hundredths past its first is (i × rate + start) / 2^45 pixels, and the tiles end after `most` of them.
+pub struct Span {
+    pub first: u64,
+    pub most: u64,
+    pub rate: u64,
+    pub start: u64,
+}
+
+// A card's axes in a pair, both ways.
 pub struct Engine {
     pub card: Card,
     pub pair: Pair,
     pub rows: Axis,
     pub columns: Axis,
-    pub top: u64,
-    pub down: u64,
-    pub left: u64,
-    pub across: u64,
+    pub down: Span,
+    pub across: Span,
 }
 
-// The smallest whole number not below x × 2^36 / d.
-fn scale_up(x: u64, d: u64) -> u64
-    requires { ⌜ x ≤ 506250 ⌝ ∗ ⌜ 1 ≤ d ⌝ ∗ ⌜ d ≤ 312800 ⌝ }
-    ensures { λ r. ⌜ r ≡ scaleUp x d ⌝ }
+// The smallest whole number not below x × one / d.
+fn scale_up(one: u64, x: u64, d: u64) -> u64
+    requires { ⌜ x * one < 18446744073709000000 ⌝ ∗ ⌜ 1 ≤ d ⌝ ∗ ⌜ d ≤ 506250 ⌝ }
+    ensures { λ r. ⌜ r ≡ scaleUp one x d ⌝ }
 {
-    (x * ONE + (d - 1)) / d
+    (x * one + (d - 1)) / d
 }
 
-// v modulo a, v being at most twice a.
-fn reduced(v: u64, a: u64) -> u64
-    requires { ⌜ v ≤ 2 * a ⌝ ∗ ⌜ 1 ≤ a ⌝ ∗ ⌜ a ≤ 129600000 ⌝ }
-    ensures { λ r. ⌜ r ≡ v % a ⌝ }
+// An angle less whole circles.
+fn turned(angle: u64) -> u64
+    requires { ⌜ angle < 259200000 ⌝ }
+    ensures { λ r. ⌜ r ≡ angle % circle ⌝ }
 {
-    if v < a {
-        return v;
+    if angle < Circle::H {
+        return angle;
     }
-    if v - a < a {
-        return v - a;
-    }
-    0
+    angle - Circle::H
 }
 
 // What the rounding of an axis starts from: its angles are added, or taken off.
@@ -86,9 +96,31 @@ fn axis_of(x: u64, from: u64, off: bool) -> Axis
     let start = start_of(first % d, d, off);
     Axis {
         base: first / d,
-        rate: scale_up(STEP, d),
-        start: scale_up(start, d),
+        rate: scale_up(COARSE, STEP, d),
+        start: scale_up(COARSE, start, d),
     }
+}
+
+// The span of so many pixels, a hundredth adding `unit` to what the first one has, a pixel being UNIT.
+fn span_of(unit: u64, from: u64, pixels: u64) -> Span
+    requires { ⌜ 1 ≤ unit ⌝ ∗ ⌜ unit ≤ 156400 ⌝ ∗ ⌜ 1 ≤ pixels ⌝ ∗ ⌜ pixels ≤ 127872 ⌝ }
+    ensures { λ r. ⌜ r ≡ spanOf unit from pixels ⌝ }
+{
+    let rest = from % unit;
+    Span {
+        first: from / unit % Circle::H,
+        most: (UNIT * pixels - 1 - rest) / unit,
+        rate: scale_up(FINE, unit, UNIT),
+        start: scale_up(FINE, rest, UNIT),
+    }
+}
+
+// The pixels that i hundredths past a span's first are.
+fn pixels_past(x: Span, i: u64) -> i64
+    requires { ⌜ i * x .rate + x .start < 9223372036854775808 ⌝ }
+    ensures { λ r. ⌜ r ≡ pos ((i * x .rate + x .start) / fine) ⌝ }
+{
+    ((i * x.rate + x.start) / FINE) as i64
 }
 
 // The engine of a card for a pair.
@@ -97,18 +129,18 @@ pub fn engine_of(pair: Pair, k: Card) -> Engine
     ensures { λ r. ⌜ r ≡ engineOf pair k ⌝ }
 {
     let shift = pair.inward() / 256;
-    let up = STEP / 2 - shift;
+    let up = (STEP / 2 - shift) / 2;
     let rows = axis_of(k.b, STEP * k.north - shift, true);
     let columns = axis_of(k.a, STEP * k.east + shift, false);
+    let down = span_of(k.b / 512, UNIT * k.north + up, Tile::SIDE * k.nfl);
+    let across = span_of(k.a / 512, UNIT * (k.a - k.east) + up, Tile::SIDE * k.nfc);
     Engine {
         card: k,
         pair,
         rows,
         columns,
-        top: STEP * (k.north + k.b / 2) + up,
-        down: 2 * (k.b / 512),
-        left: STEP * (k.a - k.east) + up,
-        across: 2 * (k.a / 512),
+        down,
+        across,
     }
 }
 
@@ -119,7 +151,7 @@ impl Engine {
         ensures { λ r. ⌜ r ≡ near ((self .card .north - row) * circle - inward (self .pair)) (self .card .b) ⌝ }
     {
         let x = self.rows;
-        x.base - (row * x.rate + x.start) / ONE
+        x.base - (row * x.rate + x.start) / COARSE
     }
 
     // The longitude of a column, counted from 180° west (001, 3.4.3).
@@ -128,29 +160,7 @@ impl Engine {
         ensures { λ r. ⌜ r ≡ near ((self .card .east + column) * circle + inward (self .pair)) (self .card .a) % circle ⌝ }
     {
         let x = self.columns;
-        let east = x.base + (column * x.rate + x.start) / ONE;
-        if east < Circle::H {
-            return east;
-        }
-        east - Circle::H
-    }
-
-    // The row at a latitude counted from the South Pole, before the bounds are looked at (001, 3.4.4).
-    fn row_at(self, north: u64) -> i64
-        requires { ⌜ Made self ⌝ ∗ ⌜ north ≤ 64800000 ⌝ }
-        ensures { λ r. ⌜ r ≡ rowOf (self .pair) (self .card) (pos north -ℤ pos 32400000) ⌝ }
-    {
-        let half = self.card.b / 2;
-        let rows = (self.top - self.down * north) / STEP;
-        whole::difference(rows as u32, half as u32)
-    }
-
-    // The column at a longitude counted from 180° west, before the bounds are looked at (001, 3.4.4).
-    fn column_at(self, east: u64) -> i64
-        requires { ⌜ Made self ⌝ ∗ ⌜ east ≤ 129600000 ⌝ }
-        ensures { λ r. ⌜ r ≡ columnOf (self .pair) (self .card) (pos east -ℤ pos 64800000) ⌝ }
-    {
-        reduced((self.across * east + self.left) / STEP, self.card.a) as i64
+        turned(x.base + (column * x.rate + x.start) / COARSE)
     }
 
     // The position of a pixel, as `Card::position_in` answers it in the pair. Refuses 12, 13.
@@ -168,21 +178,36 @@ impl Engine {
         }
     }
 
+    // The pixel at a position counted from the South Pole and from 180° west (001, 3.4.4). Refuses 12, 13.
+    fn pixel_at(self, north: u64, east: u64) -> PixelAnswer
+        requires { ⌜ Made self ⌝ ∗ ⌜ north ≤ 64800000 ⌝ ∗ ⌜ east ≤ 129600000 ⌝ }
+        ensures { λ r. ⌜ r ≡ pixelAt (self .card) (rowOf (self .pair) (self .card) (pos north -ℤ pos 32400000))
+            (columnOf (self .pair) (self .card) (pos east -ℤ pos 64800000)) ⌝ }
+    {
+        let y = self.down;
+        if y.first < north {
+            return PixelAnswer::Refused(arc::refused(12));
+        }
+        let down = y.first - north;
+        if y.most < down {
+            return PixelAnswer::Refused(arc::refused(12));
+        }
+        let x = self.across;
+        let across = turned(east + x.first);
+        if x.most < across {
+            return PixelAnswer::Refused(arc::refused(12));
+        }
+        let k = self.card;
+        k.pixel_at(pixels_past(y, down), pixels_past(x, across))
+    }
+
     // The pixel at a position, as `Card::pixel_in` answers it in the pair. Refuses 4, 5, 12, 13.
     pub fn pixel(self, lat: i64, lon: i64) -> PixelAnswer
         requires { ⌜ Made self ⌝ }
         ensures { λ r. ⌜ r ≡ pixelOf (self .pair) (self .card) lat lon ⌝ }
     {
         match card::count_position(lat, lon) {
-            Ranged::At { north, east } => {
-                let row = self.row_at(north);
-                let column = self.column_at(east);
-                let k = self.card;
-                match k.judge_pixel(row, column) {
-                    Verdict::Accepted => PixelAnswer::At { row, column },
-                    Verdict::Refused(r) => PixelAnswer::Refused(r),
-                }
-            }
+            Ranged::At { north, east } => self.pixel_at(north, east),
             Ranged::Refused(r) => PixelAnswer::Refused(r),
         }
     }

@@ -15,8 +15,12 @@ use Rattle.lists.proofs.engine.engine_of.Tie as tie
 shift : (c : tie.After-inward) → c .inward .result / 256 ≡ shiftOf (c .before .args .pair)
 shift c = ap (λ (n : ℕ). n / 256) (c .inward .ensures)
 
-laid : (c : tie.After-struct-known4) → Laid (c .before .before .before .before .before .before .before .args .k)
-laid c = known-laid _ (c .before .before .before .before .before .before .before .pre)
+-- the card is laid, at the spans
+laid-down : (c : tie.After-struct-known4) → Laid (c .before .before .before .before .before .before .before .args .k)
+laid-down c = known-laid _ (c .before .before .before .before .before .before .before .pre)
+
+laid-across : (c : tie.After-struct-known7) → Laid (c .before .before .before .before .before .before .before .before .before .before .before .args .k)
+laid-across c = known-laid _ (c .before .before .before .before .before .before .before .before .before .before .before .pre)
 
 sub-up : tie.Need-sub-up
 sub-up c = omega (arith, shift c, shift-high (c .before .args .pair))
@@ -45,33 +49,42 @@ axis-of-requires-2 c κs =
     let l = known-laid _ (s .before .pre) in
     (l .columns, omega (arith, east-high _ l, shift s, shift-high (s .before .args .pair)))
 
-add-t8 : tie.Need-add-t8
-add-t8 c = omega (arith, laid c)
+mul-span-of : tie.Need-mul-span-of
+mul-span-of c = omega (arith, laid-down c)
 
-mul-t9 : tie.Need-mul-t9
-mul-t9 c = omega (arith, laid c)
+add-span-of : tie.Need-add-span-of
+add-span-of c = omega (arith, laid-down c)
 
-add-t10 : tie.Need-add-t10
-add-t10 c = omega (arith, laid c)
+mul-span-of-2 : tie.Need-mul-span-of-2
+mul-span-of-2 c = omega (arith, laid-down (c .before))
 
-sub-t13 : tie.Need-sub-t13
-sub-t13 c = east-high _ (laid (c .before .before))
+span-of-requires : tie.Need-span-of-requires
+span-of-requires c κs = omega (arith, laid-down (c .before))
 
-mul-t14 : tie.Need-mul-t14
-mul-t14 c = omega (arith, laid (c .before .before))
+sub-span-of : tie.Need-sub-span-of
+sub-span-of c = east-high _ (laid-across c)
 
-add-t15 : tie.Need-add-t15
-add-t15 c = omega (arith, laid (c .before .before))
+mul-span-of-3 : tie.Need-mul-span-of-3
+mul-span-of-3 c = omega (arith, laid-across c)
+
+add-span-of-2 : tie.Need-add-span-of-2
+add-span-of-2 c = omega (arith, laid-across c)
+
+mul-span-of-4 : tie.Need-mul-span-of-4
+mul-span-of-4 c = omega (arith, laid-across (c .before))
+
+span-of-requires-2 : tie.Need-span-of-requires-2
+span-of-requires-2 c κs = omega (arith, laid-across (c .before))
 
 returns : tie.Need-returns
 unfolding engineOf
 returns c =
-    let d = c .before .before .before .before .before in
-    let s = d .before .before .before .before in
-    rw (d .axis-of2 .ensures, d .before .before .axis-of .ensures, shift s)
+    let d = c .before .before .before .before in
+    let a = d .before .before .before .before in
+    rw (c .span-of2 .ensures, d .span-of .ensures, a .axis-of2 .ensures, a .before .before .axis-of .ensures, shift (a .before .before .before .before))
 
 pub engine-of-spec : {M : Type 1} → statement M
 engine-of-spec =
     tie.close
-    (tie.spec (λ c κs. search needs) sub-up mul-axis-of sub-axis-of axis-of-requires mul-axis-of-2 add-axis-of axis-of-requires-2 add-t8 mul-t9 add-t10
-    (λ c. search needs) sub-t13 mul-t14 add-t15 (λ c. search needs) returns)
+    (tie.spec (λ c κs. search needs) sub-up mul-axis-of sub-axis-of axis-of-requires mul-axis-of-2 add-axis-of axis-of-requires-2 mul-span-of add-span-of
+    mul-span-of-2 span-of-requires sub-span-of mul-span-of-3 add-span-of-2 mul-span-of-4 span-of-requires-2 returns)

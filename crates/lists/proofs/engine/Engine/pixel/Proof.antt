@@ -21,70 +21,28 @@ counts c =
     let s = c .before .before .before .before in
     ranged-at (s .args .lat) (s .args .lon) (s .fits .lat) (s .fits .lon) (c .before .before .before .count-position .ensures) (c .before .north .given .1)
 
--- the row and the column found, and that they are the plain rule's
-record Found (p : Pair) (k : Card) (lat lon row column : ℤ) : Type 0 where
-  row-fits : SFits w64 row
-  column-fits : SFits w64 column
-  same : pixelAt k row column ≡ pixelAt k (rowOf p k lat) (columnOf p k lon)
-
-found : (c : tie.After-column-at)
-    → Found (c .before .before .before .before .before .before .args .self .pair) (c .before .before .before .before .before .before .args .self .card)
-    (c .before .before .before .before .before .before .args .lat) (c .before .before .before .before .before .before .args .lon) (c .before .row-at .result) (c .column-at .result)
-found c =
-    let k = c .before .before .before .before .before .before .args .self .card in
-    let p = c .before .before .before .before .before .before .args .self .pair in
-    let i = counts (c .before .before) in
-    record {
-      row-fits = record { sfits = c .before .row-at .ok };
-      column-fits = record { sfits = c .column-at .ok };
-      same = ap₂ (pixelAt k) (c .before .row-at .ensures ∙ ap (rowOf p k) (i .rows .same)) (c .column-at .ensures ∙ ap (columnOf p k) (i .columns .same));
-    }
-
-row-at-requires : tie.Need-row-at-requires
-row-at-requires c κs = (c .before .before .before .before .pre, counts c .rows .high)
-
-column-at-requires : tie.Need-column-at-requires
-column-at-requires c κs = (c .before .before .before .before .before .pre, counts (c .before) .columns .high)
+pixel-at-requires : tie.Need-pixel-at-requires
+pixel-at-requires c κs = (c .before .before .before .before .pre, (counts c .rows .high, counts c .columns .high))
 
 returns : tie.Need-returns
 unfolding pixelOf
 returns c =
-    let d = c .before .before .before .before in
-    let i = counts (d .before .before) in
-    let f = found d in
-    let k = d .before .before .before .before .before .before .args .self .card in
-    let r = d .before .row-at .result in
-    let v = d .column-at .result in
-    let t = judged-accepted k r v (f .row-fits) (f .column-fits) (c .before .before .judge-pixel .ensures) (c .enum-told .given .1) in
-    let at : PixelAnswer.At r v ≡ pixelAt k r v = rw (t .0, t .1) in
-    rw (i .rows .test, i .columns .test)
-    (ap₂ PixelAnswer.At (toZ-ofZ w64 r (f .row-fits)) (toZ-ofZ w64 v (f .column-fits)) ∙ at ∙ f .same)
+    let s = c .before .before .before .before .before in
+    let k = s .args .self .card in
+    let p = s .args .self .pair in
+    let i = counts (c .before) in
+    rw (i .rows .test, i .columns .test) (c .pixel-at .ensures ∙ ap₂ (λ (x y : ℤ). pixelAt k (rowOf p k x) (columnOf p k y)) (i .rows .same) (i .columns .same))
 
 returns-2 : tie.Need-returns-2
 unfolding pixelOf
 returns-2 c =
-    let d = c .before .before .before .before .before in
-    let i = counts (d .before .before) in
-    let f = found d in
-    let r = d .before .row-at .result in
-    let v = d .column-at .result in
-    rw (i .rows .test, i .columns .test)
-    (judged-refused (d .before .before .before .before .before .before .args .self .card) r v (f .row-fits) (f .column-fits)
-    (c .before .before .before .judge-pixel .ensures)
-    PixelAnswer.Refused (PixelAnswer.At r v) (c .before .r .given .1)
-    ∙ f .same)
-
-returns-3 : tie.Need-returns-3
-unfolding pixelOf
-returns-3 c =
     let s = c .before .before .before .before in
     let k = s .args .self .card in
     let p = s .args .self .pair in
     ranged-refused (s .args .lat) (s .args .lon) (s .fits .lat) (s .fits .lon) (c .before .before .before .count-position .ensures)
-    PixelAnswer.Refused (pixelAt k (rowOf p k (s .args .lat)) (columnOf p k (s .args .lon))) (c .before .r2 .given .1)
+    PixelAnswer.Refused (pixelAt k (rowOf p k (s .args .lat)) (columnOf p k (s .args .lon))) (c .before .r .given .1)
 
 pub pixel-spec : {M : Type 1} → statement M
 pixel-spec =
     tie.close
-    (tie.spec (λ c κs. search needs) (λ c. search needs) row-at-requires column-at-requires (λ c κs. search needs) (λ c. search needs)
-    (λ c. search needs) (λ c. search needs) returns returns-2 returns-3)
+    (tie.spec (λ c κs. search needs) (λ c. search needs) pixel-at-requires (λ c. search needs) returns returns-2)
