@@ -183,8 +183,8 @@ impl Card {
         self.position_in(Pair::Centre, row, column)
     }
 
-    // The pixel found at a row and a column, within the bounds. Refuses 12, 13.
-    pub fn pixel_at(self, row: i64, column: i64) -> PixelAnswer
+    // The pixel found, within the bounds. Refuses 12, 13.
+    fn pixel_at(self, row: i64, column: i64) -> PixelAnswer
         requires { ⌜ Known self ⌝ }
         ensures { λ r. ⌜ r ≡ pixelAt self row column ⌝ }
     {

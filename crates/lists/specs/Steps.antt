@@ -7,15 +7,17 @@
 --     axisAt first d off the same, by the nearest's numerator and denominator at the first pixel
 --     rowAxis p k        the northings of the rows, taken off that of row 0
 --     columnAxis p k     the eastings of the columns, added to that of column 0
---     spanOf u from n    where n pixels begin, a hundredth adding u to what the first one has, a pixel being 253,125
---     downSpan p k       the rows, counted southward
---     acrossSpan p k     the columns, counted eastward round the circle
+--     spanOf u from low n   the hundredths of n pixels from pixel low on, each adding u to what the first one has, a pixel being 253,125
+--     downSpan p k       the chart's rows, counted southward
+--     acrossSpan p k     the chart's columns, counted eastward round the circle
+--     held e north east  a position, counted from the South Pole and from 180° west, is on the chart
 --     engineOf p k       the engine of a card for a pair
 --     Made e             it is the engine of its card and its pair, and some accepted card gives that card
 --     pairTold p         the report that the parts of a pair tell
 use mathlib.Core.Path.{_≡_}
 use Prim.Native.Nat.{ℕ, _+_, _-_, _*_, _/_, _%_}
-use mathlib.Core.Bool.{Bool, true, false, cond}
+use mathlib.Core.Bool.{Bool, true, false, cond, _&&_}
+use lib.Dec.{leb}
 use mathlib.Core.List.{[], _∷_}
 use Rattle.arc.specs.Refusals.{Report}
 use Rattle.arc.specs.Zones.{circle}
@@ -59,27 +61,27 @@ rowAxis p k = axisOf (k .b) (506250 * k .north - shiftOf p) true
 abbrev pub columnAxis : Pair → Card → Axis
 columnAxis p k = axisOf (k .a) (506250 * k .east + shiftOf p) false
 
--- i hundredths past the first are (u i + from modulo u) / 253,125 pixels, and the last of n pixels is `most` past it
-abbrev pub spanOf : ℕ → ℕ → ℕ → Span
-spanOf u from n =
+-- i hundredths past the first is pixel low + (u i + from modulo u) / 253,125, and the last of the n pixels is `most` past it
+abbrev pub spanOf : ℕ → ℕ → ℕ → ℕ → Span
+spanOf u from low n =
     record {
       first = from / u % circle;
       most = (253125 * n - 1 - from % u) / u;
       rate = scaleUp fine u 253125;
-      start = scaleUp fine (from % u) 253125;
+      start = scaleUp fine (from % u) 253125 + low * fine;
     }
 
 -- half a pixel is added for the nearest, nothing for the floor
 abbrev pub upOf : Pair → ℕ
 upOf p = (253125 - shiftOf p) / 2
 
--- 253,125 × 128n, counted from the South Pole
+-- 253,125 × (128n − NUL), counted from the South Pole
 abbrev pub downSpan : Pair → Card → Span
-downSpan p k = spanOf (k .b / 512) (253125 * k .north + upOf p) (128 * k .nfl)
+downSpan p k = spanOf (k .b / 512) (253125 * (k .north - k .nul) + upOf p) (k .nul) (k .nll + 1 - k .nul)
 
--- 253,125 × (A − 128m), counted from 180° west
+-- 253,125 × (2A − 128m − NLS), counted from 180° west
 abbrev pub acrossSpan : Pair → Card → Span
-acrossSpan p k = spanOf (k .a / 512) (253125 * (k .a - k .east) + upOf p) (128 * k .nfc)
+acrossSpan p k = spanOf (k .a / 512) (253125 * (2 * k .a - (k .east + k .nls)) + upOf p) (k .nls) (k .nus + 1 - k .nls)
 
 unfoldable pub engineOf : Pair → Card → Engine
 engineOf p k =
@@ -95,6 +97,10 @@ engineOf p k =
 pub record Made (e : Engine) : Type 0 where
   pub known : Known (e .card)
   pub same : e ≡ engineOf (e .pair) (e .card)
+
+abbrev pub held : Engine → ℕ → ℕ → Bool
+held e north east =
+    (leb north (e .down .first) && leb (e .down .first) (north + e .down .most)) && leb ((east + e .across .first) % circle) (e .across .most)
 
 abbrev pub pairTold : PairParts → Report
 pairTold p = record { number = p .number; place = p .at; values = p .first ∷ p .second ∷ [] }

@@ -1,6 +1,5 @@
 // The engine: positions and pixels of one card and one pair with no division by A or B (001, 3.4.3, 3.4.4; 02, E8).
 use arc::Circle;
-use arc::Tile;
 use arc::Verdict;
 use card::Card;
 use card::Pair;
@@ -8,6 +7,7 @@ use card::PixelAnswer;
 use card::PositionAnswer;
 use card::Ranged;
 ghost use mathlib.Core.Path.{_≡_};
+ghost use mathlib.Core.Bool.{true};
 ghost use Prim.Native.Nat.{_+_, _-_, _*_, _/_, _%_, _≤_, _<_};
 ghost use lib.IntN.{pos, _-ℤ_};
 ghost use Rattle.whole.specs.Whole.{near};
@@ -16,7 +16,7 @@ ghost use Rattle.arc.specs.Spacing.{Grid};
 ghost use Rattle.card.specs.Read.{Known};
 ghost use Rattle.card.specs.Steps.{inward};
 ghost use Rattle.card.specs.Grid.{rowOf, columnOf, positionOf, pixelAt, pixelOf};
-ghost use Rattle.lists.specs.Steps.{scaleUp, fine, startOf, axisOf, spanOf, engineOf, Made};
+ghost use Rattle.lists.specs.Steps.{scaleUp, fine, startOf, axisOf, spanOf, engineOf, Made, held};
 
 // H / 256.
 const STEP: u64 = 506_250;
@@ -37,7 +37,7 @@ pub struct Axis {
     pub start: u64,
 }
 
-// An axis the other way: i hundredths past its first is (i × rate + start) / 2^45 pixels, and the tiles end after `most` of them.
+// The chart along an axis: i hundredths past its first is pixel (i × rate + start) / 2^45, and it ends after `most` of them.
 pub struct Span {
     pub first: u64,
     pub most: u64,
@@ -101,21 +101,43 @@ fn axis_of(x: u64, from: u64, off: bool) -> Axis
     }
 }
 
-// The span of so many pixels, a hundredth adding `unit` to what the first one has, a pixel being UNIT.
-fn span_of(unit: u64, from: u64, pixels: u64) -> Span
-    requires { ⌜ 1 ≤ unit ⌝ ∗ ⌜ unit ≤ 156400 ⌝ ∗ ⌜ 1 ≤ pixels ⌝ ∗ ⌜ pixels ≤ 127872 ⌝ }
-    ensures { λ r. ⌜ r ≡ spanOf unit from pixels ⌝ }
+// The span of so many pixels from pixel `low` on, a hundredth adding `unit` to what the first one has, a pixel being UNIT.
+fn span_of(unit: u64, from: u64, low: u64, pixels: u64) -> Span
+    requires { ⌜ 1 ≤ unit ⌝ ∗ ⌜ unit ≤ 156400 ⌝ ∗ ⌜ 1 ≤ pixels ⌝ ∗ ⌜ low + pixels ≤ 127872 ⌝ }
+    ensures { λ r. ⌜ r ≡ spanOf unit from low pixels ⌝ }
 {
     let rest = from % unit;
     Span {
         first: from / unit % Circle::H,
         most: (UNIT * pixels - 1 - rest) / unit,
         rate: scale_up(FINE, unit, UNIT),
-        start: scale_up(FINE, rest, UNIT),
+        start: scale_up(FINE, rest, UNIT) + low * FINE,
     }
 }
 
-// The pixels that i hundredths past a span's first are.
+// The chart's rows, what is added before they are made whole being given.
+fn down_of(up: u64, k: Card) -> Span
+    requires { ⌜ Known k ⌝ ∗ ⌜ up ≤ 126562 ⌝ }
+    ensures { λ r. ⌜ r ≡ spanOf (k .b / 512) (253125 * (k .north - k .nul) + up) (k .nul) (k .nll + 1 - k .nul) ⌝ }
+{
+    span_of(
+        k.b / 512,
+        UNIT * (k.north - k.nul) + up,
+        k.nul,
+        k.nll + 1 - k.nul,
+    )
+}
+
+// The chart's columns, likewise.
+fn across_of(up: u64, k: Card) -> Span
+    requires { ⌜ Known k ⌝ ∗ ⌜ up ≤ 126562 ⌝ }
+    ensures { λ r. ⌜ r ≡ spanOf (k .a / 512) (253125 * (2 * k .a - (k .east + k .nls)) + up) (k .nls) (k .nus + 1 - k .nls) ⌝ }
+{
+    let from = UNIT * (2 * k.a - (k.east + k.nls)) + up;
+    span_of(k.a / 512, from, k.nls, k.nus + 1 - k.nls)
+}
+
+// The pixel i hundredths past a span's first.
 fn pixels_past(x: Span, i: u64) -> i64
     requires { ⌜ i * x .rate + x .start < 9223372036854775808 ⌝ }
     ensures { λ r. ⌜ r ≡ pos ((i * x .rate + x .start) / fine) ⌝ }
@@ -132,8 +154,8 @@ pub fn engine_of(pair: Pair, k: Card) -> Engine
     let up = (STEP / 2 - shift) / 2;
     let rows = axis_of(k.b, STEP * k.north - shift, true);
     let columns = axis_of(k.a, STEP * k.east + shift, false);
-    let down = span_of(k.b / 512, UNIT * k.north + up, Tile::SIDE * k.nfl);
-    let across = span_of(k.a / 512, UNIT * (k.a - k.east) + up, Tile::SIDE * k.nfc);
+    let down = down_of(up, k);
+    let across = across_of(up, k);
     Engine {
         card: k,
         pair,
@@ -178,36 +200,44 @@ impl Engine {
         }
     }
 
-    // The pixel at a position counted from the South Pole and from 180° west (001, 3.4.4). Refuses 12, 13.
-    fn pixel_at(self, north: u64, east: u64) -> PixelAnswer
+    // Whether a position, counted from the South Pole and from 180° west, is on the chart.
+    fn holds(self, north: u64, east: u64) -> bool
         requires { ⌜ Made self ⌝ ∗ ⌜ north ≤ 64800000 ⌝ ∗ ⌜ east ≤ 129600000 ⌝ }
+        ensures { λ r. ⌜ r ≡ held self north east ⌝ }
+    {
+        let y = self.down;
+        let x = self.across;
+        ((north <= y.first) & (y.first <= north + y.most)) & (turned(east + x.first) <= x.most)
+    }
+
+    // The pixel of the chart at a position counted from the South Pole and from 180° west (001, 3.4.4).
+    fn pixel_at(self, north: u64, east: u64) -> PixelAnswer
+        requires { ⌜ Made self ⌝ ∗ ⌜ north ≤ 64800000 ⌝ ∗ ⌜ east ≤ 129600000 ⌝ ∗ ⌜ held self north east ≡ true ⌝ }
         ensures { λ r. ⌜ r ≡ pixelAt (self .card) (rowOf (self .pair) (self .card) (pos north -ℤ pos 32400000))
             (columnOf (self .pair) (self .card) (pos east -ℤ pos 64800000)) ⌝ }
     {
         let y = self.down;
-        if y.first < north {
-            return PixelAnswer::Refused(arc::refused(12));
-        }
-        let down = y.first - north;
-        if y.most < down {
-            return PixelAnswer::Refused(arc::refused(12));
-        }
         let x = self.across;
-        let across = turned(east + x.first);
-        if x.most < across {
-            return PixelAnswer::Refused(arc::refused(12));
+        PixelAnswer::At {
+            row: pixels_past(y, y.first - north),
+            column: pixels_past(x, turned(east + x.first)),
         }
-        let k = self.card;
-        k.pixel_at(pixels_past(y, down), pixels_past(x, across))
     }
 
-    // The pixel at a position, as `Card::pixel_in` answers it in the pair. Refuses 4, 5, 12, 13.
+    // The pixel at a position, as `Card::pixel_in` answers it in the pair, which is asked where the chart does not hold it. Refuses 4, 5, 12, 13.
     pub fn pixel(self, lat: i64, lon: i64) -> PixelAnswer
         requires { ⌜ Made self ⌝ }
         ensures { λ r. ⌜ r ≡ pixelOf (self .pair) (self .card) lat lon ⌝ }
     {
         match card::count_position(lat, lon) {
-            Ranged::At { north, east } => self.pixel_at(north, east),
+            Ranged::At { north, east } => {
+                if self.holds(north, east) {
+                    return self.pixel_at(north, east);
+                }
+                let k = self.card;
+                let pair = self.pair;
+                k.pixel_in(pair, lat, lon)
+            }
             Ranged::Refused(r) => PixelAnswer::Refused(r),
         }
     }

@@ -15,13 +15,6 @@ use Rattle.lists.proofs.engine.engine_of.Tie as tie
 shift : (c : tie.After-inward) → c .inward .result / 256 ≡ shiftOf (c .before .args .pair)
 shift c = ap (λ (n : ℕ). n / 256) (c .inward .ensures)
 
--- the card is laid, at the spans
-laid-down : (c : tie.After-struct-known4) → Laid (c .before .before .before .before .before .before .before .args .k)
-laid-down c = known-laid _ (c .before .before .before .before .before .before .before .pre)
-
-laid-across : (c : tie.After-struct-known7) → Laid (c .before .before .before .before .before .before .before .before .before .before .before .args .k)
-laid-across c = known-laid _ (c .before .before .before .before .before .before .before .before .before .before .before .pre)
-
 sub-up : tie.Need-sub-up
 sub-up c = omega (arith, shift c, shift-high (c .before .args .pair))
 
@@ -49,42 +42,20 @@ axis-of-requires-2 c κs =
     let l = known-laid _ (s .before .pre) in
     (l .columns, omega (arith, east-high _ l, shift s, shift-high (s .before .args .pair)))
 
-mul-span-of : tie.Need-mul-span-of
-mul-span-of c = omega (arith, laid-down c)
+down-of-requires : tie.Need-down-of-requires
+down-of-requires c κs = (c .before .before .before .before .before .pre, omega arith)
 
-add-span-of : tie.Need-add-span-of
-add-span-of c = omega (arith, laid-down c)
-
-mul-span-of-2 : tie.Need-mul-span-of-2
-mul-span-of-2 c = omega (arith, laid-down (c .before))
-
-span-of-requires : tie.Need-span-of-requires
-span-of-requires c κs = omega (arith, laid-down (c .before))
-
-sub-span-of : tie.Need-sub-span-of
-sub-span-of c = east-high _ (laid-across c)
-
-mul-span-of-3 : tie.Need-mul-span-of-3
-mul-span-of-3 c = omega (arith, laid-across c)
-
-add-span-of-2 : tie.Need-add-span-of-2
-add-span-of-2 c = omega (arith, laid-across c)
-
-mul-span-of-4 : tie.Need-mul-span-of-4
-mul-span-of-4 c = omega (arith, laid-across (c .before))
-
-span-of-requires-2 : tie.Need-span-of-requires-2
-span-of-requires-2 c κs = omega (arith, laid-across (c .before))
+across-of-requires : tie.Need-across-of-requires
+across-of-requires c κs = (c .before .before .before .before .before .before .pre, omega arith)
 
 returns : tie.Need-returns
 unfolding engineOf
 returns c =
-    let d = c .before .before .before .before in
-    let a = d .before .before .before .before in
-    rw (c .span-of2 .ensures, d .span-of .ensures, a .axis-of2 .ensures, a .before .before .axis-of .ensures, shift (a .before .before .before .before))
+    let a = c .before .before in
+    rw (c .across-of .ensures, c .before .down-of .ensures, a .axis-of2 .ensures, a .before .before .axis-of .ensures, shift (a .before .before .before .before))
 
 pub engine-of-spec : {M : Type 1} → statement M
 engine-of-spec =
     tie.close
-    (tie.spec (λ c κs. search needs) sub-up mul-axis-of sub-axis-of axis-of-requires mul-axis-of-2 add-axis-of axis-of-requires-2 mul-span-of add-span-of
-    mul-span-of-2 span-of-requires sub-span-of mul-span-of-3 add-span-of-2 mul-span-of-4 span-of-requires-2 returns)
+    (tie.spec (λ c κs. search needs) sub-up mul-axis-of sub-axis-of axis-of-requires mul-axis-of-2 add-axis-of axis-of-requires-2 down-of-requires
+    across-of-requires returns)

@@ -1,14 +1,9 @@
--- A position out of range is refused; else the row and the column are the plain rule's, and the verdict decides. Assumes nothing.
-use mathlib.Core.Path.{_≡_, ap, ap₂, _∙_}
+-- A position out of range is refused; on the chart the spans give its pixel, and elsewhere the card is asked. Assumes nothing.
+use mathlib.Core.Path.{sym, ap₂, _∙_}
 use lib.IntN.{ℤ}
-use mir.Syntax.{w64}
-use mir.Val.{SFits}
-use mir.ValLaws.{toZ-ofZ}
-use Rattle.card.specs.declared.Card.{Card}
-use Rattle.card.specs.declared.Pair.{Pair}
 use Rattle.card.specs.declared.PixelAnswer.{PixelAnswer}
 use Rattle.card.specs.Grid.{rowOf, columnOf, pixelAt, pixelOf}
-use Rattle.card.proofs.Answers.{judged-refused, judged-accepted}
+use Rattle.card.proofs.Answers.{pair-asked}
 use Rattle.card.proofs.Ranges.{Counts, ranged-at, ranged-refused}
 use borrow.Author.Needs.{needs}
 use Rattle.lists.proofs.engine.Engine.pixel.Statement.{statement}
@@ -21,21 +16,35 @@ counts c =
     let s = c .before .before .before .before in
     ranged-at (s .args .lat) (s .args .lon) (s .fits .lat) (s .fits .lon) (c .before .before .before .count-position .ensures) (c .before .north .given .1)
 
+holds-requires : tie.Need-holds-requires
+holds-requires c κs = (c .before .before .before .before .pre, (counts c .rows .high, counts c .columns .high))
+
 pixel-at-requires : tie.Need-pixel-at-requires
-pixel-at-requires c κs = (c .before .before .before .before .pre, (counts c .rows .high, counts c .columns .high))
+pixel-at-requires c κs =
+    let i = counts (c .before .before) in
+    let s = c .before .before .before .before .before .before in
+    (s .pre, (i .rows .high, (i .columns .high, sym (c .before .holds .ensures) ∙ c .if1 .taken)))
 
 returns : tie.Need-returns
 unfolding pixelOf
 returns c =
-    let s = c .before .before .before .before .before in
+    let s = c .before .before .before .before .before .before .before in
     let k = s .args .self .card in
     let p = s .args .self .pair in
-    let i = counts (c .before) in
+    let i = counts (c .before .before .before) in
     rw (i .rows .test, i .columns .test) (c .pixel-at .ensures ∙ ap₂ (λ (x y : ℤ). pixelAt k (rowOf p k x) (columnOf p k y)) (i .rows .same) (i .columns .same))
 
+pixel-in-requires : tie.Need-pixel-in-requires
+pixel-in-requires c κs = c .before .before .before .before .before .before .before .pre .known
+
 returns-2 : tie.Need-returns-2
-unfolding pixelOf
 returns-2 c =
+    let s = c .before .before .before .before .before .before .before .before in
+    c .pixel-in .ensures ∙ pair-asked (pixelOf (s .args .self .pair) (s .args .self .card)) (s .fits .lat) (s .fits .lon)
+
+returns-3 : tie.Need-returns-3
+unfolding pixelOf
+returns-3 c =
     let s = c .before .before .before .before in
     let k = s .args .self .card in
     let p = s .args .self .pair in
@@ -45,4 +54,4 @@ returns-2 c =
 pub pixel-spec : {M : Type 1} → statement M
 pixel-spec =
     tie.close
-    (tie.spec (λ c κs. search needs) (λ c. search needs) pixel-at-requires (λ c. search needs) returns returns-2)
+    (tie.spec (λ c κs. search needs) (λ c. search needs) holds-requires pixel-at-requires returns pixel-in-requires (λ c. search needs) returns-2 returns-3)
