@@ -1,15 +1,13 @@
-//! Demand 3 by running, and the part two cards have in common.
+//! Demand 3 by running, and the part two cards have in common, in each pair alone (02, E8).
 
 mod rule;
 mod support;
 
-use fordcask::{Pixel, Position, Refusal, Series, Sheet};
-use support::cuts::{cut, list, pixel_with, Ends};
+use fordcask::{Series, Sheet};
+use support::cuts::{common_pixels, cut, list, pixel_with, Ends};
 use support::make::{all_chart, card, chart, overview, pixel, record, scale, town_chart};
 use support::make::{Maker, SCALES, ZONES};
-use support::seeded;
-
-const OUTSIDE: Refusal = Refusal { number: 12, at: 0 };
+use support::{seeded, PAIRS};
 
 #[test]
 fn demand_3() {
@@ -76,10 +74,9 @@ fn place_by_trying() {
     assert!(found > 500, "{found} found");
 }
 
-/// Every pixel of a card asked of another that has a part of it in common; 12 outside that part.
 #[test]
 fn common_part() {
-    let mut common = 0;
+    let mut common = [0, 0];
     let town = [(5_000, 1), (7_321, 13), (9_999, 8), (9_999, 17)];
     let printed = [(10_000, 1), (1_000_000, 1), (20_000_000, 8), (20_000_000, 17)];
     for (scale, zone) in town.into_iter().chain(printed) {
@@ -89,21 +86,9 @@ fn common_part() {
         let (head, other) = (card(series, &head), card(series, &other));
         let head = Sheet { series, card: &head };
         let other = Sheet { series, card: &other };
-        for row in 0..512 {
-            for column in 0..640 {
-                let position = head.position(Pixel { row, column }).expect("a pixel");
-                let expected = Pixel { row: row - 128, column: column - 256 };
-                let inside = expected.row >= 0 && expected.column >= 0;
-                let found = other.pixel(position);
-                let right = if inside { Ok(expected) } else { Err(OUTSIDE) };
-                assert_eq!(found, right, "{row} {column}");
-                if inside {
-                    common += 1;
-                    let again: Result<Position, Refusal> = other.position(expected);
-                    assert_eq!(again, Ok(position), "{row} {column}");
-                }
-            }
+        for (pair, common) in PAIRS.into_iter().zip(&mut common) {
+            *common += common_pixels(pair, &head, &other);
         }
     }
-    assert_eq!(common, 8 * 384 * 384);
+    assert_eq!(common, [8 * 384 * 384; 2]);
 }

@@ -1,8 +1,8 @@
-//! The figures of document 01, "Figures on both sides of each edge", those of E3 and E13 of 02,
+//! The figures of document 01, "Figures on both sides of each edge", those of E3, E8 and E13 of 02,
 //! and some more edges, worked out from their rules. Each test names those not printed there.
 
 use fordcask::{align, basic_zone, cover, offset, read_card, rectangle, spacing, write_card};
-use fordcask::{Pixel, Position, Refusal, Series, Sheet, Spacing};
+use fordcask::{Pair, Pixel, Position, Refusal, Series, Sheet, Spacing};
 
 const REFUSED_1: Refusal = Refusal { number: 1, at: 0 };
 const REFUSED_16: Refusal = Refusal { number: 16, at: 0 };
@@ -136,15 +136,26 @@ fn town_alignment_figures() {
     assert_eq!(align(Series::chart(10_000, 19), 32_400_001, 64_800_001), Err(refused_2));
 }
 
+/// The positions of pixels (0, 0), (1, 1) and (255, 127), in the corner pair and the centre pair.
+const TOWN_POSITIONS: [[[(i64, i64); 3]; 2]; 3] = [
+    [
+        [(20_716, -4_488), (20_714, -4_486), (20_303, -4_265)],
+        [(20_715, -4_487), (20_714, -4_485), (20_303, -4_264)],
+    ],
+    [
+        [(41_428, -8_974), (41_425, -8_971), (40_603, -8_529)],
+        [(41_426, -8_972), (41_423, -8_969), (40_601, -8_527)],
+    ],
+    [
+        [(41_432, -8_975), (41_429, -8_972), (40_607, -8_530)],
+        [(41_431, -8_973), (41_427, -8_970), (40_605, -8_528)],
+    ],
+];
+
 /// E13 prints the scales; the cards and their positions are not printed.
 #[test]
 fn town_card_figures() {
-    let positions = [
-        [(20_716, -4_488), (20_714, -4_486), (20_303, -4_265)],
-        [(41_428, -8_974), (41_425, -8_971), (40_603, -8_529)],
-        [(41_432, -8_975), (41_429, -8_972), (40_607, -8_530)],
-    ];
-    for ((scale, card), positions) in TOWN_CARDS.into_iter().zip(positions) {
+    for ((scale, card), positions) in TOWN_CARDS.into_iter().zip(TOWN_POSITIONS) {
         let series = Series::chart(scale, 1);
         let read = read_card(series, card).expect("a card that opens");
         assert_eq!((read.record.n, read.record.m), (100, -20), "1:{scale}");
@@ -157,10 +168,12 @@ fn town_card_figures() {
         }
         let sheet = Sheet { series, card };
         let pixels = [(0, 0), (1, 1), (255, 127)];
-        for ((row, column), (lat, lon)) in pixels.into_iter().zip(positions) {
-            let (pixel, position) = (Pixel { row, column }, Position { lat, lon });
-            assert_eq!(sheet.position(pixel), Ok(position), "1:{scale} {pixel:?}");
-            assert_eq!(sheet.pixel(position), Ok(pixel), "1:{scale} {position:?}");
+        for (pair, positions) in [Pair::Corner, Pair::Centre].into_iter().zip(positions) {
+            for ((row, column), (lat, lon)) in pixels.into_iter().zip(positions) {
+                let (pixel, position) = (Pixel { row, column }, Position { lat, lon });
+                assert_eq!(sheet.position_in(pair, pixel), Ok(position), "1:{scale} {pixel:?}");
+                assert_eq!(sheet.pixel_in(pair, position), Ok(pixel), "1:{scale} {position:?}");
+            }
         }
     }
 }

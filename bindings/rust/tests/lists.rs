@@ -1,4 +1,4 @@
-//! The list calls: equal to the single calls pair by pair, with lengths of every kind.
+//! The list calls in both pairs: equal to the single calls, with lengths of every kind.
 
 mod rule;
 mod support;
@@ -6,7 +6,11 @@ mod support;
 use fordcask::{Pixel, Position, Series, Sheet};
 use support::ask_lists::{pixels, positions, OLD_POSITION};
 use support::make::{all_chart, card, chart, overview, pixel, record, town_chart, Maker};
-use support::{seeded, Ask, Random, SIGNED_ENDS, WORKED};
+use support::{seeded, Ask, Random, PAIRS, SIGNED_ENDS, WORKED};
+
+/// The worked card's first pixel in both pairs, a position outside it, and two out of range.
+const ASKED_POSITIONS: [(i64, i64); 5] =
+    [(4_143_223, -897_507), (4_143_061, -897_332), (0, 0), (32_400_001, 0), (0, 64_800_001)];
 
 fn any_signed(random: &mut Random, near: i64) -> i64 {
     match random.below(8) {
@@ -17,7 +21,7 @@ fn any_signed(random: &mut Random, near: i64) -> i64 {
     }
 }
 
-/// The length of an output for `asked` pairs: right, longer, or shorter once in a while.
+/// The length of an output for `asked` items: right, longer, or shorter once in a while.
 fn output_length(random: &mut Random, asked: usize) -> usize {
     match random.below(6) {
         0 => random.below(asked + 1),
@@ -26,7 +30,7 @@ fn output_length(random: &mut Random, asked: usize) -> usize {
     }
 }
 
-/// Lists to 40 pairs on random cards, some of them damaged.
+/// Lists to 40 items on random cards, some of them damaged.
 fn asked_lists(test: &str, rounds: u32, maker: Maker) {
     let mut random = seeded(test);
     let mut ask = Ask::default();
@@ -43,7 +47,8 @@ fn asked_lists(test: &str, rounds: u32, maker: Maker) {
         let out = output_length(&mut random, asked);
         let numbers = output_length(&mut random, asked);
         positions(&mut ask, &sheet, &list, out, numbers);
-        let near = list.first().and_then(|pixel| sheet.position(*pixel).ok());
+        let pair = random.pick(&PAIRS);
+        let near = list.first().and_then(|pixel| sheet.position_in(pair, *pixel).ok());
         let near = near.unwrap_or_default();
         let list: Vec<Position> = (0..asked)
             .map(|_| Position {
@@ -55,8 +60,8 @@ fn asked_lists(test: &str, rounds: u32, maker: Maker) {
     }
     ask.met("positions", &[0, 6, 7, 8, 9, 10, 11]);
     ask.met("pixels", &[0, 6, 7, 8, 9, 10, 11]);
-    ask.met("pairs of positions", &[0, 12, 13]);
-    ask.met("pairs of pixels", &[0, 4, 5, 12, 13]);
+    ask.met("listed positions", &[0, 12, 13]);
+    ask.met("listed pixels", &[0, 4, 5, 12, 13]);
 }
 
 #[test]
@@ -96,15 +101,14 @@ fn every_length() {
     ];
     let asked = [(0, 0), (1, 1), (256, 0), (-1, 5), (255, 127), (3, 128)];
     let list = asked.map(|(row, column)| Pixel { row, column });
-    let asked = [(4_143_223, -897_507), (0, 0), (32_400_001, 0), (0, 64_800_001)];
-    let places = asked.map(|(lat, lon)| Position { lat, lon });
+    let places = ASKED_POSITIONS.map(|(lat, lon)| Position { lat, lon });
     for (scale, zone, card) in cards {
         let sheet = Sheet { series: Series::chart(scale, zone), card };
         for length in 0..=6 {
             for out in 0..=8 {
                 for numbers in 0..=8 {
                     positions(&mut ask, &sheet, &list[..length], out, numbers);
-                    pixels(&mut ask, &sheet, &places[..length.min(4)], out, numbers);
+                    pixels(&mut ask, &sheet, &places[..length.min(5)], out, numbers);
                 }
             }
         }
@@ -112,8 +116,8 @@ fn every_length() {
     ask.met("positions", &[0, 1, 2, 3, 6, 8, 9]);
     ask.met("pixels", &[0, 1, 2, 3, 6, 8, 9]);
     // no padding in either card
-    ask.met("pairs of positions", &[0, 12]);
-    ask.met("pairs of pixels", &[0, 4, 5, 12]);
+    ask.met("listed positions", &[0, 12]);
+    ask.met("listed pixels", &[0, 4, 5, 12]);
 }
 
 /// A long list: a whole row of pixels of a wide card.
@@ -125,14 +129,16 @@ fn long_list() {
     let card = card(series, &record);
     let sheet = Sheet { series, card: &card };
     let list: Vec<Pixel> = (-3..76_803).map(|column| Pixel { row: 300, column }).collect();
-    let mut found = vec![OLD_POSITION; list.len()];
-    let mut numbers = vec![77; list.len()];
-    assert_eq!(sheet.positions(&list, &mut found, &mut numbers), Ok(()));
-    assert_eq!(numbers.iter().filter(|n| **n == 12).count(), 6);
     positions(&mut ask, &sheet, &list, list.len(), list.len());
-    pixels(&mut ask, &sheet, &found, list.len() + 1, list.len() + 2);
+    for pair in PAIRS {
+        let mut found = vec![OLD_POSITION; list.len()];
+        let mut numbers = vec![77; list.len()];
+        assert_eq!(sheet.positions_in(pair, &list, &mut found, &mut numbers), Ok(()));
+        assert_eq!(numbers.iter().filter(|n| **n == 12).count(), 6);
+        pixels(&mut ask, &sheet, &found, list.len() + 1, list.len() + 2);
+    }
     ask.met("positions", &[0]);
     ask.met("pixels", &[0]);
-    ask.met("pairs of positions", &[0, 12]);
-    ask.met("pairs of pixels", &[0, 12]);
+    ask.met("listed positions", &[0, 12]);
+    ask.met("listed pixels", &[0, 12]);
 }

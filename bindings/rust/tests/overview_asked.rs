@@ -10,7 +10,7 @@ use support::damage::change_some;
 use support::index::good_index;
 use support::make::{all_chart, card, changes_of, overview, pixel, record};
 use support::make::{BAD_FACTORS, BAD_SCALES, BAD_ZONES, ZONES};
-use support::{seeded, Ask};
+use support::{seeded, Ask, PAIRS};
 
 /// Every one-byte change of an overview's card, in every question.
 #[test]
@@ -25,7 +25,7 @@ fn one_byte_changes_asked() {
             let sheet = Sheet { series, card: &card };
             let row = random.between(-2, 258);
             let pixel = Pixel { row, column: random.between(-2, 130) };
-            let position = good.position(pixel).unwrap_or_default();
+            let position = good.position_in(random.pick(&PAIRS), pixel).unwrap_or_default();
             ask_all(&mut ask, &sheet, &good, pixel, position);
         }
     }
@@ -48,7 +48,7 @@ fn damaged_cards_asked() {
         let good_card = card(series, &record);
         let good = Sheet { series, card: &good_card };
         let pixel = pixel(&mut random, &record);
-        let position = good.position(pixel).unwrap_or_default();
+        let position = good.position_in(random.pick(&PAIRS), pixel).unwrap_or_default();
         let mut card = good_card.clone();
         if random.once_in(2) {
             change_some(&mut random, &mut card);
@@ -87,10 +87,13 @@ fn every_factor_answers() {
             let series = Series { scale: scale as u64, factor, zone };
             let card = card(series, &all_chart(5, -2, 2, 1, false));
             let sheet = Sheet { series, card: &card };
-            let pixel = Pixel { row: random.between(0, 255), column: random.between(0, 127) };
-            let position = sheet.position(pixel).expect("a position");
-            ask_all(&mut ask, &sheet, &sheet, pixel, position);
-            assert_eq!(sheet.pixel(position), Ok(pixel), "there and back");
+            // not at an edge: each pair finds a pixel at the other's position too
+            let pixel = Pixel { row: random.between(1, 254), column: random.between(1, 126) };
+            for pair in PAIRS {
+                let position = sheet.position_in(pair, pixel).expect("a position");
+                ask_all(&mut ask, &sheet, &sheet, pixel, position);
+                assert_eq!(sheet.pixel_in(pair, position), Ok(pixel), "there and back");
+            }
         }
     }
     for question in QUESTIONS {
@@ -136,10 +139,12 @@ fn largest_image() {
     let list: Vec<Pixel> =
         (-2..127_874).step_by(3).map(|column| Pixel { row: 127_871, column }).collect();
     positions(&mut ask, &sheet, &list, list.len(), list.len());
-    let there: Vec<Position> =
-        list.iter().map(|pixel| sheet.position(*pixel).unwrap_or_default()).collect();
-    pixels(&mut ask, &sheet, &there, list.len(), list.len());
+    for pair in PAIRS {
+        let there: Vec<Position> =
+            list.iter().map(|pixel| sheet.position_in(pair, *pixel).unwrap_or_default()).collect();
+        pixels(&mut ask, &sheet, &there, list.len(), list.len());
+    }
     ask.met("index_check", &[0]);
     ask.met("window", &[0]);
-    ask.met("pairs of positions", &[0, 12]);
+    ask.met("listed positions", &[0, 12]);
 }

@@ -1,13 +1,14 @@
-//! Demand 3 for cards of one scale, one zone and one factor other than 1 (02, E4).
+//! Demand 3 for cards of one scale, one zone and one factor other than 1, in each pair alone
+//! (02, E4 and E8).
 
 mod rule;
 mod support;
 
-use fordcask::{Pixel, Refusal, Series, Sheet};
-use support::cuts::{list, Ends};
+use fordcask::{Series, Sheet};
+use support::cuts::{common_pixels, list, Ends};
 use support::edges::greatest_scale;
 use support::make::{all_chart, card, overview, scale, town_overview, ZONES};
-use support::seeded;
+use support::{seeded, PAIRS};
 
 /// Every factor in every zone, at its greatest scale, both ends of the town scales and others.
 #[test]
@@ -48,10 +49,9 @@ fn demand_3_overviews() {
     assert!(ends.outside > 30_000 && ends.padding > 30_000, "{ends:?}");
 }
 
-/// Every pixel of a card asked of another that has a part of it in common; 12 outside that part.
 #[test]
 fn common_part() {
-    let mut common = 0;
+    let mut common = [0, 0];
     let series = [(5_000, 64, 1), (9_999, 2, 13), (10_000, 63, 8), (50_000, 20, 2)];
     let larger = [(312_500, 64, 17), (317_460, 63, 3), (10_000_000, 2, 5), (6_666_666, 3, 16)];
     for (scale, factor, zone) in series.into_iter().chain(larger) {
@@ -60,21 +60,9 @@ fn common_part() {
         let other = card(series, &all_chart(8, -1, 4, 4, true));
         let head = Sheet { series, card: &head };
         let other = Sheet { series, card: &other };
-        for row in 0..512 {
-            for column in 0..640 {
-                let position = head.position(Pixel { row, column }).expect("a pixel");
-                let expected = Pixel { row: row - 128, column: column - 256 };
-                let inside = expected.row >= 0 && expected.column >= 0;
-                let outside = Err(Refusal { number: 12, at: 0 });
-                let right = if inside { Ok(expected) } else { outside };
-                assert_eq!(other.pixel(position), right, "{series:?} {row} {column}");
-                if inside {
-                    common += 1;
-                    let again = other.position(expected);
-                    assert_eq!(again, Ok(position), "{series:?} {row} {column}");
-                }
-            }
+        for (pair, common) in PAIRS.into_iter().zip(&mut common) {
+            *common += common_pixels(pair, &head, &other);
         }
     }
-    assert_eq!(common, 8 * 384 * 384);
+    assert_eq!(common, [8 * 384 * 384; 2]);
 }

@@ -1,7 +1,7 @@
 //! Figures of E4, worked out from its sentences and 01's; 02 prints the ends of k and of S × k.
 
 use fordcask::{align, cover, read_card, rectangle, spacing, write_card};
-use fordcask::{Pixel, Position, Refusal, Series, Sheet, Spacing};
+use fordcask::{Pair, Pixel, Position, Refusal, Series, Sheet, Spacing};
 
 const ONE: Refusal = Refusal { number: 1, at: 0 };
 const SEVENTEEN: Refusal = Refusal { number: 17, at: 0 };
@@ -104,7 +104,7 @@ fn alignment() {
 #[test]
 fn cards() {
     let worked = read_card(of(1_000_000, 1, 1), WORKED).expect("the worked card");
-    // the worked card is one of any pair of this product
+    // the worked card is one of any scale and factor of this product
     assert_eq!(read_card(of(50_000, 20, 1), WORKED), Ok(worked));
     let mut out = [7; 98];
     assert_eq!(write_card(of(50_000, 20, 1), &worked.record, &mut out), Ok(()));
@@ -133,11 +133,16 @@ fn town_card() {
     let mut out = [7; 98];
     assert_eq!(write_card(series, &read.record, &mut out), Err(RETIRED));
     assert_eq!(out, [7; 98]);
-    let figures = [((0, 0), (2_651_391, -573_959)), ((255, 127), (2_598_570, -545_485))];
-    for ((row, column), (lat, lon)) in figures {
+    let figures = [
+        (Pair::Corner, (0, 0), (2_651_391, -573_959)),
+        (Pair::Corner, (255, 127), (2_598_570, -545_485)),
+        (Pair::Centre, (0, 0), (2_651_288, -573_847)),
+        (Pair::Centre, (255, 127), (2_598_467, -545_373)),
+    ];
+    for (pair, (row, column), (lat, lon)) in figures {
         let (pixel, position) = (Pixel { row, column }, Position { lat, lon });
-        assert_eq!(sheet.position(pixel), Ok(position));
-        assert_eq!(sheet.pixel(position), Ok(pixel));
+        assert_eq!(sheet.position_in(pair, pixel), Ok(position));
+        assert_eq!(sheet.pixel_in(pair, position), Ok(pixel));
     }
 }
 

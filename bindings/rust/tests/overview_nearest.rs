@@ -1,10 +1,11 @@
 //! The overview pixel has the nearest place of the overview's grid to the chart pixel's answered
-//! position: distances are compared exactly, by trying places (02, E4; 01, "Origins").
+//! position, both in the corner pair: distances are compared exactly, by trying places (02, E4 and
+//! E8; 01, "Origins").
 
 mod rule;
 mod support;
 
-use fordcask::{Card, Pixel, Position, Series, Sheet};
+use fordcask::{Card, Pair, Pixel, Position, Series, Sheet};
 use support::cuts::{over, place_at};
 use support::make::{all_chart, card, chart, overview, pixel, record, ZONES};
 use support::{seeded, Ask, Random};
@@ -62,7 +63,7 @@ fn at_place(card: &Card, (row, column): (i64, i64)) -> Result<Pixel, u32> {
 /// Asks, and holds the answer or refusal to the nearest place of the whole grid.
 fn ask_nearest(ask: &mut Ask, chart: &Sheet, overview: &Sheet, pixel: Pixel) -> Result<Pixel, u32> {
     let found = ask.overview_pixel(chart, overview, pixel).map_err(|refusal| refusal.number);
-    let there = chart.position(pixel).expect("a pixel of the chart");
+    let there = chart.position_in(Pair::Corner, pixel).expect("a pixel of the chart");
     let card = rule::read(overview.series, overview.card).expect("an accepted card");
     assert_eq!(found, at_place(&card, nearest_place(&card, there)), "{overview:?} {there:?}");
     found
@@ -93,7 +94,7 @@ fn whole_grid() {
         let chart_card = card(series, &record);
         let chart = Sheet { series, card: &chart_card };
         let pixel = inside(&mut random, &record);
-        let there = chart.position(pixel).expect("a pixel of the chart");
+        let there = chart.position_in(Pair::Corner, pixel).expect("a pixel of the chart");
         let over_card = over(&mut random, over_series, there);
         let overview = Sheet { series: over_series, card: &over_card };
         answered += u64::from(ask_nearest(&mut ask, &chart, &overview, pixel).is_ok());
@@ -117,7 +118,7 @@ fn no_nearer_neighbour() {
         let chart_card = card(series, &record);
         let chart = Sheet { series, card: &chart_card };
         let asked = pixel(&mut random, &record);
-        let Ok(there) = chart.position(asked) else {
+        let Ok(there) = chart.position_in(Pair::Corner, asked) else {
             continue;
         };
         let over_card = over(&mut random, over_series, there);
@@ -157,7 +158,7 @@ fn date_line() {
         let chart_card = card(series, &record);
         let chart = Sheet { series, card: &chart_card };
         let asked = inside(&mut random, &record);
-        let there = chart.position(asked).expect("a pixel of the chart");
+        let there = chart.position_in(Pair::Corner, asked).expect("a pixel of the chart");
         across[usize::from(there.lon < 0)] += 1;
         let n = -(-place_at(over_series, there).row).div_euclid(128) + 1;
         let found = [over_side, -over_side, over_side - 1].map(|m| {

@@ -4,7 +4,7 @@
 mod rule;
 mod support;
 
-use fordcask::{Pixel, Position, Record, Series, Sheet};
+use fordcask::{Pair, Pixel, Position, Record, Series, Sheet};
 use support::cuts::place_at;
 use support::faults::{compatible, spoil_all, FAULTS};
 use support::make::{all_chart, card, overview, with_edges};
@@ -37,7 +37,7 @@ fn chart_and_pixel(random: &mut Random, series: Series, state: u32) -> (Record, 
 fn found_in(series: Series, record: &Record, there: Position) -> Option<Pixel> {
     let all = all_chart(record.n, record.m, record.nfl, record.nfc, record.tif);
     let read = rule::read(series, &card(series, &all)).expect("an accepted card");
-    rule::pixel(&read, there).ok()
+    rule::pixel(Pair::Corner, &read, there).ok()
 }
 
 /// An overview's record that gives this state at a position.
@@ -65,7 +65,7 @@ fn overview_at(random: &mut Random, series: Series, there: Position, state: u32)
 fn anywhere(series: Series, record: &Record, pixel: Pixel) -> Position {
     let all = all_chart(record.n, record.m, record.nfl, record.nfc, record.tif);
     let read = rule::read(series, &card(series, &all)).expect("an accepted card");
-    rule::position(&read, pixel).unwrap_or_default()
+    rule::position(Pair::Corner, &read, pixel).unwrap_or_default()
 }
 
 /// One call with these sets of faults and these states; the first refusal in order is given.

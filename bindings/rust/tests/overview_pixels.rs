@@ -1,9 +1,10 @@
-//! The overview pixel of a chart's pixel, compared with the rule and with its two steps (02, E4).
+//! The overview pixel of a chart's pixel, compared with the rule and with its two steps in the
+//! corner pair (02, E4 and E8).
 
 mod rule;
 mod support;
 
-use fordcask::{Pixel, Position, Record, Series, Sheet};
+use fordcask::{Pair, Pixel, Position, Record, Series, Sheet};
 use support::cuts::{over, place_at};
 use support::edges::greatest_scale;
 use support::make::{all_chart, card, chart, overview, pixel, record, town_overview, with_edges};
@@ -22,14 +23,14 @@ struct Steps {
 fn anywhere(series: Series, record: &Record, pixel: Pixel) -> Option<Position> {
     let all = all_chart(record.n, record.m, record.nfl, record.nfc, record.tif);
     let card = rule::read(series, &card(series, &all)).expect("an accepted card");
-    rule::position(&card, pixel).ok()
+    rule::position(Pair::Corner, &card, pixel).ok()
 }
 
 /// Asks at a pixel of a chart, and holds the answer to the two steps taken one by one.
 fn asked(ask: &mut Ask, chart: &Sheet, overview: &Sheet, pixel: Pixel, steps: &mut Steps) {
     let found = ask.overview_pixel(chart, overview, pixel);
-    let first = chart.position(pixel);
-    let second = first.and_then(|position| overview.pixel(position));
+    let first = chart.position_in(Pair::Corner, pixel);
+    let second = first.and_then(|position| overview.pixel_in(Pair::Corner, position));
     assert_eq!(found, second, "the two steps");
     match (first.is_ok(), second.is_ok()) {
         (false, _) => steps.chart += 1,
@@ -39,8 +40,8 @@ fn asked(ask: &mut Ask, chart: &Sheet, overview: &Sheet, pixel: Pixel, steps: &m
 }
 
 /// A random chart and some pixels, each with an overview made round it.
-fn ask_pair(ask: &mut Ask, random: &mut Random, pair: (Series, Series), steps: &mut Steps) {
-    let (series, over_series) = pair;
+fn ask_two(ask: &mut Ask, random: &mut Random, two: (Series, Series), steps: &mut Steps) {
+    let (series, over_series) = two;
     let record = record(random, series, 6);
     let chart_card = card(series, &record);
     let chart = Sheet { series, card: &chart_card };
@@ -64,8 +65,8 @@ fn every_factor() {
                 let most = greatest_scale(factor);
                 let scale = support::make::scale(&mut random).min(most);
                 let series = Series::chart(scale, zone);
-                let pair = (series, Series { factor, ..series });
-                ask_pair(&mut ask, &mut random, pair, &mut steps);
+                let two = (series, Series { factor, ..series });
+                ask_two(&mut ask, &mut random, two, &mut steps);
             }
         }
     }
@@ -82,9 +83,9 @@ fn any_two_cards() {
     let (mut ask, mut steps) = (Ask::default(), Steps::default());
     let makers: [Maker; 3] = [chart, overview, town_overview];
     for _ in 0..40_000 {
-        let (one, two) = (random.pick(&makers), random.pick(&makers));
-        let pair = (one(&mut random), two(&mut random));
-        ask_pair(&mut ask, &mut random, pair, &mut steps);
+        let (first, second) = (random.pick(&makers), random.pick(&makers));
+        let two = (first(&mut random), second(&mut random));
+        ask_two(&mut ask, &mut random, two, &mut steps);
     }
     println!("cases any_two_cards {steps:?}");
     assert!(steps.answered > 30_000, "{steps:?}");
@@ -123,7 +124,7 @@ fn its_own_overview() {
         let card = card(series, &record);
         let sheet = Sheet { series, card: &card };
         let pixel = pixel(&mut random, &record);
-        let right = sheet.position(pixel).map(|_| pixel);
+        let right = sheet.position_in(Pair::Corner, pixel).map(|_| pixel);
         assert_eq!(ask.overview_pixel(&sheet, &sheet, pixel), right, "{series:?}");
     }
     ask.met("overview_pixel", &[0, 12, 13]);
@@ -143,7 +144,7 @@ fn padding_of_the_chart() {
         let chart_card = card(series, &record);
         let chart = Sheet { series, card: &chart_card };
         let pixel = pixel(&mut random, &record);
-        if chart.position(pixel).map_err(|refusal| refusal.number) != Err(13) {
+        if chart.position_in(Pair::Corner, pixel).map_err(|refusal| refusal.number) != Err(13) {
             continue;
         }
         let there = anywhere(series, &record, pixel).expect("a pixel of the tiles");
@@ -151,7 +152,7 @@ fn padding_of_the_chart() {
         let overview = Sheet { series: over_series, card: &over_card };
         let refused = ask.overview_pixel(&chart, &overview, pixel);
         assert_eq!(refused.map_err(|refusal| refusal.number), Err(13), "{series:?}");
-        found += u64::from(overview.pixel(there).is_ok());
+        found += u64::from(overview.pixel_in(Pair::Corner, there).is_ok());
     }
     assert!(found > 5_000, "{found} the overview would find");
     ask.met("overview_pixel", &[13]);
@@ -166,7 +167,8 @@ fn every_pixel() {
         let over_series = Series { factor, ..series };
         let chart_card = card(series, &all_chart(9, 3, 2, 2, false));
         let chart = Sheet { series, card: &chart_card };
-        let corner = chart.position(Pixel { row: 0, column: 0 }).expect("the corner");
+        let corner =
+            chart.position_in(Pair::Corner, Pixel { row: 0, column: 0 }).expect("the corner");
         let place = place_at(over_series, corner);
         let (n, m) = (-(-place.row).div_euclid(128) + 1, place.column.div_euclid(128) - 1);
         let over_card = card(over_series, &all_chart(n, m, 4, 4, false));

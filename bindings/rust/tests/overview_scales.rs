@@ -8,7 +8,7 @@ use fordcask::{Pixel, Series, Sheet};
 use support::ask_all::{ask_all, QUESTIONS};
 use support::edges::{first, of_scale, of_series, of_zone, scales_at, FACTOR_EDGES};
 use support::make::{all_chart, card, overview, BAD_FACTORS, BAD_SCALES, BAD_ZONES, ZONES};
-use support::{seeded, Ask, WORKED, WORKED_SERIES};
+use support::{seeded, Ask, PAIRS, WORKED, WORKED_SERIES};
 
 const POLE: i64 = 32_400_000;
 const DATE_LINE: i64 = 64_800_000;
@@ -16,7 +16,7 @@ const LATS: [i64; 6] = [0, POLE, -POLE, POLE + 1, -POLE - 1, i64::MIN];
 const LONS: [i64; 6] = [0, DATE_LINE, -DATE_LINE, DATE_LINE + 1, -DATE_LINE - 1, i64::MAX];
 
 /// Every factor from 0 to 66 and the edges, with each scale to ask at it.
-fn pairs() -> Vec<(u64, u64)> {
+fn scales_and_factors() -> Vec<(u64, u64)> {
     let factors = (0..=66).chain(FACTOR_EDGES).chain(BAD_FACTORS);
     factors.flat_map(|k| scales_at(k).into_iter().map(move |scale| (scale, k))).collect()
 }
@@ -52,7 +52,7 @@ fn of_lon(lon: i64) -> u32 {
 #[test]
 fn spacing_order() {
     let mut ask = Ask::default();
-    for (scale, factor) in pairs() {
+    for (scale, factor) in scales_and_factors() {
         for zone in (1..=18).chain(BAD_ZONES) {
             let series = Series { scale, factor, zone };
             let of_zone = if (1..=18).contains(&zone) { 0 } else { 2 };
@@ -67,7 +67,7 @@ fn spacing_order() {
 #[test]
 fn cover_order() {
     let mut ask = Ask::default();
-    for (scale, factor) in pairs() {
+    for (scale, factor) in scales_and_factors() {
         for lat in LATS {
             let right = first(&[of_scale(scale, factor, false), of_lat(lat)]);
             let found = number(ask.cover(scale, factor, lat));
@@ -81,7 +81,7 @@ fn cover_order() {
 #[test]
 fn rectangle_order() {
     let mut ask = Ask::default();
-    for (scale, factor) in pairs() {
+    for (scale, factor) in scales_and_factors() {
         for south in LATS {
             for north in LATS {
                 let upside_down = if south >= north { 16 } else { 0 };
@@ -100,7 +100,7 @@ fn rectangle_order() {
 fn alignment_order() {
     let mut random = seeded("alignment_order");
     let mut ask = Ask::default();
-    for (scale, factor) in pairs() {
+    for (scale, factor) in scales_and_factors() {
         for zone in (1..=18).chain(BAD_ZONES) {
             for lat in LATS {
                 let lon = random.pick(&LONS);
@@ -122,7 +122,7 @@ fn reading_order() {
     let mut ask = Ask::default();
     let long = [WORKED.as_slice(), b"0"].concat();
     let cards: [&[u8]; 5] = [&[], &WORKED[..97], &long, &[b'x'; 98], WORKED];
-    for (scale, factor) in pairs() {
+    for (scale, factor) in scales_and_factors() {
         for zone in (1..=18).chain(BAD_ZONES) {
             let series = Series { scale, factor, zone };
             let card = random.pick(&cards);
@@ -150,7 +150,7 @@ fn writing_order() {
     let mut random = seeded("writing_order");
     let mut ask = Ask::default();
     let good = all_chart(9, -3, 2, 2, true);
-    for (scale, factor) in pairs() {
+    for (scale, factor) in scales_and_factors() {
         for zone in (1..=18).chain(BAD_ZONES) {
             let series = Series { scale, factor, zone };
             let mut record = good;
@@ -176,15 +176,15 @@ fn questions_on_a_card() {
     let mut ask = Ask::default();
     let worked = Sheet { series: WORKED_SERIES, card: WORKED };
     let pixel = Pixel { row: 1, column: 1 };
-    for (scale, factor) in pairs() {
+    for (scale, factor) in scales_and_factors() {
         for zone in [random.pick(&ZONES), random.pick(&[9, 18]), random.pick(&BAD_ZONES)] {
             let series = Series { scale, factor, zone };
-            let short = random.pick(&[98, 98, 97, 0]);
+            let (short, pair) = (random.pick(&[98, 98, 97, 0]), random.pick(&PAIRS));
             let mut bytes = match of_series(series) {
                 0 => card(series, &all_chart(9, -3, 2, 1, false)),
                 _ => WORKED.to_vec(),
             };
-            let position = rule::read(series, &bytes).and_then(|c| rule::position(&c, pixel));
+            let position = rule::read(series, &bytes).and_then(|c| rule::position(pair, &c, pixel));
             let position = position.unwrap_or_default();
             let whole = bytes.clone();
             bytes.truncate(short);

@@ -1,4 +1,5 @@
-//! Place, pixel to position and position to pixel at every edge, compared with the rule.
+//! Place, pixel to position and position to pixel at every edge, compared with the rule in both
+//! pairs.
 
 mod rule;
 mod support;
@@ -6,7 +7,7 @@ mod support;
 use fordcask::{Pixel, Position, Record, Series, Sheet};
 use support::make::{around, card, chart, edge_columns, edge_rows, overview, pixel, record};
 use support::make::{town_chart, with_edges, Maker, SCALES, ZONES};
-use support::{seeded, Ask, Random, SIGNED_ENDS};
+use support::{seeded, Ask, Random, PAIRS, SIGNED_ENDS};
 
 /// Every pair of edge rows and edge columns, and the ends of i64.
 fn ask_edges(ask: &mut Ask, sheet: &Sheet, record: &Record) {
@@ -75,16 +76,18 @@ fn ask_positions(ask: &mut Ask, random: &mut Random, sheet: &Sheet, record: &Rec
     let middle = |low: u64, high: u64| (low + (high - low) / 2) as i64;
     let inside =
         Pixel { row: middle(record.nul, record.nll), column: middle(record.nls, record.nus) };
-    let inside = ask.position(sheet, inside).expect("a pixel of the chart");
-    for lat in &lats {
-        let _ = ask.pixel(sheet, Position { lat: *lat, lon: inside.lon });
-        let lon = random.pick(&lons);
-        let _ = ask.pixel(sheet, Position { lat: *lat, lon });
-    }
-    for lon in &lons {
-        let _ = ask.pixel(sheet, Position { lat: inside.lat, lon: *lon });
-        let lat = random.pick(&lats);
-        let _ = ask.pixel(sheet, Position { lat, lon: *lon });
+    for pair in PAIRS {
+        let inside = ask.position_in(pair, sheet, inside).expect("a pixel of the chart");
+        for lat in &lats {
+            let _ = ask.pixel_in(pair, sheet, Position { lat: *lat, lon: inside.lon });
+            let lon = random.pick(&lons);
+            let _ = ask.pixel_in(pair, sheet, Position { lat: *lat, lon });
+        }
+        for lon in &lons {
+            let _ = ask.pixel_in(pair, sheet, Position { lat: inside.lat, lon: *lon });
+            let lat = random.pick(&lats);
+            let _ = ask.pixel_in(pair, sheet, Position { lat, lon: *lon });
+        }
     }
 }
 
@@ -164,7 +167,7 @@ fn random_asked(test: &str, rounds: u32, maker: Maker) {
             ask.there_and_back(&sheet, pixel(&mut random, &record));
         }
         let near = ask.position(&sheet, pixel(&mut random, &record));
-        let near = near.unwrap_or_default();
+        let near = random.pick(&near).unwrap_or_default();
         let position = Position {
             lat: near.lat + random.between(-4_000, 4_000),
             lon: near.lon + random.between(-4_000, 4_000),

@@ -4,7 +4,7 @@
 mod rule;
 mod support;
 
-use fordcask::{raw, Pixel, Refusal, Series};
+use fordcask::{raw, Pair, Pixel, Refusal, Series};
 use support::cuts::over;
 use support::faults::{compatible, spoil_all, FAULTS};
 use support::make::{card, overview, pixel, record};
@@ -101,7 +101,8 @@ fn overview_pixels() {
         let record = record(&mut random, series, 3);
         let asked = pixel(&mut random, &record);
         let mut chart = card(series, &record);
-        let there = rule::read(series, &chart).and_then(|card| rule::position(&card, asked));
+        let there = rule::read(series, &chart);
+        let there = there.and_then(|card| rule::position(Pair::Corner, &card, asked));
         let mut over_card = over(&mut random, over_series, there.unwrap_or_default());
         if random.once_in(3) {
             let set = random.pick(&sets);
@@ -143,10 +144,14 @@ fn refused_questions() {
         unsafe {
             let place = raw::fordcask_place(s, c, length, 1, 1);
             assert_eq!(place, raw::Place { number, at: 0, row: 0, column: 0 });
-            let position = raw::fordcask_position(s, c, length, 1, 1);
-            assert_eq!(position, raw::Position { number, at: 0, lat: 0, lon: 0 });
-            let pixel = raw::fordcask_pixel(s, c, length, 100_000, 100_000);
-            assert_eq!(pixel, raw::Pixel { number, at: 0, row: 0, column: 0 });
+            for ask in [raw::fordcask_position, raw::fordcask_corner_position] {
+                let none = raw::Position { number, at: 0, lat: 0, lon: 0 };
+                assert_eq!(ask(s, c, length, 1, 1), none);
+            }
+            for ask in [raw::fordcask_pixel, raw::fordcask_corner_pixel] {
+                let none = raw::Pixel { number, at: 0, row: 0, column: 0 };
+                assert_eq!(ask(s, c, length, 100_000, 100_000), none);
+            }
             let tile = raw::fordcask_tile(s, c, length, i, 2, 2, t, size, 1, 1);
             assert_eq!(tile, raw::Tile { number, at: 0, stored: 0, offset: 0, length: 0 });
             let bands = raw::fordcask_bands(s, c, length, i, 2, 2, t, size, 1, 1);
@@ -158,19 +163,23 @@ fn refused_questions() {
     }
 }
 
-/// Index check and both lists leave what they are lent; a card refused has zeros in every field.
+/// Index check and the lists leave what they are lent; a card refused has zeros in every field.
 fn refused_buffers(series: Series, card: &[u8], number: u32) {
     let (c, length, index) = (card.as_ptr(), card.len(), [1u32, 2]);
     let none = raw::Refusal { number, at: 0 };
-    let (mut marks, mut out, mut numbers, pairs) = ([7u8; 3], [7i64; 4], [7u32; 3], [1i64; 4]);
+    let (mut marks, mut out, mut numbers, asked) = ([7u8; 3], [7i64; 4], [7u32; 3], [1i64; 4]);
     let (marked, lent, n) = (marks.as_mut_ptr(), out.as_mut_ptr(), numbers.as_mut_ptr());
     // SAFETY: each pointer and length are those of one array or slice, and none overlap.
     unsafe {
         let i = index.as_ptr();
         assert_eq!(raw::fordcask_index_check(series, c, length, i, 2, 2, marked, 3), none);
-        let p = pairs.as_ptr();
-        assert_eq!(raw::fordcask_positions(series, c, length, p, 4, lent, 4, n, 3), none);
-        assert_eq!(raw::fordcask_pixels(series, c, length, p, 4, lent, 4, n, 3), none);
+        let p = asked.as_ptr();
+        for ask in [raw::fordcask_positions, raw::fordcask_corner_positions] {
+            assert_eq!(ask(series, c, length, p, 4, lent, 4, n, 3), none);
+        }
+        for ask in [raw::fordcask_pixels, raw::fordcask_corner_pixels] {
+            assert_eq!(ask(series, c, length, p, 4, lent, 4, n, 3), none);
+        }
     }
     assert_eq!((marks, out, numbers), ([7; 3], [7; 4], [7; 3]));
     // SAFETY: the pointer and length are those of one slice.

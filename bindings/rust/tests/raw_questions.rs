@@ -3,19 +3,29 @@
 mod rule;
 mod support;
 
-use fordcask::{raw, Series};
+use fordcask::{raw, Pair, Series};
 use support::make::{all_chart, card, changes, changes_of};
-use support::{seeded, WORKED, WORKED_SERIES};
+use support::{seeded, PAIRS, WORKED, WORKED_SERIES};
 
 /// What is stated beside a card, and the card.
 type Held<'a> = (Series, &'a [u8]);
 
-/// Positions through the C entry point with lengths in numbers, not pairs.
-fn positions(held: Held, pixels: &[i64], out: &mut [i64], numbers: &mut [u32]) -> (u32, u64) {
+/// Positions through the C entry point of a pair, with lengths in numbers.
+fn positions(
+    pair: Pair,
+    held: Held,
+    pixels: &[i64],
+    out: &mut [i64],
+    numbers: &mut [u32],
+) -> (u32, u64) {
     let (series, card) = held;
+    let ask = match pair {
+        Pair::Corner => raw::fordcask_corner_positions,
+        Pair::Centre => raw::fordcask_positions,
+    };
     // SAFETY: each pointer and length are those of one slice.
     let given = unsafe {
-        raw::fordcask_positions(
+        ask(
             series,
             card.as_ptr(),
             card.len(),
@@ -30,12 +40,22 @@ fn positions(held: Held, pixels: &[i64], out: &mut [i64], numbers: &mut [u32]) -
     (given.number, given.at)
 }
 
-/// Pixels through the C entry point with lengths in numbers, not pairs.
-fn pixels(held: Held, positions: &[i64], out: &mut [i64], numbers: &mut [u32]) -> (u32, u64) {
+/// Pixels through the C entry point of a pair, with lengths in numbers.
+fn pixels(
+    pair: Pair,
+    held: Held,
+    positions: &[i64],
+    out: &mut [i64],
+    numbers: &mut [u32],
+) -> (u32, u64) {
     let (series, card) = held;
+    let ask = match pair {
+        Pair::Corner => raw::fordcask_corner_pixels,
+        Pair::Centre => raw::fordcask_pixels,
+    };
     // SAFETY: each pointer and length are those of one slice.
     let given = unsafe {
-        raw::fordcask_pixels(
+        ask(
             series,
             card.as_ptr(),
             card.len(),
@@ -51,7 +71,7 @@ fn pixels(held: Held, positions: &[i64], out: &mut [i64], numbers: &mut [u32]) -
 }
 
 /// Every length of list and outputs to 9, odd ones among them.
-fn every_length(held: Held, right: [i64; 8]) {
+fn every_length(pair: Pair, held: Held, right: [i64; 8]) {
     let asked = [0, 0, 1, 1, 256, 0, 255, 127, 5];
     let mut places = [0, 0, 0, 0, 0, 0, 0, 64_800_001, 0];
     places[..4].copy_from_slice(&right[..4]);
@@ -59,7 +79,7 @@ fn every_length(held: Held, right: [i64; 8]) {
         for out_len in 0..=9 {
             for numbers_len in 0..=9 {
                 let (mut out, mut numbers) = (vec![7; out_len], vec![7; numbers_len]);
-                let given = positions(held, &asked[..length], &mut out, &mut numbers);
+                let given = positions(pair, held, &asked[..length], &mut out, &mut numbers);
                 let good = length % 2 == 0 && out_len >= length && numbers_len >= length / 2;
                 assert_eq!(given.0, if good { 0 } else { 6 }, "{length} {out_len} {numbers_len}");
                 let written = if good { length } else { 0 };
@@ -69,7 +89,7 @@ fn every_length(held: Held, right: [i64; 8]) {
                 assert!(numbers[written / 2..].iter().all(|x| *x == 7), "the rest stays");
 
                 let (mut out, mut numbers) = (vec![7; out_len], vec![7; numbers_len]);
-                let given = pixels(held, &places[..length], &mut out, &mut numbers);
+                let given = pixels(pair, held, &places[..length], &mut out, &mut numbers);
                 assert_eq!(given.0, if good { 0 } else { 6 }, "{length} {out_len} {numbers_len}");
                 assert_eq!(out[..written], [0, 0, 1, 1, 0, 0, 0, 0][..written]);
                 assert_eq!(numbers[..written / 2], [0, 0, 12, 5][..written / 2]);
@@ -80,16 +100,22 @@ fn every_length(held: Held, right: [i64; 8]) {
     }
 }
 
-/// The worked card, and its record at the ends of the town scales (02, E13).
+/// The worked card, and its record at the ends of the town scales (02, E13), in both pairs.
 #[test]
 fn odd_lengths() {
-    let worked = [4_143_223, -897_507, 4_142_899, -897_156, 0, 0, 4_060_682, -852_982];
-    every_length((WORKED_SERIES, WORKED), worked);
-    let low = [20_716, -4_488, 20_714, -4_486, 0, 0, 20_303, -4_265];
-    let high = [41_428, -8_974, 41_425, -8_971, 0, 0, 40_603, -8_529];
-    for (scale, right) in [(5_000, low), (9_999, high)] {
+    let corner = [4_143_223, -897_507, 4_142_899, -897_156, 0, 0, 4_060_682, -852_982];
+    let centre = [4_143_061, -897_332, 4_142_737, -896_981, 0, 0, 4_060_520, -852_807];
+    every_length(Pair::Corner, (WORKED_SERIES, WORKED), corner);
+    every_length(Pair::Centre, (WORKED_SERIES, WORKED), centre);
+    let town = [
+        (5_000, Pair::Corner, [20_716, -4_488, 20_714, -4_486, 0, 0, 20_303, -4_265]),
+        (5_000, Pair::Centre, [20_715, -4_487, 20_714, -4_485, 0, 0, 20_303, -4_264]),
+        (9_999, Pair::Corner, [41_428, -8_974, 41_425, -8_971, 0, 0, 40_603, -8_529]),
+        (9_999, Pair::Centre, [41_426, -8_972, 41_423, -8_969, 0, 0, 40_601, -8_527]),
+    ];
+    for (scale, pair, right) in town {
         let series = Series::chart(scale, 1);
-        every_length((series, &card(series, &all_chart(100, -20, 2, 1, false))), right);
+        every_length(pair, (series, &card(series, &all_chart(100, -20, 2, 1, false))), right);
     }
 }
 
@@ -110,10 +136,13 @@ fn refused_cards() {
         let asked = [1; 9];
         let length = random.below(10);
         let (mut out, mut numbers) = (vec![7; random.below(10)], vec![7; random.below(10)]);
-        let first = positions((series, &card), &asked[..length], &mut out, &mut numbers);
-        let second = pixels((series, &card), &asked[..length], &mut out, &mut numbers);
-        assert_eq!(first, (refusal.number, refusal.at));
-        assert_eq!(second, (refusal.number, refusal.at));
+        for pair in PAIRS {
+            let (held, asked) = ((series, &card[..]), &asked[..length]);
+            let first = positions(pair, held, asked, &mut out, &mut numbers);
+            let second = pixels(pair, held, asked, &mut out, &mut numbers);
+            assert_eq!(first, (refusal.number, refusal.at));
+            assert_eq!(second, (refusal.number, refusal.at));
+        }
         assert!(out.iter().all(|x| *x == 7) && numbers.iter().all(|x| *x == 7));
     }
     assert!(refused > 4_000, "{refused} refused");
@@ -142,10 +171,14 @@ fn refused_values_at(scale: u64) {
     unsafe {
         let place = raw::fordcask_place(series, c, length, far, 0);
         assert_eq!(place, raw::Place { number: 12, at: 0, row: 0, column: 0 });
-        let position = raw::fordcask_position(series, c, length, 0, 256);
-        assert_eq!(position, raw::Position { number: 12, at: 0, lat: 0, lon: 0 });
-        let pixel = raw::fordcask_pixel(series, c, length, 0, i64::MAX);
-        assert_eq!(pixel, raw::Pixel { number: 5, at: 0, row: 0, column: 0 });
+        for ask in [raw::fordcask_position, raw::fordcask_corner_position] {
+            let position = ask(series, c, length, 0, 256);
+            assert_eq!(position, raw::Position { number: 12, at: 0, lat: 0, lon: 0 });
+        }
+        for ask in [raw::fordcask_pixel, raw::fordcask_corner_pixel] {
+            let pixel = ask(series, c, length, 0, i64::MAX);
+            assert_eq!(pixel, raw::Pixel { number: 5, at: 0, row: 0, column: 0 });
+        }
         let i = index.as_ptr();
         let window = raw::fordcask_window(series, c, length, i, 2, 1, 0, 1, 1, 1);
         assert_eq!(window, raw::Window { number: 15, at: 1, missing: 0, tile: 0 });

@@ -6,7 +6,7 @@ mod support;
 use fordcask::{Pixel, Position, Series, Sheet, Tiles, Window};
 use support::damage::change_some;
 use support::make::{all_chart, card, changes_of, chart, record, town_chart, Maker};
-use support::{seeded, Ask, Random, WORKED, WORKED_SERIES};
+use support::{seeded, Ask, Random, PAIRS, WORKED, WORKED_SERIES};
 
 fn some_pixel(random: &mut Random) -> Pixel {
     Pixel { row: random.between(-2, 258), column: random.between(-2, 130) }
@@ -15,7 +15,7 @@ fn some_pixel(random: &mut Random) -> Pixel {
 /// Puts every question to a sheet, at a pixel and at a position.
 fn ask_all(ask: &mut Ask, sheet: &Sheet, pixel: Pixel, position: Position, height: u64) {
     let _ = ask.place(sheet, pixel);
-    if let Ok(position) = ask.position(sheet, pixel) {
+    for position in ask.position(sheet, pixel).into_iter().flatten() {
         let _ = ask.pixel(sheet, position);
     }
     let _ = ask.pixel(sheet, position);
@@ -49,9 +49,11 @@ fn changes_asked(test: &str, good: Sheet) {
         ask_all(&mut ask, &sheet, pixel, position, random.below(4) as u64);
         if sheet.read().is_ok() {
             for (row, column) in [(0, 0), (0, 127), (255, 0), (255, 127), (256, 0), (0, -1)] {
-                let corner = Pixel { row, column };
-                let position = good.position(corner).unwrap_or(position);
-                ask_all(&mut ask, &sheet, corner, position, 3);
+                let pixel = Pixel { row, column };
+                for pair in PAIRS {
+                    let position = good.position_in(pair, pixel).unwrap_or(position);
+                    ask_all(&mut ask, &sheet, pixel, position, 3);
+                }
             }
         }
     }
@@ -88,8 +90,9 @@ fn damaged_asked(test: &str, rounds: u32, maker: Maker) {
         let record = record(&mut random, series, 3);
         let mut card = card(series, &record);
         let good = rule::read(series, &card).expect("a good card");
-        let corner = Pixel { row: record.nll as i64, column: record.nus as i64 };
-        let corner = rule::position(&good, corner).expect("a pixel of the chart");
+        let last = Pixel { row: record.nll as i64, column: record.nus as i64 };
+        let last = PAIRS.map(|pair| rule::position(pair, &good, last));
+        let last = random.pick(&last).expect("a pixel of the chart");
         change_some(&mut random, &mut card);
         if round % 8 == 0 {
             series.scale = random.pick(&[series.scale, 0, 4_999, 20_000_001, u64::MAX]);
@@ -98,7 +101,7 @@ fn damaged_asked(test: &str, rounds: u32, maker: Maker) {
         }
         let sheet = Sheet { series, card: &card };
         let (pixel, position) = (some_pixel(&mut random), some_position(&mut random));
-        let position = random.pick(&[position, corner]);
+        let position = random.pick(&[position, last]);
         ask_all(&mut ask, &sheet, pixel, position, 1);
     }
     ask.met("place", &[0, 1, 2, 3, 6, 7, 8, 9, 10, 11, 12]);
@@ -128,12 +131,10 @@ fn every_pixel() {
     for row in -2..258 {
         for column in -2..130 {
             let pixel = Pixel { row, column };
-            let place = ask.place(&sheet, pixel);
-            let position = ask.position(&sheet, pixel);
-            assert_eq!(place.is_ok(), position.is_ok(), "no padding in the worked card");
-            if let Ok(position) = position {
-                assert_eq!(ask.pixel(&sheet, position), Ok(pixel));
-            }
+            ask.there_and_back(&sheet, pixel);
+            let inside = sheet.place(pixel).is_ok();
+            let answered = PAIRS.map(|pair| sheet.position_in(pair, pixel).is_ok());
+            assert_eq!(answered, [inside; 2], "no padding in the worked card");
         }
     }
     ask.met("place", &[0, 12]);

@@ -1,8 +1,8 @@
-//! (01, "Origins and the zone grid"; 02, E4 and E13)
+//! (01, "Origins and the zone grid"; 02, E4, E8 and E13)
 
 use super::{floor_div, in_range, modulo, nearest, non_polar, printed, refuse};
 use super::{Answer, H, LON_END, TILE};
-use fordcask::{Card, Offset, Origin, Pixel, Place, Position, Series};
+use fordcask::{Card, Offset, Origin, Pair, Pixel, Place, Position, Series};
 
 /// The angle a card stores for k tiles from the Equator or the zero meridian.
 pub fn stored_angle(k: i128, spacing: i128) -> i128 {
@@ -81,40 +81,55 @@ pub fn has_place(card: &Card, place: Place) -> Option<Pixel> {
     Some(Pixel { row, column })
 }
 
-/// Pixel to position: 12, 13.
-pub fn position(card: &Card, pixel: Pixel) -> Answer<Position> {
-    let (row, column) = (pixel.row as i128, pixel.column as i128);
-    in_chart(card, row, column)?;
-    let (a, b) = (card.spacing.a as i128, card.spacing.b as i128);
-    let lat = nearest((TILE * card.record.n as i128 - row) * H, b);
-    let mut lon = nearest((TILE * card.record.m as i128 + column) * H, a);
+/// A longitude brought into range by whole circles; the date line is −180°.
+fn by_whole_circles(lon: i128) -> i128 {
+    let mut lon = lon;
     while lon >= LON_END {
         lon -= H;
     }
     while lon < -LON_END {
         lon += H;
     }
-    Ok(Position { lat: lat as i64, lon: lon as i64 })
+    lon
 }
 
-/// Position to pixel: 4, 5, then 12, 13.
-pub fn pixel(card: &Card, position: Position) -> Answer<Pixel> {
+/// Pixel to position in one pair: 12, 13.
+pub fn position(pair: Pair, card: &Card, pixel: Pixel) -> Answer<Position> {
+    let (row, column) = (pixel.row as i128, pixel.column as i128);
+    in_chart(card, row, column)?;
+    let (a, b) = (card.spacing.a as i128, card.spacing.b as i128);
+    let up = TILE * card.record.n as i128 - row;
+    let east = TILE * card.record.m as i128 + column;
+    let (lat, lon) = match pair {
+        // the corner: (128n − r)H/B and (128m + c)H/A
+        Pair::Corner => (nearest(up * H, b), nearest(east * H, a)),
+        // the centre, half a pixel south and east of the corner (02, E8)
+        Pair::Centre => (nearest((2 * up - 1) * H, 2 * b), nearest((2 * east + 1) * H, 2 * a)),
+    };
+    Ok(Position { lat: lat as i64, lon: by_whole_circles(lon) as i64 })
+}
+
+/// Position to pixel in one pair: 4, 5, then 12, 13.
+pub fn pixel(pair: Pair, card: &Card, position: Position) -> Answer<Pixel> {
     in_range(position.lat, position.lon)?;
     let (a, b) = (card.spacing.a as i128, card.spacing.b as i128);
     let (lat, lon) = (position.lat as i128, position.lon as i128);
-    // 128n − lat × B/H and lon × A/H − 128m, both times H
+    // 128n − lat × B/H, and lon × A/H − 128m modulo A, both times H
     let down = TILE * card.record.n as i128 * H - lat * b;
-    let east = lon * a - TILE * card.record.m as i128 * H;
-    let row = nearest(down, H);
-    let column = modulo(nearest(modulo(east, a * H), H), a);
+    let east = modulo(lon * a - TILE * card.record.m as i128 * H, a * H);
+    let (row, column) = match pair {
+        Pair::Corner => (nearest(down, H), modulo(nearest(east, H), a)),
+        Pair::Centre => (floor_div(down, H), floor_div(east, H)),
+    };
     in_chart(card, row, column)?;
     Ok(Pixel { row: row as i64, column: column as i64 })
 }
 
-/// The overview pixel of a chart's pixel: the chart's 12, 13, then the overview's 12, 13 (02, E4).
+/// The overview pixel of a chart's pixel, in the corner pair (02, E4 and E8): the chart's 12, 13,
+/// then the overview's 12, 13.
 pub fn overview_pixel(chart: &Card, overview: &Card, asked: Pixel) -> Answer<Pixel> {
-    let there = position(chart, asked)?;
-    pixel(overview, there)
+    let there = position(Pair::Corner, chart, asked)?;
+    pixel(Pair::Corner, overview, there)
 }
 
 /// Offset from a centre: 4, 5 for the position, then 4, 5 for the centre.

@@ -1,5 +1,5 @@
-//! Document 01, with E3, E4, E5 and E13 of 02, written out a second time in plain loops, in i128
-//! arithmetic; in i64, u64 or usize only where the numbers have been checked and are small.
+//! Document 01, with E3, E4, E5, E8 and E13 of 02, written out a second time in plain loops, in
+//! i128 arithmetic; in i64, u64 or usize only where the numbers have been checked and are small.
 //! It knows nothing of the library but the types that carry the answers.
 // each test file uses a part of it
 #![allow(dead_code, unused_imports)]

@@ -4,7 +4,7 @@ use std::collections::{BTreeMap, BTreeSet};
 use std::fmt::Debug;
 
 use crate::rule;
-use fordcask::{Card, Offset, Origin, Position, Record, Refusal, Series, Spacing};
+use fordcask::{Card, Offset, Origin, Pair, Position, Record, Refusal, Series, Spacing};
 
 pub type Answer<T> = Result<T, Refusal>;
 
@@ -18,23 +18,48 @@ struct Tally {
     places: BTreeSet<(u32, u64)>,
 }
 
+/// What cases are counted by: a question, and the pair it was put in where it has pairs.
+#[derive(Clone, Copy, PartialEq, Eq, PartialOrd, Ord)]
+pub struct Question {
+    name: &'static str,
+    pair: &'static str,
+}
+
+impl From<&'static str> for Question {
+    fn from(name: &'static str) -> Question {
+        Question { name, pair: "" }
+    }
+}
+
+impl From<(&'static str, Pair)> for Question {
+    fn from((name, pair): (&'static str, Pair)) -> Question {
+        let pair = match pair {
+            Pair::Corner => "corner",
+            Pair::Centre => "centre",
+        };
+        Question { name, pair }
+    }
+}
+
 /// Asks both sides and keeps count.
 #[derive(Default)]
 pub struct Ask {
-    tallies: BTreeMap<&'static str, Tally>,
+    tallies: BTreeMap<Question, Tally>,
 }
 
 impl Ask {
     /// Compares two answers, counts the case and hands the answer on.
     pub fn same<T: PartialEq + Debug>(
         &mut self,
-        question: &'static str,
+        question: impl Into<Question>,
         call: impl FnOnce() -> String,
         library: Answer<T>,
         rule: Answer<T>,
     ) -> Answer<T> {
+        let question = question.into();
         if library != rule {
-            panic!("{question}\n  call    {}\n  library {library:?}\n  rule    {rule:?}", call());
+            let (name, call) = (question.name, call());
+            panic!("{name}\n  call    {call}\n  library {library:?}\n  rule    {rule:?}");
         }
         let (number, at) = match &library {
             Ok(_) => (0, 0),
@@ -45,28 +70,41 @@ impl Ask {
     }
 
     /// Counts a case; number 0 is an answer.
-    pub fn count(&mut self, question: &'static str, number: u32, at: u64) {
-        let tally = self.tallies.entry(question).or_default();
+    pub fn count(&mut self, question: impl Into<Question>, number: u32, at: u64) {
+        let tally = self.tallies.entry(question.into()).or_default();
         *tally.numbers.entry(number).or_default() += 1;
         if number != 15 {
             tally.places.insert((number, at));
         }
     }
 
-    /// The numbers met must be exactly these; 0 stands for an answer.
-    pub fn met(&self, question: &'static str, numbers: &[u32]) {
-        let tally = &self.tallies[question];
-        let met: Vec<u32> = tally.numbers.keys().copied().collect();
-        assert_eq!(met, numbers, "numbers met by {question}");
-        let cases: u64 = tally.numbers.values().sum();
-        println!("cases {question} {cases} {:?}", tally.numbers);
+    /// The tallies of a question: one, or one for each pair.
+    fn tallied(&self, name: &'static str) -> Vec<(&'static str, &Tally)> {
+        let named = self.tallies.iter().filter(|(question, _)| question.name == name);
+        let found: Vec<_> = named.map(|(question, tally)| (question.pair, tally)).collect();
+        let pairs: Vec<&str> = found.iter().map(|(pair, _)| *pair).collect();
+        assert!(pairs == [""] || pairs == ["centre", "corner"], "{name} asked in {pairs:?}");
+        found
     }
 
-    /// The places met with a number must be exactly these.
+    /// The numbers met must be exactly these, in each pair alone; 0 stands for an answer.
+    pub fn met(&self, question: &'static str, numbers: &[u32]) {
+        for (pair, tally) in self.tallied(question) {
+            let met: Vec<u32> = tally.numbers.keys().copied().collect();
+            let name = format!("{pair} {question}");
+            assert_eq!(met, numbers, "numbers met by {name}");
+            let cases: u64 = tally.numbers.values().sum();
+            println!("cases {} {cases} {:?}", name.trim_start(), tally.numbers);
+        }
+    }
+
+    /// The places met with a number must be exactly these, in each pair alone.
     pub fn met_at(&self, question: &'static str, number: u32, places: &[u64]) {
-        let all = &self.tallies[question].places;
-        let met: Vec<u64> = all.iter().filter(|p| p.0 == number).map(|p| p.1).collect();
-        assert_eq!(met, places, "places met by {question} with {number}");
+        for (pair, tally) in self.tallied(question) {
+            let all = tally.places.iter();
+            let met: Vec<u64> = all.filter(|p| p.0 == number).map(|p| p.1).collect();
+            assert_eq!(met, places, "places met by {pair} {question} with {number}");
+        }
     }
 
     pub fn spacing(&mut self, series: Series) -> Answer<Spacing> {

@@ -2,22 +2,26 @@
 
 use super::ask::Ask;
 use super::ask_sheet::shown;
+use super::PAIRS;
 use crate::rule;
-use fordcask::{Pixel, Position, Refusal, Sheet};
+use fordcask::{Pair, Pixel, Position, Refusal, Sheet};
 
 const SIX: Refusal = Refusal { number: 6, at: 0 };
 pub const OLD_POSITION: Position = Position { lat: 7, lon: 7 };
 const OLD_PIXEL: Pixel = Pixel { row: 7, column: 7 };
 
-/// A list's answer for one pair: the number and the pair, both 0 in a refusal.
-fn pair<T: Default>(answer: Result<T, Refusal>) -> (u32, T) {
+/// The lengths of the output and of its numbers.
+type Lengths = (usize, usize);
+
+/// A list's answer for one of its items: the number and the value, both 0 in a refusal.
+fn item<T: Default>(answer: Result<T, Refusal>) -> (u32, T) {
     match answer {
         Ok(value) => (0, value),
         Err(refusal) => (refusal.number, T::default()),
     }
 }
 
-/// What the list call should answer and leave, from the rule for each pair.
+/// What the list call should answer and leave, from the rule for each item.
 fn expected<F, T: Copy + Default>(
     sheet: &Sheet,
     from: &[F],
@@ -30,53 +34,71 @@ fn expected<F, T: Copy + Default>(
         return Err(SIX);
     }
     for (i, asked) in from.iter().enumerate() {
-        (numbers[i], to[i]) = pair(single(&card, asked));
+        (numbers[i], to[i]) = item(single(&card, asked));
     }
     Ok(())
 }
 
-/// Asks for positions with these lengths of output, and compares every buffer whole.
-pub fn positions(ask: &mut Ask, sheet: &Sheet, pixels: &[Pixel], out: usize, numbers_len: usize) {
-    let call = || format!("{} positions({pixels:?}, {out}, {numbers_len})", shown(sheet));
-    let (mut found, mut numbers) = (vec![OLD_POSITION; out], vec![77; numbers_len]);
-    let (mut right, mut right_numbers) = (found.clone(), numbers.clone());
-    let library = sheet.positions(pixels, &mut found, &mut numbers);
-    let rule = expected(sheet, pixels, &mut right, &mut right_numbers, |card, pixel| {
-        rule::position(card, *pixel)
+/// Asks for positions with these lengths of output in one pair; every buffer is compared whole.
+fn positions_in(ask: &mut Ask, pair: Pair, sheet: &Sheet, pixels: &[Pixel], lengths: Lengths) {
+    let call = || format!("{} {pair:?} positions({pixels:?}, {lengths:?})", shown(sheet));
+    let before = (vec![OLD_POSITION; lengths.0], vec![77; lengths.1]);
+    let mut right = before.clone();
+    let rule = expected(sheet, pixels, &mut right.0, &mut right.1, |card, pixel| {
+        rule::position(pair, card, *pixel)
     });
-    assert_eq!(found, right, "positions of {}", call());
-    assert_eq!(numbers, right_numbers, "numbers of {}", call());
-    if ask.same("positions", call, library, rule).is_ok() {
+    let mut found = before.clone();
+    let library = sheet.positions_in(pair, pixels, &mut found.0, &mut found.1);
+    assert_eq!(found, right, "buffers of {}", call());
+    if pair == Pair::Centre {
+        let mut unnamed = before;
+        let given = sheet.positions(pixels, &mut unnamed.0, &mut unnamed.1);
+        assert_eq!((given, unnamed), (rule, right), "no pair named: {}", call());
+    }
+    if ask.same(("positions", pair), call, library, rule).is_ok() {
         for (i, pixel) in pixels.iter().enumerate() {
-            let single = pair(sheet.position(*pixel));
-            assert_eq!((numbers[i], found[i]), single, "single call, {}", call());
-            ask.count("pairs of positions", numbers[i], 0);
+            let single = item(sheet.position_in(pair, *pixel));
+            assert_eq!((found.1[i], found.0[i]), single, "single call, {}", call());
+            ask.count(("listed positions", pair), found.1[i], 0);
         }
     }
 }
 
-/// Asks for pixels with these lengths of output, and compares every buffer whole.
-pub fn pixels(
-    ask: &mut Ask,
-    sheet: &Sheet,
-    positions: &[Position],
-    out: usize,
-    numbers_len: usize,
-) {
-    let call = || format!("{} pixels({positions:?}, {out}, {numbers_len})", shown(sheet));
-    let (mut found, mut numbers) = (vec![OLD_PIXEL; out], vec![77; numbers_len]);
-    let (mut right, mut right_numbers) = (found.clone(), numbers.clone());
-    let library = sheet.pixels(positions, &mut found, &mut numbers);
-    let rule = expected(sheet, positions, &mut right, &mut right_numbers, |card, position| {
-        rule::pixel(card, *position)
+/// Asks for pixels with these lengths of output in one pair; every buffer is compared whole.
+fn pixels_in(ask: &mut Ask, pair: Pair, sheet: &Sheet, positions: &[Position], lengths: Lengths) {
+    let call = || format!("{} {pair:?} pixels({positions:?}, {lengths:?})", shown(sheet));
+    let before = (vec![OLD_PIXEL; lengths.0], vec![77; lengths.1]);
+    let mut right = before.clone();
+    let rule = expected(sheet, positions, &mut right.0, &mut right.1, |card, position| {
+        rule::pixel(pair, card, *position)
     });
-    assert_eq!(found, right, "pixels of {}", call());
-    assert_eq!(numbers, right_numbers, "numbers of {}", call());
-    if ask.same("pixels", call, library, rule).is_ok() {
+    let mut found = before.clone();
+    let library = sheet.pixels_in(pair, positions, &mut found.0, &mut found.1);
+    assert_eq!(found, right, "buffers of {}", call());
+    if pair == Pair::Centre {
+        let mut unnamed = before;
+        let given = sheet.pixels(positions, &mut unnamed.0, &mut unnamed.1);
+        assert_eq!((given, unnamed), (rule, right), "no pair named: {}", call());
+    }
+    if ask.same(("pixels", pair), call, library, rule).is_ok() {
         for (i, position) in positions.iter().enumerate() {
-            let single = pair(sheet.pixel(*position));
-            assert_eq!((numbers[i], found[i]), single, "single call, {}", call());
-            ask.count("pairs of pixels", numbers[i], 0);
+            let single = item(sheet.pixel_in(pair, *position));
+            assert_eq!((found.1[i], found.0[i]), single, "single call, {}", call());
+            ask.count(("listed pixels", pair), found.1[i], 0);
         }
+    }
+}
+
+/// Asks for positions in both pairs, with outputs of this length and these numbers.
+pub fn positions(ask: &mut Ask, sheet: &Sheet, pixels: &[Pixel], out: usize, numbers: usize) {
+    for pair in PAIRS {
+        positions_in(ask, pair, sheet, pixels, (out, numbers));
+    }
+}
+
+/// Asks for pixels in both pairs, with outputs of this length and these numbers.
+pub fn pixels(ask: &mut Ask, sheet: &Sheet, positions: &[Position], out: usize, numbers: usize) {
+    for pair in PAIRS {
+        pixels_in(ask, pair, sheet, positions, (out, numbers));
     }
 }

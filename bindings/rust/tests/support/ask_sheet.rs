@@ -2,7 +2,7 @@
 
 use super::ask::{Answer, Ask};
 use crate::rule;
-use fordcask::{Bands, Card, Pixel, Place, Position, Sheet, Tiles, Window};
+use fordcask::{Bands, Card, Pixel, Place, Sheet, Tiles, Window};
 
 /// A sheet as it is shown in a message.
 pub fn shown(sheet: &Sheet) -> String {
@@ -11,7 +11,8 @@ pub fn shown(sheet: &Sheet) -> String {
     format!("{} times {} zone {} b\"{card}\"", series.scale, series.factor, series.zone)
 }
 
-fn read(sheet: &Sheet) -> Answer<Card> {
+/// The card as the rule reads it.
+pub fn read(sheet: &Sheet) -> Answer<Card> {
     rule::read(sheet.series, sheet.card)
 }
 
@@ -20,18 +21,6 @@ impl Ask {
         let call = || format!("{} place({pixel:?})", shown(sheet));
         let rule = read(sheet).and_then(|card| rule::place(&card, pixel));
         self.same("place", call, sheet.place(pixel), rule)
-    }
-
-    pub fn position(&mut self, sheet: &Sheet, pixel: Pixel) -> Answer<Position> {
-        let call = || format!("{} position({pixel:?})", shown(sheet));
-        let rule = read(sheet).and_then(|card| rule::position(&card, pixel));
-        self.same("position", call, sheet.position(pixel), rule)
-    }
-
-    pub fn pixel(&mut self, sheet: &Sheet, position: Position) -> Answer<Pixel> {
-        let call = || format!("{} pixel({position:?})", shown(sheet));
-        let rule = read(sheet).and_then(|card| rule::pixel(&card, position));
-        self.same("pixel", call, sheet.pixel(position), rule)
     }
 
     /// Both cards are read before the pixel is looked at, the chart's first (02, E4).
@@ -47,15 +36,6 @@ impl Ask {
             rule::overview_pixel(&card, &overview, pixel)
         });
         self.same("overview_pixel", call, chart.overview_pixel(overview, pixel), rule)
-    }
-
-    /// Place and position of a pixel, and the pixel again from the position.
-    pub fn there_and_back(&mut self, sheet: &Sheet, pixel: Pixel) {
-        let _ = self.place(sheet, pixel);
-        if let Ok(position) = self.position(sheet, pixel) {
-            assert!(position.lon < 64_800_000, "+180 is answered as -180");
-            assert_eq!(self.pixel(sheet, position), Ok(pixel), "there and back");
-        }
     }
 
     /// The marks, filled with 7 before, are compared whole.

@@ -1,19 +1,30 @@
-//! Demand 3 by running: a point asked down a list of cards of one scale, zone and factor.
+//! Demand 3 by running, in each pair alone: a point asked down a list of cards of one scale, zone
+//! and factor.
 //! The place is the rule's, worked out from the first pixel alone and never rounded.
 
 use super::ask_sheet::shown;
 use super::make::{all_chart, card, pixel, record, with_edges};
 use super::random::Random;
+use super::PAIRS;
 use crate::rule;
-use fordcask::{Card, Pixel, Place, Position, Refusal, Series, Sheet};
+use fordcask::{Card, Pair, Pixel, Place, Position, Refusal, Series, Sheet};
 
 /// How the calls of the later cards ended.
-#[derive(Default, Debug)]
+#[derive(Default, Debug, PartialEq)]
 pub struct Ends {
     pub lists: u64,
     pub answered: u64,
     pub outside: u64,
     pub padding: u64,
+}
+
+impl Ends {
+    fn add(&mut self, other: &Ends) {
+        self.lists += other.lists;
+        self.answered += other.answered;
+        self.outside += other.outside;
+        self.padding += other.padding;
+    }
 }
 
 /// The pixel of the card's tiles that has the place; there is at most one, as 128 × NFC ≤ A.
@@ -64,31 +75,50 @@ pub fn over(random: &mut Random, series: Series, position: Position) -> Vec<u8> 
     cut(random, series, place_at(series, position))
 }
 
-/// The calls of demand 3 down one list; each answer is held to the first pixel's place.
-pub fn walk(series: Series, cards: &[Vec<u8>], first: Pixel, ends: &mut Ends) {
+/// Whether a position is within half a hundredth of a place, its corner or its centre.
+pub fn near_place(pair: Pair, series: Series, place: Place, position: Position) -> bool {
+    let (a, b) = rule::non_polar(series).expect("a spacing");
+    let (lat, lon) = (i128::from(position.lat), i128::from(position.lon));
+    // the exact place in half pixels north and east
+    let (mut north, mut east) = (2 * i128::from(place.row), 2 * i128::from(place.column));
+    if pair == Pair::Centre {
+        (north, east) = (north - 1, east + 1);
+    }
+    let down = (2 * lat * b - north * rule::H).abs();
+    let circle = 2 * a * rule::H;
+    let across = rule::modulo(2 * lon * a - east * rule::H, circle);
+    down <= b && across.min(circle - across) <= a
+}
+
+/// The calls of demand 3 down one list in one pair; each answer is held to the first pixel's place.
+pub fn walk(pair: Pair, series: Series, cards: &[Vec<u8>], first: Pixel) -> Ends {
+    let mut ends = Ends::default();
     let sheets = || cards.iter().map(|card| Sheet { series, card });
     let head = sheets().next().expect("a first card");
     let head_card = rule::read(series, head.card).expect("an accepted card");
     let place = rule::place(&head_card, first).expect("a pixel of the tiles");
-    let Ok(start) = head.position(first) else {
-        return;
+    let Ok(start) = head.position_in(pair, first) else {
+        return ends;
     };
+    assert!(near_place(pair, series, place, start), "{pair:?} {} {first:?}", shown(&head));
     ends.lists += 1;
     let mut last = start;
     for sheet in sheets().skip(1) {
-        let call = || format!("{} from {}, {first:?}, {last:?}", shown(&sheet), shown(&head));
+        let call =
+            || format!("{pair:?} {} from {}, {first:?}, {last:?}", shown(&sheet), shown(&head));
         let card = rule::read(series, sheet.card).expect("an accepted card");
-        match sheet.pixel(last) {
+        match sheet.pixel_in(pair, last) {
             Ok(found) => {
                 ends.answered += 1;
                 let found_place = rule::place(&card, found);
                 assert_eq!(found_place, Ok(place), "place: {}", call());
-                assert_eq!(sheet.position(found), Ok(start), "position: {}", call());
-                last = sheet.position(found).expect("a position");
+                assert_eq!(sheet.position_in(pair, found), Ok(start), "position: {}", call());
+                last = sheet.position_in(pair, found).expect("a position");
             }
-            Err(refusal) => refused(&card, place, refusal, ends, call()),
+            Err(refusal) => refused(&card, place, refusal, &mut ends, call()),
         }
     }
+    ends
 }
 
 /// 12 exactly where no pixel of the card's tiles has the place, else 13 and a padding pixel.
@@ -102,13 +132,13 @@ fn refused(card: &Card, place: Place, refusal: Refusal, ends: &mut Ends, call: S
         None => ends.outside += 1,
         Some(pixel) => {
             ends.padding += 1;
-            let padding = rule::position(card, pixel).map_err(|r| r.number);
+            let padding = rule::position(Pair::Corner, card, pixel).map_err(|r| r.number);
             assert_eq!(padding, Err(13), "a pixel of the padding: {call}");
         }
     }
 }
 
-/// A list of 2 to 8 cards round a pixel of the first; a card may be repeated.
+/// A list of 2 to 8 cards round a pixel of the first, in each pair alone; a card may be repeated.
 pub fn list(random: &mut Random, series: Series, ends: &mut Ends) {
     let record = record(random, series, 4);
     let first = pixel(random, &record);
@@ -128,5 +158,28 @@ pub fn list(random: &mut Random, series: Series, ends: &mut Ends) {
         };
         cards.push(next);
     }
-    walk(series, &cards, first, ends);
+    let [corner, centre] = PAIRS.map(|pair| walk(pair, series, &cards, first));
+    assert_eq!(corner, centre, "the place alone tells how each call ends");
+    ends.add(&corner);
+}
+
+/// Every pixel of 4 by 5 tiles asked of 4 by 4, one down and two across; 12 outside these.
+pub fn common_pixels(pair: Pair, head: &Sheet, other: &Sheet) -> u64 {
+    let mut common = 0;
+    for row in 0..512 {
+        for column in 0..640 {
+            let position = head.position_in(pair, Pixel { row, column }).expect("a pixel");
+            let expected = Pixel { row: row - 128, column: column - 256 };
+            let inside = expected.row >= 0 && expected.column >= 0;
+            let found = other.pixel_in(pair, position);
+            let right = if inside { Ok(expected) } else { Err(Refusal { number: 12, at: 0 }) };
+            assert_eq!(found, right, "{pair:?} {row} {column}");
+            if inside {
+                common += 1;
+                let again = other.position_in(pair, expected);
+                assert_eq!(again, Ok(position), "{pair:?} {row} {column}");
+            }
+        }
+    }
+    common
 }

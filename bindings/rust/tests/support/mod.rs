@@ -6,7 +6,9 @@ pub mod angles;
 pub mod ask;
 pub mod ask_all;
 pub mod ask_lists;
+pub mod ask_pairs;
 pub mod ask_sheet;
+pub mod contain;
 pub mod cuts;
 pub mod damage;
 pub mod edges;
@@ -15,10 +17,13 @@ pub mod index;
 pub mod make;
 pub mod random;
 
-use fordcask::Series;
+use fordcask::{Pair, Series};
 
 pub use ask::{Ask, RETIRED};
 pub use random::{seeded, Random};
+
+/// Both pairs of questions (02, E8).
+pub const PAIRS: [Pair; 2] = [Pair::Corner, Pair::Centre];
 
 /// The worked card of document 01, for 1:1,000,000 zone 1.
 pub const WORKED: &[u8; 98] = b"30036966400400384-0022935.07+113032.23000000000127000255000000\
