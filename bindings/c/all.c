@@ -186,12 +186,30 @@ static void position(const uint8_t *bytes, int64_t row, int64_t column)
     printf(" %" PRId64 " %" PRId64 "\n", p.lat, p.lon);
 }
 
+static void corner_position(const uint8_t *bytes, int64_t row, int64_t column)
+{
+    struct fordcask_position p =
+        fordcask_corner_position(charts, bytes, CARD, row, column);
+
+    start("corner_position", p.number, p.at);
+    printf(" %" PRId64 " %" PRId64 "\n", p.lat, p.lon);
+}
+
 static void pixel(const uint8_t *bytes, int64_t lat, int64_t lon)
 {
     struct fordcask_pixel p =
         fordcask_pixel(charts, bytes, CARD, lat, lon);
 
     start("pixel", p.number, p.at);
+    printf(" %" PRId64 " %" PRId64 "\n", p.row, p.column);
+}
+
+static void corner_pixel(const uint8_t *bytes, int64_t lat, int64_t lon)
+{
+    struct fordcask_pixel p =
+        fordcask_corner_pixel(charts, bytes, CARD, lat, lon);
+
+    start("corner_pixel", p.number, p.at);
     printf(" %" PRId64 " %" PRId64 "\n", p.row, p.column);
 }
 
@@ -252,31 +270,31 @@ static void window(const uint8_t *bytes, const uint32_t *index, size_t length,
 }
 
 /* Both outputs are filled with 7 before; length is that of the list. */
-static void positions(size_t length)
+static void positions(int corner, size_t length)
 {
     static const int64_t pixels[8] = {5, 3, 250, 370, 4, 3, 0, 384};
     int64_t out[9] = {7, 7, 7, 7, 7, 7, 7, 7, 7};
     uint32_t numbers[5] = {7, 7, 7, 7, 7};
     struct fordcask_refusal r =
-        fordcask_positions(charts, padded_card, CARD, pixels, length, out,
-                           9, numbers, 5);
+        (corner ? fordcask_corner_positions : fordcask_positions)(
+            charts, padded_card, CARD, pixels, length, out, 9, numbers, 5);
 
-    start("positions", r.number, r.at);
+    start(corner ? "corner_positions" : "positions", r.number, r.at);
     print_pairs(out, 9, numbers, 5);
 }
 
-static void pixels(size_t length)
+static void pixels(int corner, size_t length)
 {
     static const int64_t places[10] = {4142899,  -897156, 0, 64800001,
                                        32400001, 0,       0, 0,
                                        4141604,  -896454};
     int64_t out[11] = {7, 7, 7, 7, 7, 7, 7, 7, 7, 7, 7};
     uint32_t numbers[6] = {7, 7, 7, 7, 7, 7};
-    struct fordcask_refusal r = fordcask_pixels(charts, padded_card, CARD,
-                                                places, length, out, 11,
-                                                numbers, 6);
+    struct fordcask_refusal r =
+        (corner ? fordcask_corner_pixels : fordcask_pixels)(
+            charts, padded_card, CARD, places, length, out, 11, numbers, 6);
 
-    start("pixels", r.number, r.at);
+    start(corner ? "corner_pixels" : "pixels", r.number, r.at);
     print_pairs(out, 11, numbers, 6);
 }
 
@@ -369,18 +387,31 @@ static void grid(void)
     position(card, 255, 127);
     position(card, 256, 0);
     position(padded_card, 4, 3);
+    corner_position(card, 0, 0);
+    corner_position(card, 1, 1);
+    corner_position(card, 255, 127);
+    corner_position(card, 256, 0);
+    corner_position(padded_card, 4, 3);
+    pixel(card, 4142737, -896981);
     pixel(card, 4142899, -897156);
     pixel(card, 32400001, 0);
     pixel(padded_card, 4142899, -897156);
+    corner_pixel(card, 4142899, -897156);
+    corner_pixel(card, 32400001, 0);
+    corner_pixel(padded_card, 4142899, -897156);
     overview_pixel(card, overview_card, CARD, 255, 127);
     overview_pixel(padded_card, overview_card, CARD, 4, 3);
     overview_pixel(padded_card, overview_card, CARD, 256, 0);
     overview_pixel(card, overview_card, CARD - 1, 256, 0);
     overview_pixel(card, card, CARD, 0, 0);
-    positions(8);
-    positions(7);
-    pixels(10);
-    pixels(9);
+    positions(0, 8);
+    positions(0, 7);
+    positions(1, 8);
+    positions(1, 7);
+    pixels(0, 10);
+    pixels(0, 9);
+    pixels(1, 10);
+    pixels(1, 9);
 }
 
 static void tiles(void)

@@ -1,5 +1,5 @@
 /* The worked example of document 01: four pixels of one card, and a position
-   back to its pixel. */
+   back to its pixel, in the corner pair; then the centre pair on one pixel. */
 
 #include <inttypes.h>
 #include <stdio.h>
@@ -25,13 +25,14 @@ int main(void)
     static const int64_t pixels[4][2] = {{0, 0}, {1, 1}, {255, 127}, {256, 0}};
     const uint8_t *bytes = (const uint8_t *)card;
     struct fordcask_series series = {1000000, 1, 1};
+    struct fordcask_position centre;
     struct fordcask_pixel back;
     size_t i;
 
     printf("row column latitude longitude\n");
     for (i = 0; i < 4; i++) {
         int64_t row = pixels[i][0], column = pixels[i][1];
-        struct fordcask_position found = fordcask_position(
+        struct fordcask_position found = fordcask_corner_position(
             series, bytes, FORDCASK_CARD_LENGTH, row, column);
 
         printf("%" PRId64 " %" PRId64, row, column);
@@ -44,9 +45,18 @@ int main(void)
         }
     }
 
-    back = fordcask_pixel(series, bytes, FORDCASK_CARD_LENGTH, 4142899,
-                          -897156);
+    back = fordcask_corner_pixel(series, bytes, FORDCASK_CARD_LENGTH, 4142899,
+                                 -897156);
     printf("back %" PRIu32 " %" PRId64 " %" PRId64 "\n", back.number, back.row,
            back.column);
+
+    centre = fordcask_position(series, bytes, FORDCASK_CARD_LENGTH, 1, 1);
+    printf("centre");
+    print_angle(centre.lat, 2);
+    print_angle(centre.lon, 3);
+    back = fordcask_pixel(series, bytes, FORDCASK_CARD_LENGTH, centre.lat,
+                          centre.lon);
+    printf("\nback %" PRIu32 " %" PRId64 " %" PRId64 "\n", back.number,
+           back.row, back.column);
     return 0;
 }

@@ -45,7 +45,8 @@
    the rest is padding. Subfields of a card named below:
 
       ARV, BRV   A and B
-      LSO        longitude of the origin, the upper left pixel, +-DDDMMSS.SS
+      LSO        longitude of the origin, the tiles' upper left corner,
+                 +-DDDMMSS.SS
       PSO        latitude of the origin, +-DDMMSS.SS
       NUL, NLL   the chart's top and bottom row
       NLS, NUS   the chart's left and right column
@@ -324,8 +325,8 @@ struct fordcask_position fordcask_corner_position(struct fordcask_series series,
 
 /* The pixel of the chart that contains a position. lat and lon in hundredths
    of an arc-second, latitude -32400000..32400000, longitude
-   -64800000..64800000. Latitude -32400000 lies in no pixel. Refuses 4, 5, 12,
-   13. */
+   -64800000..64800000. Latitude -32400000 lies in no pixel: 12. Refuses 4, 5,
+   12, 13. */
 struct fordcask_pixel fordcask_pixel(struct fordcask_series series,
                                      const uint8_t *card, size_t card_len,
                                      int64_t lat, int64_t lon);
@@ -339,14 +340,13 @@ struct fordcask_pixel fordcask_corner_pixel(struct fordcask_series series,
 
 /* The overview pixel of a chart's pixel: the pixel of the overview's card at
    the position of pixel (row, column) of the chart's card, both in the corner
-   pair. series and card are
-   the chart's, overview_series and overview_card the overview's; the two need
-   not fit. row 0..128 x NFL - 1 and column 0..128 x NFC - 1 of the chart's
-   card, else 12; row NUL..NLL and column NLS..NUS, else 13; the pixel answered
-   has the same ranges on the overview's card. Refuses what reading the chart's
-   card refuses, then what reading the overview's card refuses, then 12, 13 of
-   the chart's card, then 12, 13 of the overview's; number and place do not
-   tell which card was refused. */
+   pair. series and card are the chart's, overview_series and overview_card the
+   overview's; the two need not fit. row 0..128 x NFL - 1 and column
+   0..128 x NFC - 1 of the chart's card, else 12; row NUL..NLL and column
+   NLS..NUS, else 13; the pixel answered has the same ranges on the overview's
+   card. Refuses what reading the chart's card refuses, then what reading the
+   overview's card refuses, then 12, 13 of the chart's card, then 12, 13 of the
+   overview's; number and place do not tell which card was refused. */
 struct fordcask_pixel fordcask_overview_pixel(struct fordcask_series series,
                                               const uint8_t *card,
                                               size_t card_len,
@@ -407,12 +407,13 @@ struct fordcask_window fordcask_window(struct fordcask_series series,
                                        uint64_t top, uint64_t left,
                                        uint64_t height, uint64_t width);
 
-/* The positions of many pixels. pixels: row, column, row, column, ..., rows
-   NUL..NLL and columns NLS..NUS; positions: lat, lon, lat, lon, ... in
-   hundredths of an arc-second; one number for each pair. numbers[i] is 0 and
-   pair i the answer of fordcask_position, or numbers[i] is 12 or 13 and the
-   pair is 0, 0. What lies past the pairs stays. Refuses 6 where pixels_len is
-   odd, positions_len is below it, or numbers_len is below half of it. */
+/* The positions of the centres of many pixels. pixels: row, column, row,
+   column, ..., rows NUL..NLL and columns NLS..NUS; positions: lat, lon, lat,
+   lon, ... in hundredths of an arc-second. Entry i is elements 2i and 2i + 1,
+   and there is one number for each. numbers[i] is 0 and entry i the answer of
+   fordcask_position, or numbers[i] is 12 or 13 and the entry is 0, 0. What
+   lies past the entries stays. Refuses 6 where pixels_len is odd,
+   positions_len is below it, or numbers_len is below half of it. */
 struct fordcask_refusal fordcask_positions(struct fordcask_series series,
                                            const uint8_t *card,
                                            size_t card_len,
@@ -423,7 +424,7 @@ struct fordcask_refusal fordcask_positions(struct fordcask_series series,
                                            uint32_t *numbers,
                                            size_t numbers_len);
 
-/* The same in the corner pair: pair i is the answer of
+/* The same in the corner pair: entry i is the answer of
    fordcask_corner_position. */
 struct fordcask_refusal
 fordcask_corner_positions(struct fordcask_series series, const uint8_t *card,
@@ -432,13 +433,14 @@ fordcask_corner_positions(struct fordcask_series series, const uint8_t *card,
                           size_t positions_len, uint32_t *numbers,
                           size_t numbers_len);
 
-/* The pixels at many positions. positions: lat, lon, lat, lon, ... in
-   hundredths of an arc-second, latitude -32400000..32400000, longitude
-   -64800000..64800000; pixels: row, column, row, column, ...; one number for
-   each pair. numbers[i] is 0 and pair i the answer of fordcask_pixel, or
-   numbers[i] is 4, 5, 12 or 13 and the pair is 0, 0. What lies past the pairs
-   stays. Refuses 6 where positions_len is odd, pixels_len is below it, or
-   numbers_len is below half of it. */
+/* The pixels that contain many positions. positions: lat, lon, lat, lon, ...
+   in hundredths of an arc-second, latitude -32400000..32400000, longitude
+   -64800000..64800000; pixels: row, column, row, column, .... Entry i is
+   elements 2i and 2i + 1, and there is one number for each. numbers[i] is 0
+   and entry i the answer of fordcask_pixel, or numbers[i] is 4, 5, 12 or 13
+   and the entry is 0, 0. What lies past the entries stays. Refuses 6 where
+   positions_len is odd, pixels_len is below it, or numbers_len is below half
+   of it. */
 struct fordcask_refusal fordcask_pixels(struct fordcask_series series,
                                         const uint8_t *card, size_t card_len,
                                         const int64_t *positions,
@@ -446,7 +448,7 @@ struct fordcask_refusal fordcask_pixels(struct fordcask_series series,
                                         size_t pixels_len, uint32_t *numbers,
                                         size_t numbers_len);
 
-/* The same in the corner pair: pair i is the answer of
+/* The same in the corner pair: entry i is the answer of
    fordcask_corner_pixel. */
 struct fordcask_refusal
 fordcask_corner_pixels(struct fordcask_series series, const uint8_t *card,

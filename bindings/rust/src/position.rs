@@ -49,7 +49,7 @@ pub fn offset(position: Position, centre: Position) -> Result<Offset, Refusal> {
     answer(given.number, given.at, value)
 }
 
-// Both pairs are lent to the library as two i64 each.
+// Both are lent to the library as two i64 each.
 const _: () = assert!(size_of::<Position>() == 2 * size_of::<i64>());
 const _: () = assert!(align_of::<Position>() == align_of::<i64>());
 const _: () = assert!(size_of::<Pixel>() == 2 * size_of::<i64>());

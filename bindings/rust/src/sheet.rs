@@ -77,9 +77,10 @@ impl Sheet<'_> {
         answer(given.number, given.at, value)
     }
 
-    /// The pixel of `overview` at the position of a pixel of this sheet, the chart, both in the corner
-    /// pair. The two need not fit: any two accepted cards are served. The refusals of [`read_card`] for the chart's
-    /// card, then for the overview's; then 12, 13 of the chart, then 12, 13 of the overview.
+    /// The pixel of `overview` at the position of a pixel of this sheet, the chart, both in the
+    /// corner pair. The two need not fit: any two accepted cards are served. The refusals of
+    /// [`read_card`] for the chart's card, then for the overview's; then 12, 13 of the chart, then
+    /// 12, 13 of the overview.
     pub fn overview_pixel(&self, overview: &Sheet, pixel: Pixel) -> Result<Pixel, Refusal> {
         // SAFETY: each pointer and length are those of one slice; both slices are only read.
         let given = unsafe {

@@ -11,9 +11,9 @@ mod cards;
 mod indexes;
 mod lent;
 mod list;
+mod listed;
 mod look_up;
 mod overview;
-mod pairs;
 mod plain;
 mod print;
 mod record;
@@ -73,7 +73,7 @@ fn asked(line: &[u8], store: &[u8]) -> bool {
     if cards::asked(name, line, at) {
         return true;
     }
-    if pairs::asked(name, line, at) {
+    if listed::asked(name, line, at) {
         return true;
     }
     indexes::asked(name, line, at, store)

@@ -31,7 +31,7 @@ use Rattle.card.proofs.Copies.{placed, place-alike}
 
 -- ---- the extents of cards that answer alike
 
-module _ (j k : Card) (l : Laid j) (h : Alike j k) where
+module _ (pair : Pair) (j k : Card) (l : Laid j) (h : Alike pair j k) where
   tiles-kept : (r c : ℤ) → inTiles j r c ≡ true → inTiles k r c ≡ true
   unfolding placeOf
   tiles-kept r c t = go (inTiles k r c) (sym (placed j r c t) ∙ h .place r c)
@@ -80,11 +80,11 @@ record Covers (j k : Card) : Type 0 where
   pub down : j .nfl ≤ k .nfl
   pub across : j .nfc ≤ k .nfc
 
-covers : (j k : Card) → Laid j → Alike j k → Covers j k
-covers j k l h =
-    let x = chart-fits j k l h (j .nul) (j .nls) (omega arith) (l .top-down) (omega arith) (l .left-right) in
-    let y = chart-fits j k l h (j .nll) (j .nus) (l .top-down) (omega arith) (l .left-right) (omega arith) in
-    let z = tiles-fit j k l h (128 * j .nfl - 1) (128 * j .nfc - 1) (omega (arith, l .down-some)) (omega (arith, l .across-some)) in
+covers : (pair : Pair) (j k : Card) → Laid j → Alike pair j k → Covers j k
+covers pair j k l h =
+    let x = chart-fits pair j k l h (j .nul) (j .nls) (omega arith) (l .top-down) (omega arith) (l .left-right) in
+    let y = chart-fits pair j k l h (j .nll) (j .nus) (l .top-down) (omega arith) (l .left-right) (omega arith) in
+    let z = tiles-fit pair j k l h (128 * j .nfl - 1) (128 * j .nfc - 1) (omega (arith, l .down-some)) (omega (arith, l .across-some)) in
     record {
       top = x .0;
       left = x .2;
@@ -94,13 +94,13 @@ covers j k l h =
       across = omega (arith, z .1);
     }
 
-extents-alike : (j k : Card) → Laid j → Laid k → Alike j k → extentsOf j ≡ extentsOf k
-extents-alike j k l l′ h =
-    let x = covers j k l h in
-    let y = covers k j l′ (record {
+extents-alike : (pair : Pair) (j k : Card) → Laid j → Laid k → Alike pair j k → extentsOf j ≡ extentsOf k
+extents-alike pair j k l l′ h =
+    let x = covers pair j k l h in
+    let y = covers pair k j l′ (record {
       place = λ r c. sym (h .place r c);
-      position = λ pair r c. sym (h .position pair r c);
-      pixel = λ pair r c. sym (h .pixel pair r c);
+      position = λ r c. sym (h .position r c);
+      pixel = λ r c. sym (h .pixel r c);
       verdict = λ r c. sym (h .verdict r c);
     }) in
     let nul : j .nul ≡ k .nul = omega (arith, x .top, y .top) in
@@ -229,12 +229,12 @@ module _ (series : Series) (j k : Card) (p : Accepted series j) (q : Accepted se
             let c = columnOf pair k lon in
             rw (o, row-alike pair lat, column-alike pair lon o, tiles-alike r c, chart-alike r c)
 
-    answers : Alike j k
-    answers =
+    answers : (pair : Pair) → Alike pair j k
+    answers pair =
         record {
           place = place-answers;
-          position = position-answers;
-          pixel = pixel-answers;
+          position = position-answers pair;
+          pixel = pixel-answers pair;
           verdict = λ r c. rw (tiles-alike r c, chart-alike r c);
         }
 
@@ -242,18 +242,18 @@ corner : (k : Card) → Laid k → inTiles k (pos 0) (pos 0) ≡ true
 corner k l = rw (lt-ltb 0 (128 * k .nfl) (omega (arith, l .down-some)), lt-ltb 0 (128 * k .nfc) (omega (arith, l .across-some)))
 
 pub answer-alike : AnswerAlike
-answer-alike series j k p q h =
+answer-alike pair series j k p q h =
     answers series j k p q (ap (λ (n : ℤ). pos 128 *ℤ n -ℤ pos 0) (h .same-n))
-    (ap₂ (λ (m : ℤ) (a : ℕ). modulo (pos 128 *ℤ m +ℤ pos 0) a) (h .same-m) (sym (same-spacing series j k p q .0))) (h .same-extents)
+    (ap₂ (λ (m : ℤ) (a : ℕ). modulo (pos 128 *ℤ m +ℤ pos 0) a) (h .same-m) (sym (same-spacing series j k p q .0))) (h .same-extents) pair
 
 pub alike-exactly : AlikeExactly
-alike-exactly series j k p q =
+alike-exactly pair series j k p q =
     let x = accepted-laid series j p in
     let y = accepted-laid series k q in (
-      (λ h. (h .place (pos 0) (pos 0), extents-alike j k x y h)),
+      (λ h. (h .place (pos 0) (pos 0), extents-alike pair j k x y h)),
       (λ h.
           let e = sym (placed j (pos 0) (pos 0) (corner j x)) ∙ h .0 ∙ placed k (pos 0) (pos 0) (corner k y) in
           let row : placeRow j (pos 0) ≡ placeRow k (pos 0) = cc in
           let column : placeColumn j (pos 0) ≡ placeColumn k (pos 0) = cc in
-          answers series j k p q row column (h .1)),
+          answers series j k p q row column (h .1) pair),
     )

@@ -1,7 +1,7 @@
 -- What makes two cards copies of one chart as far as any answer goes, and what a stored angle rounded again is worth
 -- (01, "Origins and the zone grid"; 02, E8). Definitions and claims; the proof is proofs/Copies.antt, and of AnswerAlike and AlikeExactly proofs/Alike.antt.
 --     Copies j k             the same n and m, and the same extents: BAD and TIF may differ
---     Alike j k              every question on a pixel or a position is answered alike, in either pair
+--     Alike p j k            every question on a pixel or a position is answered alike in the pair p
 --     AnswerAlike            copies of one scale, zone and factor answer alike
 --     AlikeExactly           cards of one scale, zone and factor answer alike exactly where their upper left pixels have one place and the extents are the same
 --     PlaceAlike             on any two cards of one scale, zone and factor, pixels of one place have one position, and pixels of one position one place
@@ -37,20 +37,20 @@ pub record Copies (j k : Card) : Type 0 where
   pub same-m : j .m ≡ k .m
   pub same-extents : extentsOf j ≡ extentsOf k
 
-pub record Alike (j k : Card) : Type 0 where
+pub record Alike (p : Pair) (j k : Card) : Type 0 where
   pub place : (r c : ℤ) → placeOf j r c ≡ placeOf k r c
-  pub position : (p : Pair) (r c : ℤ) → positionOf p j r c ≡ positionOf p k r c
-  pub pixel : (p : Pair) (lat lon : ℤ) → pixelOf p j lat lon ≡ pixelOf p k lat lon
+  pub position : (r c : ℤ) → positionOf p j r c ≡ positionOf p k r c
+  pub pixel : (lat lon : ℤ) → pixelOf p j lat lon ≡ pixelOf p k lat lon
   pub verdict : (r c : ℤ) → verdictOf j r c ≡ verdictOf k r c
 
 abbrev pub AnswerAlike : Type 0
-AnswerAlike = (series : Series) (j k : Card) → Accepted series j → Accepted series k → Copies j k → Alike j k
+AnswerAlike = (p : Pair) (series : Series) (j k : Card) → Accepted series j → Accepted series k → Copies j k → Alike p j k
 
 -- the same, in both directions: n is the same and 128m is the same modulo A, so m may also be A/256 on one card and −A/256 on the other
 abbrev pub AlikeExactly : Type 0
 AlikeExactly =
-    (series : Series) (j k : Card) → Accepted series j → Accepted series k
-    → Alike j k ↔ ((placeOf j (pos 0) (pos 0) ≡ placeOf k (pos 0) (pos 0)) × (extentsOf j ≡ extentsOf k))
+    (p : Pair) (series : Series) (j k : Card) → Accepted series j → Accepted series k
+    → Alike p j k ↔ ((placeOf j (pos 0) (pos 0) ≡ placeOf k (pos 0) (pos 0)) × (extentsOf j ≡ extentsOf k))
 
 -- two cuts, each with its own n, m and extents, and a pixel of each one's chart rectangle
 abbrev pub PlaceAlike : Type 0

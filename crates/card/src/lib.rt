@@ -5,13 +5,13 @@ use arc::Verdict;
 ghost use mathlib.Core.Path.{_≡_};
 ghost use Rattle.card.specs.Read.{noCard};
 
-mod centre;
 mod grid;
+mod offsets;
 mod overview;
 mod parts;
 mod range;
 
-pub use centre::offset_from;
+pub use offsets::offset_from;
 pub use parts::OffsetParts;
 pub use parts::PixelParts;
 pub use parts::PlaceParts;

@@ -12,7 +12,7 @@ ghost use Rattle.card.specs.declared.Pair.{Pair};
 ghost use Rattle.card.specs.Read.{readOf, onCard};
 ghost use Rattle.lists.specs.Lists.{listsVerdict, reportAt, positionReportAt, pixelReportAt, valuesLeft, numbersLeft};
 
-// The answers to a list of pairs of numbers, in either pair, the card read once. Refuses reading's numbers, then 6; on a refusal both lists stay.
+// The answers to the entries of a list, in either pair, the card read once. Refuses reading's numbers, then 6; on a refusal both lists stay.
 fn list_on_card(
     series: Series,
     card: &[u8],

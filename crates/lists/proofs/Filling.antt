@@ -1,4 +1,4 @@
--- A list filled pair by pair, and its numbers one by one, from the reports of a question: what each turn of the loop leaves. Assumes nothing.
+-- A list filled entry by entry, and its numbers one by one, from the reports of a question: what each turn of the loop leaves. Assumes nothing.
 use mathlib.Core.Path.{_≡_, refl, sym, ap, ap₂, _∙_}
 use mathlib.Core.List.{List, [], _∷_, _++_, append-assoc}
 use Prim.Native.Nat.{ℕ, zero, suc, _+_, _*_, _%_, _≤_, _<_}
@@ -22,7 +22,7 @@ use Rattle.card.specs.declared.PixelAnswer.{PixelAnswer}
 use Rattle.whole.specs.Lists.{over, each}
 use Rattle.card.specs.Grid.{positionOf, pixelOf, positionReport, pixelReport}
 use Rattle.lists.specs.declared.Asked.{Asked}
-use Rattle.lists.specs.Lists.{pairs, listsFit, askedReport, reportValues, reportNumbers}
+use Rattle.lists.specs.Lists.{entries, listsFit, askedReport, reportValues, reportNumbers}
 
 module _ {A : Type 0} where
   pub length-over : (xs out : List A) → length xs ≤ length out → length (over xs out) ≡ length out
@@ -42,10 +42,10 @@ module _ {A : Type 0} where
       ∙ ap (λ (n : ℕ). (xs ++ a ∷ []) ++ drop n out) (sym l)
 
 -- ---- the lengths fit
-pub lists-fit : (p o n : ℕ) → listsFit p o n ≡ true → (p ≤ o) × (pairs p ≤ n)
+pub lists-fit : (p o n : ℕ) → listsFit p o n ≡ true → (p ≤ o) × (entries p ≤ n)
 lists-fit p o n e =
-    let t = and-eq-true-iff (eqb (p % 2) 0 && leb p o) (leb (pairs p) n) .0 e in
-    (leb-true p o (and-eq-true-iff (eqb (p % 2) 0) (leb p o) .0 (t .0) .1), leb-true (pairs p) n (t .1))
+    let t = and-eq-true-iff (eqb (p % 2) 0 && leb p o) (leb (entries p) n) .0 e in
+    (leb-true p o (and-eq-true-iff (eqb (p % 2) 0) (leb p o) .0 (t .0) .1), leb-true (entries p) n (t .1))
 
 -- after i turns of n
 pub record Filled (f : ℕ → Report) (n : ℕ) (out : List ℤ) (num : List ℕ) (i : ℕ) (now : List ℤ) (nums : List ℕ) : Type 0 where
@@ -62,29 +62,29 @@ module _ (f : ℕ → Report) where
 
   module _ (two : (i : ℕ) → length (f i .values) ≡ 2) (p : ℕ) {out : List ℤ} {num : List ℕ}
       (fit : listsFit p (length out) (length num) ≡ true) where
-    pub filled-length : {i : ℕ} {now : List ℤ} {nums : List ℕ} → Filled f (pairs p) out num i now nums → length now ≡ length out
+    pub filled-length : {i : ℕ} {now : List ℤ} {nums : List ℕ} → Filled f (entries p) out num i now nums → length now ≡ length out
     filled-length {i} t =
         ap length (t .values)
         ∙ length-over (reportValues i f) out (omega (arith, t .upto, lists-fit p (length out) (length num) fit, values-length two i))
 
-    pub filled-numbers : {i : ℕ} {now : List ℤ} {nums : List ℕ} → Filled f (pairs p) out num i now nums → length nums ≡ length num
+    pub filled-numbers : {i : ℕ} {now : List ℤ} {nums : List ℕ} → Filled f (entries p) out num i now nums → length nums ≡ length num
     filled-numbers {i} t =
         ap length (t .numbers)
         ∙ length-over (reportNumbers i f) num (omega (arith, t .upto, lists-fit p (length out) (length num) fit, numbers-length i))
 
-    -- room for one pair more
-    pub filled-room : {i : ℕ} {now : List ℤ} {nums : List ℕ} → Filled f (pairs p) out num i now nums → i < pairs p
+    -- room for one entry more
+    pub filled-room : {i : ℕ} {now : List ℤ} {nums : List ℕ} → Filled f (entries p) out num i now nums → i < entries p
         → (2 * i + 1 < length now) × (i < length nums)
     filled-room t h = (
       omega (arith, filled-length t, lists-fit p (length out) (length num) fit),
       omega (arith, filled-numbers t, lists-fit p (length out) (length num) fit),
     )
 
-    -- the pair as the machine holds it
-    pub filled-next : {i : ℕ} {now : List ℤ} {nums : List ℕ} → Filled f (pairs p) out num i now nums → i < pairs p
+    -- the entry as the machine holds it
+    pub filled-next : {i : ℕ} {now : List ℤ} {nums : List ℕ} → Filled f (entries p) out num i now nums → i < entries p
         → (x y : ℤ) (z : ℕ) → SFits w64 x → SFits w64 y
         → f i .values ≡ x ∷ y ∷ [] → f i .number ≡ z
-        → Filled f (pairs p) out num (i + 1) (set (set now (2 * i) (toZ w64 (ofZ w64 x))) (2 * i + 1) (toZ w64 (ofZ w64 y))) (set nums i z)
+        → Filled f (entries p) out num (i + 1) (set (set now (2 * i) (toZ w64 (ofZ w64 x))) (2 * i + 1) (toZ w64 (ofZ w64 y))) (set nums i z)
     filled-next {i} {now} t h x y z fx fy ev en =
         let vs : List ℤ = reportValues i f in
         let first : set (over vs out) (2 * i) x ≡ over (vs ++ x ∷ []) out =

@@ -1,5 +1,6 @@
 -- What only the code needs: the engine, the numbers that a card gives once, so that no pixel of it needs a division by A or B
--- (001, 3.4.3, 3.4.4; 02, E8). Definitions only; that its answers are the plain rule's is the contract of its methods. H / A is 506,250 / 2u, where u is A / 512.
+-- (001, 3.4.3, 3.4.4; 02, E8). Definitions only; that its answers are the plain rule's is the contract of its methods. H / A is 506,250 / 2u,
+-- where u is A / 512.
 --     scaleUp one x d    the smallest whole number not below x × one / d
 --     startOf rest d off what the rounding starts from, the angles being taken off or added
 --     shiftOf p          how far south and east of a pixel's corner the pair's exact place is, a pixel being 506,250
@@ -13,7 +14,7 @@
 --     held e north east  a position, counted from the South Pole and from 180° west, is on the chart
 --     engineOf p k       the engine of a card for a pair
 --     Made e             it is the engine of its card and its pair, and some accepted card gives that card
---     pairTold p         the report that the parts of a pair tell
+--     entryTold x        the report that the parts of an entry tell
 use mathlib.Core.Path.{_≡_}
 use Prim.Native.Nat.{ℕ, _+_, _-_, _*_, _/_, _%_}
 use mathlib.Core.Bool.{Bool, true, false, cond, _&&_}
@@ -25,7 +26,7 @@ use Rattle.card.specs.declared.Card.{Card}
 use Rattle.card.specs.declared.Pair.{Pair}
 use Rattle.card.specs.Read.{Known}
 use Rattle.card.specs.Steps.{inward}
-use Rattle.lists.specs.declared.PairParts.{PairParts}
+use Rattle.lists.specs.declared.EntryParts.{EntryParts}
 use Rattle.lists.specs.declared.engine.Axis.{Axis}
 use Rattle.lists.specs.declared.engine.Span.{Span}
 use Rattle.lists.specs.declared.engine.Engine.{Engine}
@@ -102,5 +103,5 @@ abbrev pub held : Engine → ℕ → ℕ → Bool
 held e north east =
     (leb north (e .down .first) && leb (e .down .first) (north + e .down .most)) && leb ((east + e .across .first) % circle) (e .across .most)
 
-abbrev pub pairTold : PairParts → Report
-pairTold p = record { number = p .number; place = p .at; values = p .first ∷ p .second ∷ [] }
+abbrev pub entryTold : EntryParts → Report
+entryTold x = record { number = x .number; place = x .at; values = x .first ∷ x .second ∷ [] }

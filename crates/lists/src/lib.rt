@@ -9,18 +9,18 @@ ghost use Prim.Native.Nat.{_+_, _*_, _<_};
 ghost use lib.ListN.{length, set};
 ghost use Rattle.card.specs.declared.Pair.{Pair};
 ghost use Rattle.card.specs.Read.{Known};
-ghost use Rattle.lists.specs.Steps.{Made, pairTold};
-ghost use Rattle.lists.specs.Lists.{listsFit, listsVerdict, pairAt, askedReport, reportAt, positionReportAt, pixelReportAt, valuesLeft, numbersLeft};
+ghost use Rattle.lists.specs.Steps.{Made, entryTold};
+ghost use Rattle.lists.specs.Lists.{listsFit, listsVerdict, entryAt, askedReport, reportAt, positionReportAt, pixelReportAt, valuesLeft, numbersLeft};
 
 mod engine;
 
-// What is asked of each pair of a list: the position of a pixel, or the pixel at a position.
+// What is asked of each entry of a list: the position of a pixel, or the pixel at a position.
 pub enum Asked {
     Positions,
     Pixels,
 }
 
-// Whether the lists' lengths are right: pairs handed in, and room for their answers.
+// Whether the lists' lengths are right: whole entries handed in, and room for their answers.
 fn lists_fit(handed: usize, fill: usize, numbers: usize) -> bool
     ensures { λ r. ⌜ r ≡ listsFit handed fill numbers ⌝ }
 {
@@ -28,25 +28,25 @@ fn lists_fit(handed: usize, fill: usize, numbers: usize) -> bool
 }
 
 // A row and a column, or a latitude and a longitude.
-struct ListPair {
+struct Entry {
     first: i64,
     second: i64,
 }
 
-// Pair i of a list.
-fn pair_at(list: &[i64], i: usize) -> ListPair
+// Entry i of a list.
+fn entry_at(list: &[i64], i: usize) -> Entry
     requires { ⌜ 2 * i + 1 < length (now list) ⌝ }
-    ensures { λ r. ⌜ r ≡ pairAt (now (list .entry)) i ⌝ }
+    ensures { λ r. ⌜ r ≡ entryAt (now (list .entry)) i ⌝ }
 {
     let first = list[2 * i];
     let second = list[2 * i + 1];
-    ListPair { first, second }
+    Entry { first, second }
 }
 
-// Pair i of a list, and number i.
-fn put_pair(list: &mut [i64], numbers: &mut [u32], i: usize, first: i64, second: i64, number: u32)
+// Entry i of a list, and number i.
+fn put_entry(list: &mut [i64], numbers: &mut [u32], i: usize, first: i64, second: i64, number: u32)
     requires { ⌜ 2 * i + 1 < length (now list) ⌝ ∗ ⌜ i < length (now numbers) ⌝ }
-    ensures pair { λ _. ⌜ now (list .exit) ≡ set (set (now (list .entry)) (2 * i) first) (2 * i + 1) second ⌝ }
+    ensures entry { λ _. ⌜ now (list .exit) ≡ set (set (now (list .entry)) (2 * i) first) (2 * i + 1) second ⌝ }
     ensures number { λ _. ⌜ now (numbers .exit) ≡ set (now (numbers .entry)) i number ⌝ }
 {
     list[2 * i] = first;
@@ -54,23 +54,23 @@ fn put_pair(list: &mut [i64], numbers: &mut [u32], i: usize, first: i64, second:
     numbers[i] = number;
 }
 
-// What is told of a pair: number, place, and two values.
-struct PairParts {
+// What is told of an entry: number, place, and two values.
+struct EntryParts {
     number: u32,
     at: u64,
     first: i64,
     second: i64,
 }
 
-// What is told of a pair.
-fn answer_pair(e: Engine, asked: Asked, first: i64, second: i64) -> PairParts
+// What is told of an entry.
+fn answer_entry(e: Engine, asked: Asked, first: i64, second: i64) -> EntryParts
     requires { ⌜ Made e ⌝ }
-    ensures { λ r. ⌜ pairTold r ≡ askedReport (e .pair) asked (e .card) first second ⌝ }
+    ensures { λ r. ⌜ entryTold r ≡ askedReport (e .pair) asked (e .card) first second ⌝ }
 {
     match asked {
         Asked::Positions => {
             let p = e.position(first, second).into_parts();
-            PairParts {
+            EntryParts {
                 number: p.number,
                 at: p.at,
                 first: p.lat,
@@ -79,7 +79,7 @@ fn answer_pair(e: Engine, asked: Asked, first: i64, second: i64) -> PairParts
         }
         Asked::Pixels => {
             let p = e.pixel(first, second).into_parts();
-            PairParts {
+            EntryParts {
                 number: p.number,
                 at: p.at,
                 first: p.row,
@@ -89,23 +89,25 @@ fn answer_pair(e: Engine, asked: Asked, first: i64, second: i64) -> PairParts
     }
 }
 
-// What is told of each pair.
+// What is told of each entry.
 fn fill(e: Engine, asked: Asked, list: &[i64], values: &mut [i64], numbers: &mut [u32])
     requires { ⌜ Made e ⌝ ∗ ⌜ listsFit (length (now list)) (length (now values)) (length (now numbers)) ≡ true ⌝ }
-    ensures values { λ _. ⌜ now (values .exit) ≡ valuesLeft (reportAt (e .pair) asked (e .card)) (now (list .entry)) (now (values .entry)) (now (numbers .entry)) ⌝ }
-    ensures numbers { λ _. ⌜ now (numbers .exit) ≡ numbersLeft (reportAt (e .pair) asked (e .card)) (now (list .entry)) (now (values .entry)) (now (numbers .entry)) ⌝ }
+    ensures values { λ _. ⌜ now (values .exit)
+        ≡ valuesLeft (reportAt (e .pair) asked (e .card)) (now (list .entry)) (now (values .entry)) (now (numbers .entry)) ⌝ }
+    ensures numbers { λ _. ⌜ now (numbers .exit)
+        ≡ numbersLeft (reportAt (e .pair) asked (e .card)) (now (list .entry)) (now (values .entry)) (now (numbers .entry)) ⌝ }
 {
     let n = list.len() / 2;
     let mut i = 0;
     while i < n {
-        let x = pair_at(list, i);
-        let p = answer_pair(e, asked, x.first, x.second);
-        put_pair(values, numbers, i, p.first, p.second, p.number);
+        let x = entry_at(list, i);
+        let p = answer_entry(e, asked, x.first, x.second);
+        put_entry(values, numbers, i, p.first, p.second, p.number);
         i += 1;
     }
 }
 
-// The answers to a list of pairs of numbers, in either pair; a number is 0 where its pair of numbers is answered. Refuses 6, and then both lists stay.
+// The answers to the entries of a list, in either pair; a number is 0 where its entry is answered. Refuses 6, and then both lists stay.
 pub fn answer_list(
     pair: Pair,
     k: Card,
@@ -126,13 +128,14 @@ pub fn answer_list(
     Verdict::Accepted
 }
 
-// The positions of the centres of a list of pixels, pairs of row and column; a number is 0 where its pixel is answered. Refuses 6, and then both lists stay.
+// The positions of the centres of a list of pixels; a number is 0 where its pixel is answered. Refuses 6, and then both lists stay.
 pub fn positions(k: Card, pixels: &[i64], positions: &mut [i64], numbers: &mut [u32]) -> Verdict
     requires { ⌜ Known k ⌝ }
     ensures answer { λ r. ⌜ r ≡ listsVerdict (length (now (pixels .entry))) (length (now (positions .entry))) (length (now (numbers .entry))) ⌝ }
     ensures positions { λ _. ⌜ now (positions .exit)
         ≡ valuesLeft (positionReportAt Pair.Centre k) (now (pixels .entry)) (now (positions .entry)) (now (numbers .entry)) ⌝ }
-    ensures numbers { λ _. ⌜ now (numbers .exit) ≡ numbersLeft (positionReportAt Pair.Centre k) (now (pixels .entry)) (now (positions .entry)) (now (numbers .entry)) ⌝ }
+    ensures numbers { λ _. ⌜ now (numbers .exit)
+        ≡ numbersLeft (positionReportAt Pair.Centre k) (now (pixels .entry)) (now (positions .entry)) (now (numbers .entry)) ⌝ }
 {
     answer_list(
         Pair::Centre,
@@ -148,8 +151,10 @@ pub fn positions(k: Card, pixels: &[i64], positions: &mut [i64], numbers: &mut [
 pub fn pixels(k: Card, positions: &[i64], pixels: &mut [i64], numbers: &mut [u32]) -> Verdict
     requires { ⌜ Known k ⌝ }
     ensures answer { λ r. ⌜ r ≡ listsVerdict (length (now (positions .entry))) (length (now (pixels .entry))) (length (now (numbers .entry))) ⌝ }
-    ensures pixels { λ _. ⌜ now (pixels .exit) ≡ valuesLeft (pixelReportAt Pair.Centre k) (now (positions .entry)) (now (pixels .entry)) (now (numbers .entry)) ⌝ }
-    ensures numbers { λ _. ⌜ now (numbers .exit) ≡ numbersLeft (pixelReportAt Pair.Centre k) (now (positions .entry)) (now (pixels .entry)) (now (numbers .entry)) ⌝ }
+    ensures pixels { λ _. ⌜ now (pixels .exit)
+        ≡ valuesLeft (pixelReportAt Pair.Centre k) (now (positions .entry)) (now (pixels .entry)) (now (numbers .entry)) ⌝ }
+    ensures numbers { λ _. ⌜ now (numbers .exit)
+        ≡ numbersLeft (pixelReportAt Pair.Centre k) (now (positions .entry)) (now (pixels .entry)) (now (numbers .entry)) ⌝ }
 {
     answer_list(Pair::Centre, k, Asked::Pixels, positions, pixels, numbers)
 }

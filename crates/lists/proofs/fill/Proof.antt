@@ -1,12 +1,12 @@
--- After i turns the first i pairs and numbers are the reports of the first i pairs handed in. Assumes nothing.
+-- After i turns the first i entries and numbers are the reports of the first i entries handed in. Assumes nothing.
 use mathlib.Core.Path.{_≡_, refl, sym, ap, _∙_}
 use Prim.Native.Nat.{ℕ, _-_, _/_}
 use native.Mathlib.Omega.{arith}
 use lib.ListN.{length}
 use Rattle.arc.specs.Refusals.{Report}
-use Rattle.lists.specs.declared.ListPair.{ListPair}
-use Rattle.lists.specs.Steps.{pairTold}
-use Rattle.lists.specs.Lists.{pairAt, askedReport, reportAt}
+use Rattle.lists.specs.declared.Entry.{Entry}
+use Rattle.lists.specs.Steps.{entryTold}
+use Rattle.lists.specs.Lists.{entryAt, askedReport, reportAt}
 use Rattle.lists.proofs.Filling.{Filled, filled-length, filled-numbers, filled-room, filled-next, report-values}
 use Rattle.card.proofs.Answers.{pair-asked}
 use Rattle.lists.proofs.fill.Statement.{statement}
@@ -18,24 +18,24 @@ Inv-loop e asked list values₀ numbers₀ n i₀ values numbers i = Filled (rep
 abbrev μ-loop : tie.MeasureT-loop
 μ-loop e asked list values₀ numbers₀ n i₀ values numbers i = n - i
 
--- the reports of the pairs handed in, and their value parts
+-- the reports of the entries handed in, and their value parts
 abbrev reports : tie.Start Inv-loop μ-loop → ℕ → Report
 reports s = reportAt (s .args .e .pair) (s .args .asked) (s .args .e .card) (s .args .list .now)
 
 two : (s : tie.Start Inv-loop μ-loop) (i : ℕ) → length (reports s i .values) ≡ 2
-two s i = report-values (s .args .e .pair) (s .args .asked) (s .args .e .card) (pairAt (s .args .list .now) i .first) (pairAt (s .args .list .now) i .second)
+two s i = report-values (s .args .e .pair) (s .args .asked) (s .args .e .card) (entryAt (s .args .list .now) i .first) (entryAt (s .args .list .now) i .second)
 
 loop-holds : tie.Need-loop-holds Inv-loop μ-loop
 loop-holds c = record { upto = omega arith; values = refl; numbers = refl }
 
-pair-at-requires : tie.Need-pair-at-requires Inv-loop μ-loop
-pair-at-requires c κs = omega (arith, c .loop-test .taken)
+entry-at-requires : tie.Need-entry-at-requires Inv-loop μ-loop
+entry-at-requires c κs = omega (arith, c .loop-test .taken)
 
-answer-pair-requires : tie.Need-answer-pair-requires Inv-loop μ-loop
-answer-pair-requires c κs = c .before .before .before .before .before .before .pre .0
+answer-entry-requires : tie.Need-answer-entry-requires Inv-loop μ-loop
+answer-entry-requires c κs = c .before .before .before .before .before .before .pre .0
 
-put-pair-requires : tie.Need-put-pair-requires Inv-loop μ-loop
-put-pair-requires c κs =
+put-entry-requires : tie.Need-put-entry-requires Inv-loop μ-loop
+put-entry-requires c κs =
     let t = c .before .before .before .before .before .before .before .before in
     let s = t .before .before .before in
     filled-room (reports s) (two s) (length (s .args .list .now)) (s .pre .1) (t .before .loop .inv) (omega (arith, t .loop-test .taken))
@@ -55,13 +55,13 @@ loop-again c =
     let b = a .before .before .before in
     let l = b .before .before in
     let s = l .before .before in
-    let p = a .answer-pair .result in
-    let told : pairTold p ≡ reports s (l .loop .i) =
-    a .answer-pair .ensures
-    ∙ pair-asked (askedReport (s .args .e .pair) (s .args .asked) (s .args .e .card)) {u = b .pair-at .result .first} {v = b .pair-at .result .second}
+    let p = a .answer-entry .result in
+    let told : entryTold p ≡ reports s (l .loop .i) =
+    a .answer-entry .ensures
+    ∙ pair-asked (askedReport (s .args .e .pair) (s .args .asked) (s .args .e .card)) {u = b .entry-at .result .first} {v = b .entry-at .result .second}
     (record { sfits = a .before .before .struct-told .given .0 .1 }) (record { sfits = a .before .struct-told2 .given .1 .0 .1 })
-    ∙ ap (λ (x : ListPair). askedReport (s .args .e .pair) (s .args .asked) (s .args .e .card) (x .first) (x .second)) (b .pair-at .ensures) in
-    rw (d .put-pair .ensures .0, d .put-pair .ensures .1)
+    ∙ ap (λ (x : Entry). askedReport (s .args .e .pair) (s .args .asked) (s .args .e .card) (x .first) (x .second)) (b .entry-at .ensures) in
+    rw (d .put-entry .ensures .0, d .put-entry .ensures .1)
     (filled-next (reports s) (two s) (length (s .args .list .now)) (s .pre .1) (l .loop .inv) (omega (arith, b .before .loop-test .taken))
     (p .first) (p .second) (p .number)
     (record { sfits = d .before .before .struct-told3 .given .1 .1 .0 .1 })
@@ -88,9 +88,9 @@ fill-spec =
     Inv-loop
     μ-loop
     loop-holds
-    pair-at-requires
-    answer-pair-requires
-    put-pair-requires
+    entry-at-requires
+    answer-entry-requires
+    put-entry-requires
     add-i
     loop-less
     loop-again

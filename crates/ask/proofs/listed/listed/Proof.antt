@@ -3,8 +3,8 @@ use mathlib.Core.Path.{sym}
 use native.Mathlib.Omega.{arith}
 use lib.Seq.{length-take-le}
 use borrow.Author.Needs.{needs}
-use Rattle.ask.proofs.pairs.listed.Statement.{statement}
-use Rattle.ask.proofs.pairs.listed.Tie as tie
+use Rattle.ask.proofs.listed.listed.Statement.{statement}
+use Rattle.ask.proofs.listed.listed.Tie as tie
 
 slice-aggregate-answer-3 : tie.Need-slice-aggregate-answer-3
 slice-aggregate-answer-3 c = sym (length-take-le _ _ (omega arith))

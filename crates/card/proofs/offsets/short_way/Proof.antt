@@ -6,8 +6,8 @@ use Rattle.whole.proofs.Signed.{is-difference}
 use Rattle.arc.specs.Zones.{circle, half}
 use Rattle.card.proofs.Doubles.{short-is}
 use borrow.Author.Needs.{needs}
-use Rattle.card.proofs.centre.short_way.Statement.{statement}
-use Rattle.card.proofs.centre.short_way.Tie as tie
+use Rattle.card.proofs.offsets.short_way.Statement.{statement}
+use Rattle.card.proofs.offsets.short_way.Tie as tie
 
 returns : tie.Need-returns
 returns c =

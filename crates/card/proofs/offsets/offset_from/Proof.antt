@@ -7,8 +7,8 @@ use Rattle.card.specs.Grid.{intoRange}
 use Rattle.card.specs.Offset.{offsetOf}
 use Rattle.card.proofs.Ranges.{Counts, counts-apart, ranged-at, ranged-refused}
 use borrow.Author.Needs.{needs}
-use Rattle.card.proofs.centre.offset_from.Statement.{statement}
-use Rattle.card.proofs.centre.offset_from.Tie as tie
+use Rattle.card.proofs.offsets.offset_from.Statement.{statement}
+use Rattle.card.proofs.offsets.offset_from.Tie as tie
 
 counts : (c : tie.After-known-told)
     → let s = c .before .before .before .before in Counts (s .args .lat) (s .args .lon) (c .before .north .given .0 .0) (c .before .north .given .0 .1 .0)

@@ -12,8 +12,8 @@ use Rattle.card.specs.Grid.{intoRange}
 use Rattle.card.specs.Offset.{difference}
 use Rattle.card.proofs.Doubles.{in-float, short-size}
 use borrow.Author.Needs.{needs}
-use Rattle.card.proofs.centre.offset_at.Statement.{statement}
-use Rattle.card.proofs.centre.offset_at.Tie as tie
+use Rattle.card.proofs.offsets.offset_at.Statement.{statement}
+use Rattle.card.proofs.offsets.offset_at.Tie as tie
 
 rows : (c : tie.After-difference) → toZ w64 (ofZ w64 (c .difference .result)) ≡ pos (c .before .args .north) -ℤ pos (c .before .args .cnorth)
 rows c = result-is (c .difference .ok) (c .difference .ensures)
