@@ -2,14 +2,14 @@
 -- the position is that one. A position asked back gives its pixel, by demand 3 on the card itself. Assumes nothing.
 use mathlib.Core.Path.{_≡_, refl, sym, ap, ap₂, _∙_, subst, subst₂, subst⁻¹}
 use mathlib.Core.Bool.{Bool, true, false, false≢true}
-use mathlib.Core.Logic.{_⊎_, inl, inr, _↔_}
+use mathlib.Core.Logic.{inl, inr, _↔_}
 use Prim.Native.Nat.{ℕ, _+_, _-_, _*_, _/_, _%_, _≤_, _<_}
 use native.Mathlib.Nat.{add-mul, mul-right-comm, mod-eq-of-lt, add-mul-mod-self-right, div-add-mod'}
 use native.Mathlib.Omega.{arith}
 use lib.IntN.{ℤ, pos, subℕ, _+ℤ_, _*ℤ_}
 use lib.Signed.{_≤ℤ_, _<ℤ_}
 use Rattle.whole.specs.Whole.{outside, raise}
-use Rattle.whole.proofs.Signed.{Is, over, under, is-parts, is-equal, is-nat, is-sub, is-add, is-minus, is-mul, is-times, is-le, is-lt, le-is, lt-is}
+use Rattle.whole.proofs.Signed.{Is, over, under, is-parts, is-equal, is-nat, is-sub, is-add, is-minus, is-mul, is-le, is-lt, le-is, lt-is}
 use Rattle.whole.proofs.Signed.{is-raise, raise-high}
 use Rattle.arc.specs.Refusals.{refusal, onVerdict}
 use Rattle.arc.specs.declared.Verdict.{Verdict}

@@ -22,7 +22,7 @@ use Rattle.card.specs.declared.PixelAnswer.{PixelAnswer}
 use Rattle.card.specs.Read.{Known}
 use Rattle.card.specs.Grid.{placeRow, gridColumn, inTiles, inChart, positionOf, pixelOf}
 
--- (128n − r)H/B and (128m + c)H/A
+-- (128n − r)H/B, times B, and (128m + c)H/A, times A
 abbrev pub northEdge : Card → ℤ → ℤ
 northEdge k r = placeRow k r *ℤ pos circle
 

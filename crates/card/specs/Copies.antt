@@ -3,7 +3,7 @@
 --     Copies j k             the same n and m, and the same extents: BAD and TIF may differ
 --     Alike p j k            every question on a pixel or a position is answered alike in the pair p
 --     AnswerAlike            copies of one scale, zone and factor answer alike
---     AlikeExactly           cards of one scale, zone and factor answer alike exactly where their upper left pixels have one place and the extents are the same
+--     AlikeExactly           cards of one series answer alike exactly where their upper left pixels have one place and the extents are the same
 --     PlaceAlike             on any two cards of one scale, zone and factor, pixels of one place have one position, and pixels of one position one place
 --     SameIn fs s t          s and t have the same bytes in each of the subfields fs
 --     BytesAlike             the same bytes in LSO, PSO and the extents make copies

@@ -42,7 +42,7 @@ intoRange z = modulo (z +ℤ pos half) circle -ℤ pos half
 
 -- ---- the two pairs: a pixel's corner, and the pixel whose corner is nearest; a pixel's centre, and the pixel that contains a position (02, E8)
 
--- the exact place of (u, v), u H/B and v H/A; its centre is half a pixel south and east of that, (u − 1/2)H/B and (v + 1/2)H/A; times B and A
+-- the exact place of (u, v), u H/B and v H/A, or the centre there, (u − 1/2)H/B and (v + 1/2)H/A; times B and times A, half being H/2
 abbrev pub exactRow : Pair → ℤ → ℤ
 exactRow Pair.Corner u = u *ℤ pos circle
 exactRow Pair.Centre u = u *ℤ pos circle -ℤ pos half

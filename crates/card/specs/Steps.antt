@@ -1,6 +1,6 @@
 -- What only the code needs: the pairs as one number (02, E8), and a position in range, counted in naturals (01, "Numbers given in refusal").
 -- Definitions only.
---     inward p           how far south and east of a pixel's corner the pair's exact place is, a pixel being H: nothing, or half a pixel
+--     inward p           how far south and east of a pixel's corner the pair's exact place is, a pixel being H: nothing, or H/2, half a pixel
 --     rangedOf lat lon   what `count_position` answers: the position counted from the South Pole and from 180° west; 4, 5
 use mathlib.Core.Bool.{cond}
 use mathlib.Core.List.{[], _∷_}

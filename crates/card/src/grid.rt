@@ -133,6 +133,7 @@ impl Card {
         ensures { λ r. ⌜ r ≡ rowOf pair self (pos north -ℤ pos 32400000) ⌝ }
     {
         let half = self.b / 2;
+        // half a pixel for the nearest, nothing for the floor (02, E8)
         let up = Circle::H / 2 - pair.inward();
         let rows = ((self.north + half) * Circle::H - north * self.b + up) / Circle::H;
         whole::difference(rows as u32, half as u32)

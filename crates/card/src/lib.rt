@@ -97,8 +97,7 @@ pub struct Extents {
     pub nfc: u64,
 }
 
-// The two pairs of questions (02, E8): a pixel's corner, and the pixel whose corner is nearest; or a pixel's centre, and the pixel that
-// contains a position. The centre pair is meant where none is named.
+// The two pairs of questions (02, E8): a pixel's corner and the pixel whose corner is nearest, or its centre and the pixel that contains a position.
 pub enum Pair {
     Corner,
     Centre,

@@ -1,5 +1,4 @@
-// Questions on a card, handed in as its bytes with scale, factor and zone (01, "The image card, 98 bytes", "Origins and the zone grid";
-// 02, E8).
+// Questions on a card, handed in as its bytes with scale, factor and zone (01, "Origins and the zone grid"; 02, E8).
 use crate::parts::CardParts;
 use crate::parts::RecordParts;
 use arc::Refusal;
@@ -184,7 +183,7 @@ fn pixel_on(chart: Card, series: Series, card: &[u8], row: i64, column: i64) -> 
     }
 }
 
-// The overview pixel of a chart's pixel, in the corner pair (02, E4, E8). Refuses reading's numbers, of the chart, then of the overview; then 12, 13, likewise.
+// The overview pixel of a chart's pixel, in the corner pair (02, E4, E8). Refuses reading's numbers, then 12, 13, of the chart first each time.
 #[no_mangle]
 pub extern "C" fn fordcask_overview_pixel(
     series: Series,

@@ -2,13 +2,13 @@
 use mathlib.Core.Path.{_≡_, sym, ap, ap₂, _∙_}
 use mathlib.Core.Bool.{true, _&&_, and-eq-true-iff}
 use Prim.Native.Nat.{ℕ, _+_, _-_, _*_, _/_, _%_, _≤_, _<_}
-use native.Mathlib.Nat.{mul-add, mul-comm, mul-left-comm, mul-le-mul-left, lt-of-mul-lt-mul-right, mod-lt, mod-eq-of-lt, mod-add-mod}
+use native.Mathlib.Nat.{mul-add, mul-comm, mul-left-comm, lt-of-mul-lt-mul-right, mod-lt, mod-eq-of-lt, mod-add-mod}
 use native.Mathlib.Nat.{add-mul-mod-self-right, div-add-mod', div-mul-le-self}
 use native.Mathlib.Omega.{arith}
 use borrow.Author.Tests.{leb-true, le-leb}
 use lib.Dec.{leb}
 use lib.IntN.{ℤ, pos, _-ℤ_}
-use Rattle.whole.proofs.Signed.{Is, is-equal, is-nat, is-difference}
+use Rattle.whole.proofs.Signed.{is-equal, is-nat, is-difference}
 use Rattle.arc.specs.Zones.{circle, half, quarter}
 use Rattle.card.specs.declared.Card.{Card}
 use Rattle.card.specs.declared.PixelAnswer.{PixelAnswer}

@@ -1,4 +1,5 @@
--- The twelve cases marked P, the factor being 1, the pixel case in the corner pair (01, "Figures on both sides of each edge"; 02, E8). A claim: the proof is proofs/AllHold.antt.
+-- The twelve cases marked P (01, "Figures on both sides of each edge"), the factor being 1 and the pixel case in the corner pair (02, E8). A claim:
+-- the proof is proofs/AllHold.antt.
 --     Case               what the definitions give, and what document 01 states
 --     AllAs cs           in each case the two are the same
 --     card               the bytes of document 01's card, as its two parts

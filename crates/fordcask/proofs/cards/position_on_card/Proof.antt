@@ -24,4 +24,5 @@ returns-2 c = rw (← c .before .before .before .before .before .read-card .ensu
 pub position-on-card-spec : {M : Type 1} → statement M
 position-on-card-spec =
     tie.close
-    (tie.spec (λ c κs. search needs) (λ c. search needs) position-in-requires (λ c κs. search needs) (λ c. search needs) (λ c κs. search needs) returns returns-2)
+    (tie.spec (λ c κs. search needs) (λ c. search needs) position-in-requires (λ c κs. search needs) (λ c. search needs) (λ c κs. search needs) returns
+    returns-2)

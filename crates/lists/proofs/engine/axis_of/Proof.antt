@@ -1,5 +1,5 @@
 -- Every number fits, and the two quotients are the definition's. Assumes nothing.
-use Prim.Native.Nat.{_+_, _*_, _/_}
+use Prim.Native.Nat.{_+_, _/_}
 use native.Mathlib.Nat.{mod-lt}
 use native.Mathlib.Omega.{arith}
 use Rattle.lists.proofs.Engines.{some, start-high}

@@ -1,7 +1,7 @@
 -- Every number fits, and the chart lies in the tiles. Assumes nothing.
 use native.Mathlib.Omega.{arith}
 use Rattle.card.proofs.Laid.{known-laid}
-use Rattle.card.proofs.Axes.{north-high, down-high, east-high}
+use Rattle.card.proofs.Axes.{north-high, down-high}
 use borrow.Author.Needs.{needs}
 use Rattle.lists.proofs.engine.down_of.Statement.{statement}
 use Rattle.lists.proofs.engine.down_of.Tie as tie

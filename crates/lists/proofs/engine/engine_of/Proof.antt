@@ -2,8 +2,7 @@
 use mathlib.Core.Path.{_≡_, ap}
 use Prim.Native.Nat.{ℕ, _/_}
 use native.Mathlib.Omega.{arith}
-use Rattle.card.specs.declared.Card.{Card}
-use Rattle.card.proofs.Laid.{Laid, known-laid}
+use Rattle.card.proofs.Laid.{known-laid}
 use Rattle.card.proofs.Axes.{north-high, down-high, east-high}
 use Rattle.lists.specs.Steps.{shiftOf, engineOf}
 use Rattle.lists.proofs.Engines.{shift-high}
@@ -52,7 +51,8 @@ returns : tie.Need-returns
 unfolding engineOf
 returns c =
     let a = c .before .before in
-    rw (c .across-of .ensures, c .before .down-of .ensures, a .axis-of2 .ensures, a .before .before .axis-of .ensures, shift (a .before .before .before .before))
+    let b = a .before .before in
+    rw (c .across-of .ensures, c .before .down-of .ensures, a .axis-of2 .ensures, b .axis-of .ensures, shift (b .before .before))
 
 pub engine-of-spec : {M : Type 1} → statement M
 engine-of-spec =

@@ -32,7 +32,8 @@ returns c =
     let k = s .args .self .card in
     let p = s .args .self .pair in
     let i = counts (c .before .before .before) in
-    rw (i .rows .test, i .columns .test) (c .pixel-at .ensures ∙ ap₂ (λ (x y : ℤ). pixelAt k (rowOf p k x) (columnOf p k y)) (i .rows .same) (i .columns .same))
+    rw (i .rows .test, i .columns .test)
+    (c .pixel-at .ensures ∙ ap₂ (λ (x y : ℤ). pixelAt k (rowOf p k x) (columnOf p k y)) (i .rows .same) (i .columns .same))
 
 pixel-in-requires : tie.Need-pixel-in-requires
 pixel-in-requires c κs = c .before .before .before .before .before .before .before .pre .known

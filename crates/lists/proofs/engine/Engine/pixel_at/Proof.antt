@@ -1,10 +1,9 @@
 -- The spans give the plain rule's pixel. Assumes nothing.
-use mathlib.Core.Path.{_≡_, ap, ap₂, _∙_}
-use Prim.Native.Nat.{ℕ, _+_, _*_, _/_, _%_}
+use mathlib.Core.Path.{ap, ap₂, _∙_}
+use Prim.Native.Nat.{ℕ, _+_, _*_, _/_}
 use native.Mathlib.Omega.{arith}
 use lib.IntN.{pos}
 use Rattle.whole.proofs.Machine.{result-is}
-use Rattle.arc.specs.Zones.{circle}
 use Rattle.card.specs.declared.PixelAnswer.{PixelAnswer}
 use Rattle.lists.specs.Steps.{fine}
 use Rattle.lists.proofs.Spans.{left-low, row-fits-63, column-fits-63, held-parts, held-pixel}
