@@ -90,20 +90,6 @@ pub extern "C" fn fordcask_place(series: Series, card: &[u8], row: i64, column: 
     }
 }
 
-// The position of a pixel in either pair. Refuses reading's numbers, then 12, 13.
-fn position_on_card(series: Series, card: &[u8], pair: Pair, row: i64, column: i64) -> PositionParts
-    ensures { λ r. ⌜ positionTold r
-        ≡ positionReport (onCard (readOf series (now (card .entry))) PositionAnswer.Refused (λ k. positionOf pair k row column)) ⌝ }
-{
-    let reading = card_text::read_card(series, card);
-    let verdict = reading.verdict;
-    let k = reading.card;
-    match verdict {
-        Verdict::Accepted => k.position_in(pair, row, column).into_parts(),
-        Verdict::Refused(e) => PositionAnswer::Refused(e).into_parts(),
-    }
-}
-
 // The position of a pixel's centre (02, E8). Refuses reading's numbers, then 12, 13.
 #[no_mangle]
 pub extern "C" fn fordcask_position(
@@ -115,7 +101,13 @@ pub extern "C" fn fordcask_position(
     ensures { λ r. ⌜ positionTold r
         ≡ positionReport (onCard (readOf series (now (card .entry))) PositionAnswer.Refused (λ k. positionOf Pair.Centre k row column)) ⌝ }
 {
-    position_on_card(series, card, Pair::Centre, row, column)
+    let reading = card_text::read_card(series, card);
+    let verdict = reading.verdict;
+    let k = reading.card;
+    match verdict {
+        Verdict::Accepted => k.position(row, column).into_parts(),
+        Verdict::Refused(e) => PositionAnswer::Refused(e).into_parts(),
+    }
 }
 
 // The position of a pixel's corner (02, E8). Refuses reading's numbers, then 12, 13.
@@ -129,20 +121,12 @@ pub extern "C" fn fordcask_corner_position(
     ensures { λ r. ⌜ positionTold r
         ≡ positionReport (onCard (readOf series (now (card .entry))) PositionAnswer.Refused (λ k. positionOf Pair.Corner k row column)) ⌝ }
 {
-    position_on_card(series, card, Pair::Corner, row, column)
-}
-
-// The pixel at a position in either pair. Refuses reading's numbers, then 4, 5, 12, 13.
-fn pixel_on_card(series: Series, card: &[u8], pair: Pair, lat: i64, lon: i64) -> PixelParts
-    ensures { λ r. ⌜ pixelTold r
-        ≡ pixelReport (onCard (readOf series (now (card .entry))) PixelAnswer.Refused (λ k. pixelOf pair k lat lon)) ⌝ }
-{
     let reading = card_text::read_card(series, card);
     let verdict = reading.verdict;
     let k = reading.card;
     match verdict {
-        Verdict::Accepted => k.pixel_in(pair, lat, lon).into_parts(),
-        Verdict::Refused(e) => PixelAnswer::Refused(e).into_parts(),
+        Verdict::Accepted => k.position_in(Pair::Corner, row, column).into_parts(),
+        Verdict::Refused(e) => PositionAnswer::Refused(e).into_parts(),
     }
 }
 
@@ -152,7 +136,13 @@ pub extern "C" fn fordcask_pixel(series: Series, card: &[u8], lat: i64, lon: i64
     ensures { λ r. ⌜ pixelTold r
         ≡ pixelReport (onCard (readOf series (now (card .entry))) PixelAnswer.Refused (λ k. pixelOf Pair.Centre k lat lon)) ⌝ }
 {
-    pixel_on_card(series, card, Pair::Centre, lat, lon)
+    let reading = card_text::read_card(series, card);
+    let verdict = reading.verdict;
+    let k = reading.card;
+    match verdict {
+        Verdict::Accepted => k.pixel(lat, lon).into_parts(),
+        Verdict::Refused(e) => PixelAnswer::Refused(e).into_parts(),
+    }
 }
 
 // The pixel whose corner is nearest to a position (02, E8). Refuses reading's numbers, then 4, 5, 12, 13.
@@ -166,7 +156,13 @@ pub extern "C" fn fordcask_corner_pixel(
     ensures { λ r. ⌜ pixelTold r
         ≡ pixelReport (onCard (readOf series (now (card .entry))) PixelAnswer.Refused (λ k. pixelOf Pair.Corner k lat lon)) ⌝ }
 {
-    pixel_on_card(series, card, Pair::Corner, lat, lon)
+    let reading = card_text::read_card(series, card);
+    let verdict = reading.verdict;
+    let k = reading.card;
+    match verdict {
+        Verdict::Accepted => k.pixel_in(Pair::Corner, lat, lon).into_parts(),
+        Verdict::Refused(e) => PixelAnswer::Refused(e).into_parts(),
+    }
 }
 
 // The pixel of an overview, handed in as its bytes, for a pixel of a chart. Refuses reading's numbers, then 12, 13 of the chart, then of the overview.

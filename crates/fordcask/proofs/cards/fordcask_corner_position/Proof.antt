@@ -1,23 +1,29 @@
--- The corner pair's answer, asked of what the machine holds. Assumes nothing.
-use mathlib.Core.Path.{_∙_}
-use lib.IntN.{ℤ}
+-- An accepted card answers, and a refused one gives its refusal. Assumes nothing.
+use mathlib.Core.Path.{ap, _∙_}
 use Rattle.card.specs.declared.Pair.{Pair}
-use Rattle.card.specs.declared.PositionAnswer.{PositionAnswer}
-use Rattle.card.specs.Read.{readOf, onCard}
-use Rattle.card.specs.Grid.{positionOf, positionReport}
+use Rattle.card.specs.Grid.{positionReport, positionOf}
+use Rattle.card.proofs.Questions.{card-known}
 use Rattle.card.proofs.Answers.{pair-asked}
 use borrow.Author.Needs.{needs}
 use Rattle.fordcask.proofs.cards.fordcask_corner_position.Statement.{statement}
 use Rattle.fordcask.proofs.cards.fordcask_corner_position.Tie as tie
 
+position-in-requires : tie.Need-position-in-requires
+position-in-requires c κs =
+    let s = c .before .before .before .before .before in
+    card-known (s .args .series) (s .args .card .now) (c .before .before .before .read-card .ensures) (c .enum-told .given .1)
+
 returns : tie.Need-returns
 returns c =
-    let s = c .before .before in
-    c .position-on-card .ensures
-    ∙ pair-asked
-    (λ (row column : ℤ).
-    positionReport (onCard (readOf (s .args .series) (s .args .card .now)) PositionAnswer.Refused (λ k. positionOf Pair.Corner k row column)))
-    (s .fits .row) (s .fits .column)
+    let s = c .before .before .before .before .before .before .before in
+    rw (← c .before .before .before .before .before .read-card .ensures, c .before .before .enum-told .given .1)
+    (c .into-parts .ensures ∙ ap positionReport (c .before .position-in .ensures ∙ pair-asked (positionOf Pair.Corner _) (s .fits .row) (s .fits .column)))
+
+returns-2 : tie.Need-returns-2
+returns-2 c = rw (← c .before .before .before .before .before .read-card .ensures, c .before .before .verdict .given .1) (c .into-parts2 .ensures)
 
 pub fordcask-corner-position-spec : {M : Type 1} → statement M
-fordcask-corner-position-spec = tie.close (tie.spec (λ c κs. search needs) returns)
+fordcask-corner-position-spec =
+    tie.close
+    (tie.spec (λ c κs. search needs) (λ c. search needs) position-in-requires (λ c κs. search needs) (λ c. search needs) (λ c κs. search needs) returns
+    returns-2)

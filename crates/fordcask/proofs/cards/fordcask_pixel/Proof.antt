@@ -1,22 +1,28 @@
--- The centre pair's answer, asked of what the machine holds. Assumes nothing.
-use mathlib.Core.Path.{_∙_}
-use lib.IntN.{ℤ}
+-- An accepted card answers, and a refused one gives its refusal. Assumes nothing.
+use mathlib.Core.Path.{ap, _∙_}
 use Rattle.card.specs.declared.Pair.{Pair}
-use Rattle.card.specs.declared.PixelAnswer.{PixelAnswer}
-use Rattle.card.specs.Read.{readOf, onCard}
-use Rattle.card.specs.Grid.{pixelOf, pixelReport}
+use Rattle.card.specs.Grid.{pixelReport, pixelOf}
+use Rattle.card.proofs.Questions.{card-known}
 use Rattle.card.proofs.Answers.{pair-asked}
 use borrow.Author.Needs.{needs}
 use Rattle.fordcask.proofs.cards.fordcask_pixel.Statement.{statement}
 use Rattle.fordcask.proofs.cards.fordcask_pixel.Tie as tie
 
+pixel-requires : tie.Need-pixel-requires
+pixel-requires c κs =
+    let s = c .before .before .before .before .before in
+    card-known (s .args .series) (s .args .card .now) (c .before .before .before .read-card .ensures) (c .enum-told .given .1)
+
 returns : tie.Need-returns
 returns c =
-    let s = c .before .before in
-    c .pixel-on-card .ensures
-    ∙ pair-asked
-    (λ (lat lon : ℤ). pixelReport (onCard (readOf (s .args .series) (s .args .card .now)) PixelAnswer.Refused (λ k. pixelOf Pair.Centre k lat lon)))
-    (s .fits .lat) (s .fits .lon)
+    let s = c .before .before .before .before .before .before .before in
+    rw (← c .before .before .before .before .before .read-card .ensures, c .before .before .enum-told .given .1)
+    (c .into-parts .ensures ∙ ap pixelReport (c .before .pixel .ensures ∙ pair-asked (pixelOf Pair.Centre _) (s .fits .lat) (s .fits .lon)))
+
+returns-2 : tie.Need-returns-2
+returns-2 c = rw (← c .before .before .before .before .before .read-card .ensures, c .before .before .verdict .given .1) (c .into-parts2 .ensures)
 
 pub fordcask-pixel-spec : {M : Type 1} → statement M
-fordcask-pixel-spec = tie.close (tie.spec (λ c κs. search needs) returns)
+fordcask-pixel-spec =
+    tie.close
+    (tie.spec (λ c κs. search needs) (λ c. search needs) pixel-requires (λ c κs. search needs) (λ c. search needs) (λ c κs. search needs) returns returns-2)
