@@ -33,8 +33,8 @@
      and fordcask_pixels kept their names and now answer in the centre pair.
      Nothing tells the compiler. Who needs the answers as they were calls
      fordcask_corner_position, fordcask_corner_pixel, fordcask_corner_positions
-     and fordcask_corner_pixels: those are the same functions by a new name.
-     Positions that were kept from before are the corner pair's.
+     and fordcask_corner_pixels, which answer as those did. Positions that were
+     kept from before are the corner pair's.
    - Each function that took a scale takes the factor too. Where scale and zone
      were handed in, that is a struct fordcask_series by value; fordcask_cover
      and fordcask_rectangle take the factor right after the scale. With the

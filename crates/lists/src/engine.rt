@@ -64,7 +64,7 @@ fn scale_up(one: u64, x: u64, d: u64) -> u64
 }
 
 // An angle less whole circles.
-fn turned(angle: u64) -> u64
+fn reduced(angle: u64) -> u64
     requires { ⌜ angle < 259200000 ⌝ }
     ensures { λ r. ⌜ r ≡ angle % circle ⌝ }
 {
@@ -138,7 +138,7 @@ fn across_of(up: u64, k: Card) -> Span
 }
 
 // The pixel i hundredths past a span's first.
-fn pixels_past(x: Span, i: u64) -> i64
+fn pixel_past(x: Span, i: u64) -> i64
     requires { ⌜ i * x .rate + x .start < 9223372036854775808 ⌝ }
     ensures { λ r. ⌜ r ≡ pos ((i * x .rate + x .start) / fine) ⌝ }
 {
@@ -182,7 +182,7 @@ impl Engine {
         ensures { λ r. ⌜ r ≡ near ((self .card .east + column) * circle + inward (self .pair)) (self .card .a) % circle ⌝ }
     {
         let x = self.columns;
-        turned(x.base + (column * x.rate + x.start) / COARSE)
+        reduced(x.base + (column * x.rate + x.start) / COARSE)
     }
 
     // The position of a pixel, as `Card::position_in` answers it in the pair. Refuses 12, 13.
@@ -207,11 +207,11 @@ impl Engine {
     {
         let y = self.down;
         let x = self.across;
-        ((north <= y.first) & (y.first <= north + y.most)) & (turned(east + x.first) <= x.most)
+        ((north <= y.first) & (y.first <= north + y.most)) & (reduced(east + x.first) <= x.most)
     }
 
     // The pixel of the chart at a position counted from the South Pole and from 180° west (001, 3.4.4).
-    fn pixel_at(self, north: u64, east: u64) -> PixelAnswer
+    fn chart_pixel(self, north: u64, east: u64) -> PixelAnswer
         requires { ⌜ Made self ⌝ ∗ ⌜ north ≤ 64800000 ⌝ ∗ ⌜ east ≤ 129600000 ⌝ ∗ ⌜ held self north east ≡ true ⌝ }
         ensures { λ r. ⌜ r ≡ pixelAt (self .card) (rowOf (self .pair) (self .card) (pos north -ℤ pos 32400000))
             (columnOf (self .pair) (self .card) (pos east -ℤ pos 64800000)) ⌝ }
@@ -219,8 +219,8 @@ impl Engine {
         let y = self.down;
         let x = self.across;
         PixelAnswer::At {
-            row: pixels_past(y, y.first - north),
-            column: pixels_past(x, turned(east + x.first)),
+            row: pixel_past(y, y.first - north),
+            column: pixel_past(x, reduced(east + x.first)),
         }
     }
 
@@ -232,7 +232,7 @@ impl Engine {
         match card::count_position(lat, lon) {
             Ranged::At { north, east } => {
                 if self.holds(north, east) {
-                    return self.pixel_at(north, east);
+                    return self.chart_pixel(north, east);
                 }
                 let k = self.card;
                 let pair = self.pair;

@@ -7,24 +7,24 @@ use Rattle.lists.proofs.Engines.{column-fits-64, column-angle, column-b
 use Rattle.lists.proofs.engine.Engine.east_of.Statement.{statement}
 use Rattle.lists.proofs.engine.Engine.east_of.Tie as tie
 
-mul-turned : tie.Need-mul-turned
-mul-turned c = let s = c .before .before in record { fits = omega (arith, column-fits-64 _ (s .pre .0) _ (s .pre .1)) }
+mul-reduced : tie.Need-mul-reduced
+mul-reduced c = let s = c .before .before in record { fits = omega (arith, column-fits-64 _ (s .pre .0) _ (s .pre .1)) }
 
-add-turned : tie.Need-add-turned
-add-turned c = let s = c .before .before .before in record { fits = column-fits-64 _ (s .pre .0) _ (s .pre .1) }
+add-reduced : tie.Need-add-reduced
+add-reduced c = let s = c .before .before .before in record { fits = column-fits-64 _ (s .pre .0) _ (s .pre .1) }
 
-add-turned-2 : tie.Need-add-turned-2
-add-turned-2 c =
+add-reduced-2 : tie.Need-add-reduced-2
+add-reduced-2 c =
     let s = c .before .before .before .before in omega (arith, column-angle _ (s .pre .0) _ (s .pre .1), column-below _ (s .pre .0) _ (s .pre .1))
 
-turned-requires : tie.Need-turned-requires
-turned-requires c κs =
+reduced-requires : tie.Need-reduced-requires
+reduced-requires c κs =
     let s = c .before .before .before .before in omega (arith, column-angle _ (s .pre .0) _ (s .pre .1), column-below _ (s .pre .0) _ (s .pre .1))
 
 returns : tie.Need-returns
 returns c =
     let s = c .before .before .before .before .before in
-    c .turned .ensures ∙ ap (λ (n : ℕ). n % circle) (column-angle _ (s .pre .0) _ (s .pre .1))
+    c .reduced .ensures ∙ ap (λ (n : ℕ). n % circle) (column-angle _ (s .pre .0) _ (s .pre .1))
 
 pub east-of-spec : {M : Type 1} → statement M
-east-of-spec = tie.close (tie.spec mul-turned add-turned add-turned-2 turned-requires returns)
+east-of-spec = tie.close (tie.spec mul-reduced add-reduced add-reduced-2 reduced-requires returns)

@@ -19,8 +19,8 @@ counts c =
 holds-requires : tie.Need-holds-requires
 holds-requires c κs = (c .before .before .before .before .pre, (counts c .rows .high, counts c .columns .high))
 
-pixel-at-requires : tie.Need-pixel-at-requires
-pixel-at-requires c κs =
+chart-pixel-requires : tie.Need-chart-pixel-requires
+chart-pixel-requires c κs =
     let i = counts (c .before .before) in
     let s = c .before .before .before .before .before .before in
     (s .pre, (i .rows .high, (i .columns .high, sym (c .before .holds .ensures) ∙ c .if1 .taken)))
@@ -33,7 +33,7 @@ returns c =
     let p = s .args .self .pair in
     let i = counts (c .before .before .before) in
     rw (i .rows .test, i .columns .test)
-    (c .pixel-at .ensures ∙ ap₂ (λ (x y : ℤ). pixelAt k (rowOf p k x) (columnOf p k y)) (i .rows .same) (i .columns .same))
+    (c .chart-pixel .ensures ∙ ap₂ (λ (x y : ℤ). pixelAt k (rowOf p k x) (columnOf p k y)) (i .rows .same) (i .columns .same))
 
 pixel-in-requires : tie.Need-pixel-in-requires
 pixel-in-requires c κs = c .before .before .before .before .before .before .before .pre .known
@@ -55,4 +55,4 @@ returns-3 c =
 pub pixel-spec : {M : Type 1} → statement M
 pixel-spec =
     tie.close
-    (tie.spec (λ c κs. search needs) (λ c. search needs) holds-requires pixel-at-requires returns pixel-in-requires (λ c. search needs) returns-2 returns-3)
+    (tie.spec (λ c κs. search needs) (λ c. search needs) holds-requires chart-pixel-requires returns pixel-in-requires (λ c. search needs) returns-2 returns-3)
