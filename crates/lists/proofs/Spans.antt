@@ -46,11 +46,6 @@ module _ (e : Engine) (made : Made e) where
   pub top-low : e .down .first < 129600000
   top-low = rw (down-is e made) (mod-lt (F / u) {m = circle} (omega arith))
 
-  pub height-low : e .down .most < 129600000
-  height-low =
-      let last : ℕ = 253125 * (k .nll + 1 - k .nul) - 1 - F % u in
-      rw (down-is e made) (lt-of-mul-lt-mul-right u (omega (arith, div-mul-le-self last u, l .rows .whole, down-high k l, north-high k l, l .bottom)))
-
   top-is : e .down .first ≡ F / u
   top-is =
       ap (λ (x : Span). x .first) (down-is e made)
@@ -58,7 +53,7 @@ module _ (e : Engine) (made : Made e) where
       (lt-of-mul-lt-mul-right u (omega (arith, div-add-mod' F u, north-high k l, l .rows .some, l .rows .whole, shift-high (e .pair))))
 
   -- a latitude n hundredths from the South Pole, on the chart
-  module _ (n : ℕ) (h : n ≤ 64800000) (le : n ≤ e .down .first) (on : e .down .first ≤ n + e .down .most) where
+  module _ (n : ℕ) (h : n ≤ 64800000) (le : n ≤ e .down .first) (on : e .down .first - n ≤ e .down .most) where
     abbrev d : ℕ
     d = e .down .first - n
 
@@ -177,12 +172,12 @@ module _ (e : Engine) (made : Made e) where
 
   -- ---- a position on the chart
   module _ (n m : ℕ) (h : n ≤ 64800000) (on : held e n m ≡ true) where
-    pub held-parts : (n ≤ e .down .first) × (e .down .first ≤ n + e .down .most) × ((m + e .across .first) % circle ≤ e .across .most)
+    pub held-parts : (n ≤ e .down .first) × (e .down .first - n ≤ e .down .most) × ((m + e .across .first) % circle ≤ e .across .most)
     held-parts =
-        let t = and-eq-true-iff (leb n (e .down .first) && leb (e .down .first) (n + e .down .most)) (leb ((m + e .across .first) % circle) (e .across .most))
-        .0 on in
-        let s = and-eq-true-iff (leb n (e .down .first)) (leb (e .down .first) (n + e .down .most)) .0 (t .0) in
-        (leb-true n (e .down .first) (s .0), leb-true (e .down .first) (n + e .down .most) (s .1), leb-true _ (e .across .most) (t .1))
+        let b = leb ((m + e .across .first) % circle) (e .across .most) in
+        let t = and-eq-true-iff (leb n (e .down .first)) (leb (e .down .first - n) (e .down .most) && b) .0 on in
+        let s = and-eq-true-iff (leb (e .down .first - n) (e .down .most)) b .0 (t .1) in
+        (leb-true n (e .down .first) (t .0), leb-true (e .down .first - n) (e .down .most) (s .0), leb-true _ (e .across .most) (s .1))
 
     pub held-pixel : PixelAnswer.At (pos (((e .down .first - n) * e .down .rate + e .down .start) / fine))
         (pos (((m + e .across .first) % circle * e .across .rate + e .across .start) / fine))

@@ -101,7 +101,7 @@ pub record Made (e : Engine) : Type 0 where
 
 abbrev pub held : Engine → ℕ → ℕ → Bool
 held e north east =
-    (leb north (e .down .first) && leb (e .down .first) (north + e .down .most)) && leb ((east + e .across .first) % circle) (e .across .most)
+    leb north (e .down .first) && (leb (e .down .first - north) (e .down .most) && leb ((east + e .across .first) % circle) (e .across .most))
 
 abbrev pub entryTold : EntryParts → Report
 entryTold x = record { number = x .number; place = x .at; values = x .first ∷ x .second ∷ [] }

@@ -206,8 +206,11 @@ impl Engine {
         ensures { λ r. ⌜ r ≡ held self north east ⌝ }
     {
         let y = self.down;
+        if y.first < north {
+            return false;
+        }
         let x = self.across;
-        ((north <= y.first) & (y.first <= north + y.most)) & (reduced(east + x.first) <= x.most)
+        (y.first - north <= y.most) & (reduced(east + x.first) <= x.most)
     }
 
     // The pixel of the chart at a position counted from the South Pole and from 180° west (001, 3.4.4).
