@@ -42,11 +42,8 @@ pub fn count_from(z: i64, limit: u32) -> Counted
     ensures { λ r. ⌜ r ≡ countedBy limit z ⌝ }
 {
     let k = limit as i64;
-    if z < 0 - k {
-        return Counted::Outside;
+    if !((z < 0 - k) | (k < z)) {
+        return Counted::From((z + k) as u64);
     }
-    if k < z {
-        return Counted::Outside;
-    }
-    Counted::From((z + k) as u64)
+    Counted::Outside
 }
