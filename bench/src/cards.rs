@@ -10,7 +10,22 @@ use fordcask::raw;
 
 const SET: usize = 1024;
 
-/// Card read: valid cards of every scale and zone, one in eight damaged in one byte.
+/// The numbers that may be filled with blanks: offset and width (02, E2).
+const NUMBERS: [(usize, usize); 10] = [
+    (1, 8),
+    (9, 8),
+    (38, 6),
+    (44, 6),
+    (50, 6),
+    (56, 6),
+    (62, 3),
+    (65, 3),
+    (68, 6),
+    (74, 6),
+];
+
+/// Card read: valid cards of every scale and zone; one in eight damaged in one byte; every number
+/// of every card filled with blanks; of every other card.
 pub fn read(random: &mut Random) {
     let valid: Vec<Written> = sheets(random, &SCALES).iter().map(Sheet::write).collect();
     let mut mixed = valid.clone();
@@ -19,6 +34,25 @@ pub fn read(random: &mut Random) {
     }
     read_set("d card read, valid", &valid);
     read_set("d card read, 1 in 8 damaged", &mixed);
+    let padded: Vec<Written> = valid.iter().map(fill).collect();
+    let mut other = valid;
+    for (card, padded) in other.iter_mut().zip(&padded).step_by(2) {
+        *card = *padded;
+    }
+    read_set("d card read, all padded", &padded);
+    read_set("d card read, every other padded", &other);
+}
+
+/// Blanks for the leading zeros of each number.
+fn fill(card: &Written) -> Written {
+    let mut padded = *card;
+    for (at, width) in NUMBERS {
+        let leading = padded.bytes[at..at + width - 1].iter_mut();
+        for byte in leading.take_while(|byte| **byte == b'0') {
+            *byte = b' ';
+        }
+    }
+    padded
 }
 
 fn sheets(random: &mut Random, scales: &[u64]) -> Vec<Sheet> {
@@ -37,7 +71,7 @@ fn read_set(question: &str, cards: &[Written]) {
     let forms = vec![
         Form::new("plain", String::new(), || {
             let sum = |sum: u64, card| match black_box(read_plain(card)) {
-                Ok(card) => sum.wrapping_add((card.n + card.m + card.nus) as u64),
+                Ok(card) => sum.wrapping_add((card.n + card.m + card.nus) as u64 + card.blanks),
                 Err(refusal) => sum.wrapping_add(u64::from(refusal.number) + refusal.at),
             };
             cards.iter().fold(0, sum)
@@ -46,7 +80,7 @@ fn read_set(question: &str, cards: &[Written]) {
             let sum = |sum: u64, card| {
                 let card = black_box(read_ours(card));
                 if card.number == 0 {
-                    sum.wrapping_add((card.n + card.m) as u64 + card.nus)
+                    sum.wrapping_add((card.n + card.m) as u64 + card.nus + card.blanks)
                 } else {
                     sum.wrapping_add(u64::from(card.number) + card.at)
                 }
@@ -86,6 +120,7 @@ fn answer(card: &raw::Card) -> Result<Card, Refusal> {
         nfc: card.nfc as i64,
         bad: card.bad,
         tif: card.tif != 0,
+        blanks: card.blanks,
     })
 }
 

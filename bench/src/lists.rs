@@ -105,7 +105,7 @@ fn refused(answers: &[(u32, i64, i64)]) -> String {
     format!("{count} of {LIST} refused")
 }
 
-fn done(refusal: raw::Refusal) -> Result<(), Refusal> {
+fn done(refusal: raw::Verdict) -> Result<(), Refusal> {
     match refusal.number {
         0 => Ok(()),
         number => plain::refuse(number, refusal.at),

@@ -1,4 +1,4 @@
-//! The plain rule: document 01, with E4 and E13 of 02, in straightforward Rust with division.
+//! The plain rule: document 01, with E2, E4, E8 and E13 of 02, in straightforward Rust with division.
 
 use fordcask::Series;
 
@@ -40,6 +40,8 @@ pub struct Card {
     pub nfc: i64,
     pub bad: [u8; 12],
     pub tif: bool,
+    /// The total of blanks before the digits of its numbers (02, E2).
+    pub blanks: u64,
 }
 
 /// What is to be written; the numbers are the caller's and may be anything.

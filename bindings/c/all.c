@@ -70,7 +70,6 @@ static void print_pairs(const int64_t *pairs, size_t length,
     printf(" :");
     for (i = 0; i < numbers_len; i++)
         printf(" %" PRIu32, numbers[i]);
-    printf("\n");
 }
 
 static struct fordcask_series series(uint64_t scale, uint64_t factor,
@@ -126,15 +125,18 @@ static void align(uint64_t scale, uint64_t factor, uint64_t zone, int64_t lat,
            o.pso, o.lso);
 }
 
-/* A zero byte of BAD is printed as '_'. */
-static void read_card(uint64_t scale, uint64_t factor, const uint8_t *bytes,
-                      size_t length)
+/* The total of blanks of a card. */
+static void end(uint64_t blanks)
 {
-    struct fordcask_card c =
-        fordcask_read_card(series(scale, factor, 1), bytes, length);
+    printf(" %" PRIu64 "\n", blanks);
+}
+
+/* A zero byte of BAD is printed as '_'. */
+static void print_card(const char *name, struct fordcask_card c)
+{
     size_t i;
 
-    start("read_card", c.number, c.at);
+    start(name, c.number, c.at);
     printf(" %" PRIu64 " %" PRIu64 " %" PRId64 " %" PRId64, c.a, c.b, c.n,
            c.m);
     printf(" %" PRIu64 " %" PRIu64 " %" PRIu64 " %" PRIu64, c.nul, c.nus,
@@ -142,7 +144,20 @@ static void read_card(uint64_t scale, uint64_t factor, const uint8_t *bytes,
     printf(" %" PRIu64 " %" PRIu64 " ", c.nfl, c.nfc);
     for (i = 0; i < 12; i++)
         printf("%c", c.bad[i] == 0 ? '_' : c.bad[i]);
-    printf(" %u\n", (unsigned)c.tif);
+    printf(" %u", (unsigned)c.tif);
+    end(c.blanks);
+}
+
+static void read_card(uint64_t scale, uint64_t factor, const uint8_t *bytes,
+                      size_t length)
+{
+    print_card("read_card",
+               fordcask_read_card(series(scale, factor, 1), bytes, length));
+}
+
+static void read_strict(const uint8_t *bytes, size_t length)
+{
+    print_card("read_strict", fordcask_read_strict(charts, bytes, length));
 }
 
 /* The output is filled with '#' before. */
@@ -174,7 +189,8 @@ static void place(const uint8_t *bytes, int64_t row, int64_t column)
         fordcask_place(charts, bytes, CARD, row, column);
 
     start("place", p.number, p.at);
-    printf(" %" PRId64 " %" PRId64 "\n", p.row, p.column);
+    printf(" %" PRId64 " %" PRId64, p.row, p.column);
+    end(p.blanks);
 }
 
 static void position(const uint8_t *bytes, int64_t row, int64_t column)
@@ -183,7 +199,8 @@ static void position(const uint8_t *bytes, int64_t row, int64_t column)
         fordcask_position(charts, bytes, CARD, row, column);
 
     start("position", p.number, p.at);
-    printf(" %" PRId64 " %" PRId64 "\n", p.lat, p.lon);
+    printf(" %" PRId64 " %" PRId64, p.lat, p.lon);
+    end(p.blanks);
 }
 
 static void corner_position(const uint8_t *bytes, int64_t row, int64_t column)
@@ -192,7 +209,8 @@ static void corner_position(const uint8_t *bytes, int64_t row, int64_t column)
         fordcask_corner_position(charts, bytes, CARD, row, column);
 
     start("corner_position", p.number, p.at);
-    printf(" %" PRId64 " %" PRId64 "\n", p.lat, p.lon);
+    printf(" %" PRId64 " %" PRId64, p.lat, p.lon);
+    end(p.blanks);
 }
 
 static void pixel(const uint8_t *bytes, int64_t lat, int64_t lon)
@@ -201,7 +219,8 @@ static void pixel(const uint8_t *bytes, int64_t lat, int64_t lon)
         fordcask_pixel(charts, bytes, CARD, lat, lon);
 
     start("pixel", p.number, p.at);
-    printf(" %" PRId64 " %" PRId64 "\n", p.row, p.column);
+    printf(" %" PRId64 " %" PRId64, p.row, p.column);
+    end(p.blanks);
 }
 
 static void corner_pixel(const uint8_t *bytes, int64_t lat, int64_t lon)
@@ -210,17 +229,19 @@ static void corner_pixel(const uint8_t *bytes, int64_t lat, int64_t lon)
         fordcask_corner_pixel(charts, bytes, CARD, lat, lon);
 
     start("corner_pixel", p.number, p.at);
-    printf(" %" PRId64 " %" PRId64 "\n", p.row, p.column);
+    printf(" %" PRId64 " %" PRId64, p.row, p.column);
+    end(p.blanks);
 }
 
 static void overview_pixel(const uint8_t *bytes, const uint8_t *over,
                            size_t length, int64_t row, int64_t column)
 {
-    struct fordcask_pixel p = fordcask_overview_pixel(
+    struct fordcask_overview_pixel p = fordcask_overview_pixel(
         charts, bytes, CARD, overviews, over, length, row, column);
 
     start("overview_pixel", p.number, p.at);
-    printf(" %" PRId64 " %" PRId64 "\n", p.row, p.column);
+    printf(" %" PRId64 " %" PRId64 " %" PRIu64, p.row, p.column, p.blanks);
+    end(p.overview_blanks);
 }
 
 /* The marks are filled with 7 before. */
@@ -229,13 +250,13 @@ static void index_check(const uint8_t *bytes, const uint32_t *index,
 {
     uint8_t marks[5] = {7, 7, 7, 7, 7};
     size_t i;
-    struct fordcask_refusal r = fordcask_index_check(
+    struct fordcask_verdict r = fordcask_index_check(
         charts, bytes, CARD, index, length, count, marks, 5);
 
     start("index_check", r.number, r.at);
     for (i = 0; i < 5; i++)
         printf(" %u", (unsigned)marks[i]);
-    printf("\n");
+    end(r.blanks);
 }
 
 /* fordcask_tile, then fordcask_bands, of one pixel. */
@@ -250,11 +271,13 @@ static void tile(const uint8_t *bytes, const uint32_t *index, size_t length,
                        (size_t)count * TILE, row, column);
 
     start("tile", t.number, t.at);
-    printf(" %" PRIu64 " %" PRIu64 " %" PRIu64 "\n", t.stored, t.offset,
+    printf(" %" PRIu64 " %" PRIu64 " %" PRIu64, t.stored, t.offset,
            t.length);
+    end(t.blanks);
     start("bands", b.number, b.at);
-    printf(" %u %u %u\n", (unsigned)b.red, (unsigned)b.green,
+    printf(" %u %u %u", (unsigned)b.red, (unsigned)b.green,
            (unsigned)b.blue);
+    end(b.blanks);
 }
 
 static void window(const uint8_t *bytes, const uint32_t *index, size_t length,
@@ -266,7 +289,8 @@ static void window(const uint8_t *bytes, const uint32_t *index, size_t length,
                         left, height, width);
 
     start("window", w.number, w.at);
-    printf(" %" PRIu64 " %" PRIu64 "\n", w.missing, w.tile);
+    printf(" %" PRIu64 " %" PRIu64, w.missing, w.tile);
+    end(w.blanks);
 }
 
 /* Both outputs are filled with 7 before; length is that of the list. */
@@ -275,12 +299,13 @@ static void positions(int corner, size_t length)
     static const int64_t pixels[8] = {5, 3, 250, 370, 4, 3, 0, 384};
     int64_t out[9] = {7, 7, 7, 7, 7, 7, 7, 7, 7};
     uint32_t numbers[5] = {7, 7, 7, 7, 7};
-    struct fordcask_refusal r =
+    struct fordcask_verdict r =
         (corner ? fordcask_corner_positions : fordcask_positions)(
             charts, padded_card, CARD, pixels, length, out, 9, numbers, 5);
 
     start(corner ? "corner_positions" : "positions", r.number, r.at);
     print_pairs(out, 9, numbers, 5);
+    end(r.blanks);
 }
 
 static void pixels(int corner, size_t length)
@@ -290,12 +315,13 @@ static void pixels(int corner, size_t length)
                                        4141604,  -896454};
     int64_t out[11] = {7, 7, 7, 7, 7, 7, 7, 7, 7, 7, 7};
     uint32_t numbers[6] = {7, 7, 7, 7, 7, 7};
-    struct fordcask_refusal r =
+    struct fordcask_verdict r =
         (corner ? fordcask_corner_pixels : fordcask_pixels)(
             charts, padded_card, CARD, places, length, out, 11, numbers, 6);
 
     start(corner ? "corner_pixels" : "pixels", r.number, r.at);
     print_pairs(out, 11, numbers, 6);
+    end(r.blanks);
 }
 
 static void zones(void)
@@ -445,11 +471,66 @@ static void tiles(void)
     window(card, stored_index, 0, 2, 0, 0, 2, 1);
 }
 
+/* Blanks for the leading zeros of each number. */
+static void fill(uint8_t *bytes)
+{
+    static const size_t numbers[10][2] = {{1, 8},  {9, 8},  {38, 6}, {44, 6},
+                                          {50, 6}, {56, 6}, {62, 3}, {65, 3},
+                                          {68, 6}, {74, 6}};
+    size_t i, j;
+
+    for (i = 0; i < 10; i++)
+        for (j = 0; j + 1 < numbers[i][1] && bytes[numbers[i][0] + j] == '0';
+             j++)
+            bytes[numbers[i][0] + j] = ' ';
+}
+
+/* The same card with blanks, which is asked as it was without. */
+static void blanks(void)
+{
+    uint8_t filled_overview[CARD];
+
+    read_strict(padded_card, CARD);
+    fill(padded_card);
+    read_card(SCALE, 1, padded_card, CARD);
+    read_card(SCALE, 2, padded_card, CARD);
+    read_strict(padded_card, CARD);
+    place(padded_card, 0, 383);
+    place(padded_card, 256, 0);
+    position(padded_card, 5, 3);
+    position(padded_card, 4, 3);
+    corner_position(padded_card, 5, 3);
+    corner_position(padded_card, 4, 3);
+    pixel(padded_card, 4141604, -896454);
+    pixel(padded_card, 4142899, -897156);
+    corner_pixel(padded_card, 4141604, -896454);
+    corner_pixel(padded_card, 32400001, 0);
+    memcpy(filled_overview, overview_card, CARD);
+    fill(filled_overview);
+    overview_pixel(padded_card, overview_card, CARD, 5, 3);
+    overview_pixel(card, filled_overview, CARD, 5, 3);
+    overview_pixel(padded_card, filled_overview, CARD, 5, 3);
+    overview_pixel(padded_card, filled_overview, CARD, 4, 3);
+    positions(0, 8);
+    positions(0, 7);
+    positions(1, 8);
+    pixels(0, 10);
+    pixels(1, 10);
+    pixels(1, 9);
+    index_check(padded_card, stored_index, 6, 4);
+    index_check(padded_card, stored_index, 5, 4);
+    tile(padded_card, stored_index, 6, 4, 6, 259);
+    tile(padded_card, stored_index, 6, 4, 5, 128);
+    window(padded_card, stored_index, 6, 4, 1, 0, 1, 2);
+    window(padded_card, stored_index, 6, 4, 1, 1, 1, 3);
+}
+
 int main(void)
 {
     zones();
     cards();
     grid();
     tiles();
+    blanks();
     return 0;
 }

@@ -28,7 +28,14 @@
    pair is meant where no name says "corner". A position of one pair handed to
    the other carries no promise.
 
-   This header breaks callers of earlier ones, in two ways:
+   In a card, blanks (0x20) may stand before the first digit of ARV, BRV, NUL,
+   NUS, NLL, NLS, NFL, NFC, PNC and PNL; one of blanks alone is refused with 7,
+   and so is a blank after a digit or in any other subfield but TIF, where it
+   is 8. Each answer on a card has the total of such blanks in `blanks`, 0..37;
+   like every value it is 0 in a refusal, the card's own or the question's.
+   Writing uses zeros.
+
+   This header breaks callers of earlier ones, in three ways:
    - The four functions fordcask_position, fordcask_pixel, fordcask_positions
      and fordcask_pixels kept their names and now answer in the centre pair.
      Nothing tells the compiler. Who needs the answers as they were calls
@@ -39,6 +46,12 @@
      were handed in, that is a struct fordcask_series by value; fordcask_cover
      and fordcask_rectangle take the factor right after the scale. With the
      factor 1 each answers as before the factor.
+   - Each block answered on a card ends with `blanks`, so it has grown. The five
+     functions that answered a struct fordcask_refusal on a card
+     (fordcask_index_check and those on lists) answer a struct
+     fordcask_verdict, and fordcask_overview_pixel a struct
+     fordcask_overview_pixel. Cards that were refused with 7 for such blanks
+     alone are read; fordcask_read_strict still refuses them.
 
    A and B are the pixels in the circle along a parallel and along a meridian.
    A tile is 128 by 128 pixels. The chart is a rectangle of the tiles' pixels;
@@ -113,6 +126,13 @@ struct fordcask_refusal {
     uint64_t at;
 };
 
+/* What is answered on a card beside the buffers. */
+struct fordcask_verdict {
+    uint32_t number;
+    uint64_t at;
+    uint64_t blanks; /* the total of blanks of the card, 0..37 */
+};
+
 /* A and B, multiples of 512. */
 struct fordcask_spacing {
     uint32_t number;
@@ -170,6 +190,7 @@ struct fordcask_card {
     uint8_t bad[12]; /* BAD, the name: eight capital letters or digits, a dot,
                         three more; no zero byte at the end */
     uint8_t tif;     /* TIF, 1 for Y, 0 for N */
+    uint64_t blanks; /* the total of blanks of the card, 0..37 */
 };
 
 /* A record to be written. */
@@ -194,6 +215,7 @@ struct fordcask_place {
     uint64_t at;
     int64_t row;    /* rows north of the Equator, above -B/4, at most B/4 */
     int64_t column; /* columns east of the zero meridian, 0..A - 1 */
+    uint64_t blanks; /* the total of blanks of the card, 0..37 */
 };
 
 /* A position, hundredths of an arc-second. */
@@ -202,6 +224,7 @@ struct fordcask_position {
     uint64_t at;
     int64_t lat; /* -32400000..32400000 */
     int64_t lon; /* -64800000..64799999; the date line is -64800000 */
+    uint64_t blanks; /* the total of blanks of the card, 0..37 */
 };
 
 /* A pixel of a card's chart; row 0 is the top of its tiles, column 0 the
@@ -211,6 +234,19 @@ struct fordcask_pixel {
     uint64_t at;
     int64_t row;    /* NUL..NLL */
     int64_t column; /* NLS..NUS */
+    uint64_t blanks; /* the total of blanks of the card, 0..37 */
+};
+
+/* A pixel of the chart of an overview's card. */
+struct fordcask_overview_pixel {
+    uint32_t number;
+    uint64_t at;
+    int64_t row;              /* NUL..NLL of the overview's card */
+    int64_t column;           /* NLS..NUS of the overview's card */
+    uint64_t blanks;          /* the total of blanks of the chart's card,
+                                 0..37 */
+    uint64_t overview_blanks; /* the total of blanks of the overview's card,
+                                 0..37 */
 };
 
 /* Position minus centre in whole hundredths of an arc-second, exact. */
@@ -229,6 +265,7 @@ struct fordcask_tile {
     uint64_t stored; /* its number among the stored tiles, 1..count */
     uint64_t offset; /* 49152 x (stored - 1) */
     uint64_t length; /* 49152 */
+    uint64_t blanks; /* the total of blanks of the card, 0..37 */
 };
 
 /* The three band values of a pixel, 0..255 each. */
@@ -236,6 +273,7 @@ struct fordcask_bands {
     uint32_t number;
     uint64_t at;
     uint8_t red, green, blue;
+    uint64_t blanks; /* the total of blanks of the card, 0..37 */
 };
 
 /* missing 1: tile is the first missing one, by its number from 0 in the
@@ -245,6 +283,7 @@ struct fordcask_window {
     uint32_t number;
     uint64_t at;
     uint64_t missing, tile;
+    uint64_t blanks; /* the total of blanks of the card, 0..37 */
 };
 
 /* A and B of a zone at a scale and a factor, the polar zones 9 and 18 too.
@@ -281,6 +320,14 @@ struct fordcask_origin fordcask_align(struct fordcask_series series,
    6, then each subfield from left to right with 7 before 8, then 9, 10, 11. */
 struct fordcask_card fordcask_read_card(struct fordcask_series series,
                                         const uint8_t *card, size_t card_len);
+
+/* The same with no blank before a digit: such a blank is 7 at its subfield,
+   in its place among the refusals, so 8 of a later subfield, 9, 10 and 11 do
+   not come before it. A card in which none stands is answered as by
+   fordcask_read_card; blanks is 0. */
+struct fordcask_card fordcask_read_strict(struct fordcask_series series,
+                                          const uint8_t *card,
+                                          size_t card_len);
 
 /* Writes a card into the first 98 bytes of out; the rest stays. The scale is
    10000..20000000, 24 for 5000..9999 whatever the factor; the zone is not 9 or
@@ -347,14 +394,11 @@ struct fordcask_pixel fordcask_corner_pixel(struct fordcask_series series,
    card. Refuses what reading the chart's card refuses, then what reading the
    overview's card refuses, then 12, 13 of the chart's card, then 12, 13 of the
    overview's; number and place do not tell which card was refused. */
-struct fordcask_pixel fordcask_overview_pixel(struct fordcask_series series,
-                                              const uint8_t *card,
-                                              size_t card_len,
-                                              struct fordcask_series
-                                                  overview_series,
-                                              const uint8_t *overview_card,
-                                              size_t overview_card_len,
-                                              int64_t row, int64_t column);
+struct fordcask_overview_pixel
+fordcask_overview_pixel(struct fordcask_series series, const uint8_t *card,
+                        size_t card_len, struct fordcask_series overview_series,
+                        const uint8_t *overview_card, size_t overview_card_len,
+                        int64_t row, int64_t column);
 
 /* Checks that each number 1..count occurs exactly once in the index. With TIF
    Y the index has NFL x NFC entries in reading order, 0 for a tile not stored;
@@ -365,7 +409,7 @@ struct fordcask_pixel fordcask_overview_pixel(struct fordcask_series series,
    (anywhere, if none is refused), else 0; with N all become 1. Marks past the
    count stay; all stay where the card or a length is refused.
    Refuses 6, 15. */
-struct fordcask_refusal fordcask_index_check(struct fordcask_series series,
+struct fordcask_verdict fordcask_index_check(struct fordcask_series series,
                                              const uint8_t *card,
                                              size_t card_len,
                                              const uint32_t *index,
@@ -414,7 +458,7 @@ struct fordcask_window fordcask_window(struct fordcask_series series,
    fordcask_position, or numbers[i] is 12 or 13 and the entry is 0, 0. What
    lies past the entries stays. Refuses 6 where pixels_len is odd,
    positions_len is below it, or numbers_len is below half of it. */
-struct fordcask_refusal fordcask_positions(struct fordcask_series series,
+struct fordcask_verdict fordcask_positions(struct fordcask_series series,
                                            const uint8_t *card,
                                            size_t card_len,
                                            const int64_t *pixels,
@@ -426,7 +470,7 @@ struct fordcask_refusal fordcask_positions(struct fordcask_series series,
 
 /* The same in the corner pair: entry i is the answer of
    fordcask_corner_position. */
-struct fordcask_refusal
+struct fordcask_verdict
 fordcask_corner_positions(struct fordcask_series series, const uint8_t *card,
                           size_t card_len, const int64_t *pixels,
                           size_t pixels_len, int64_t *positions,
@@ -441,7 +485,7 @@ fordcask_corner_positions(struct fordcask_series series, const uint8_t *card,
    and the entry is 0, 0. What lies past the entries stays. Refuses 6 where
    positions_len is odd, pixels_len is below it, or numbers_len is below half
    of it. */
-struct fordcask_refusal fordcask_pixels(struct fordcask_series series,
+struct fordcask_verdict fordcask_pixels(struct fordcask_series series,
                                         const uint8_t *card, size_t card_len,
                                         const int64_t *positions,
                                         size_t positions_len, int64_t *pixels,
@@ -450,7 +494,7 @@ struct fordcask_refusal fordcask_pixels(struct fordcask_series series,
 
 /* The same in the corner pair: entry i is the answer of
    fordcask_corner_pixel. */
-struct fordcask_refusal
+struct fordcask_verdict
 fordcask_corner_pixels(struct fordcask_series series, const uint8_t *card,
                        size_t card_len, const int64_t *positions,
                        size_t positions_len, int64_t *pixels,

@@ -1,4 +1,4 @@
-//! Card reading: 1, 2, 3, 6, subfields left to right (7 before 8), 9, 10, 11.
+//! Card reading: 1, 2, 3, 6, subfields left to right (7 before 8), 9, 10, 11; blanks before digits (02, E2).
 
 use super::{nearest, refuse, spacing, Card, Refusal, CARD, H};
 use fordcask::Series;
@@ -28,6 +28,7 @@ pub fn read_card(series: Series, card: &[u8]) -> Result<Card, Refusal> {
         nfc: fields.nfc,
         bad: fields.bad,
         tif: fields.tif,
+        blanks: fields.blanks,
     };
     if !extents(&found) {
         return refuse(11, 0);
@@ -48,24 +49,27 @@ struct Fields {
     nfc: i64,
     bad: [u8; 12],
     tif: bool,
+    blanks: u64,
 }
 
 fn read_fields(card: &[u8; CARD]) -> Result<Fields, Refusal> {
-    constant(card, 0, 1, 3)?;
-    let arv = number(card, 1, 8)?;
-    let brv = number(card, 9, 8)?;
+    let mut blanks = 0;
+    let total = &mut blanks;
+    constant(card, 0, 1, 3, total)?;
+    let arv = number(card, 1, 8, total)?;
+    let brv = number(card, 9, 8, total)?;
     let lso = angle(card, 17, 3, 180)?;
     let pso = angle(card, 28, 2, 90)?;
-    let nul = number(card, 38, 6)?;
-    let nus = number(card, 44, 6)?;
-    let nll = number(card, 50, 6)?;
-    let nls = number(card, 56, 6)?;
-    let nfl = tiles(card, 62)?;
-    let nfc = tiles(card, 65)?;
-    constant(card, 68, 6, 128)?;
-    constant(card, 74, 6, 128)?;
+    let nul = number(card, 38, 6, total)?;
+    let nus = number(card, 44, 6, total)?;
+    let nll = number(card, 50, 6, total)?;
+    let nls = number(card, 56, 6, total)?;
+    let nfl = tiles(card, 62, total)?;
+    let nfc = tiles(card, 65, total)?;
+    constant(card, 68, 6, 128, total)?;
+    constant(card, 74, 6, 128, total)?;
     for (at, value) in [(80, 0), (81, 1), (82, 0), (83, 0), (84, 8)] {
-        constant(card, at, 1, value)?;
+        constant(card, at, 1, value, total)?;
     }
     let bad = name(card)?;
     let tif = match card[97] {
@@ -86,6 +90,7 @@ fn read_fields(card: &[u8; CARD]) -> Result<Fields, Refusal> {
         nfc,
         bad,
         tif,
+        blanks,
     })
 }
 
@@ -101,19 +106,32 @@ fn digits(card: &[u8; CARD], from: usize, width: usize, place: usize) -> Result<
     Ok(value)
 }
 
-fn number(card: &[u8; CARD], at: usize, width: usize) -> Result<i64, Refusal> {
-    digits(card, at, width, at)
+/// A number with blanks before its digits; they are added to the total. All blank is wrong.
+fn number(card: &[u8; CARD], at: usize, width: usize, total: &mut u64) -> Result<i64, Refusal> {
+    let field = &card[at..at + width];
+    let blanks = field.iter().take_while(|&&byte| byte == b' ').count();
+    if blanks == width {
+        return refuse(7, at as u64);
+    }
+    *total += blanks as u64;
+    digits(card, at + blanks, width - blanks, at)
 }
 
-fn constant(card: &[u8; CARD], at: usize, width: usize, value: i64) -> Result<(), Refusal> {
-    if number(card, at, width)? != value {
+fn constant(
+    card: &[u8; CARD],
+    at: usize,
+    width: usize,
+    value: i64,
+    total: &mut u64,
+) -> Result<(), Refusal> {
+    if number(card, at, width, total)? != value {
         return refuse(8, at as u64);
     }
     Ok(())
 }
 
-fn tiles(card: &[u8; CARD], at: usize) -> Result<i64, Refusal> {
-    let value = number(card, at, 3)?;
+fn tiles(card: &[u8; CARD], at: usize, total: &mut u64) -> Result<i64, Refusal> {
+    let value = number(card, at, 3, total)?;
     if value == 0 {
         return refuse(8, at as u64);
     }

@@ -36,15 +36,39 @@ pub struct Record {
 pub struct Card {
     /// A and B of the card's scale, factor and zone.
     pub spacing: Spacing,
-    /// The record; writing it gives the card's bytes back, from 1:10,000 up.
+    /// The record; writing it gives the card's bytes back, from 1:10,000 up and where no blanks
+    /// were met.
     pub record: Record,
 }
 
-/// Reads a card of 98 bytes at its scale, factor and zone. Refuses 1, 17, 1, 2, 3, 6, 7 and 8, 9,
-/// 10, 11.
-pub fn read_card(series: Series, card: &[u8]) -> Result<Card, Refusal> {
+/// An answer on a card, and the total of blanks met in reading it: those before the first digit of
+/// ARV, BRV, NUL, NUS, NLL, NLS, NFL, NFC, PNC and PNL.
+#[derive(Clone, Copy, Debug, PartialEq, Eq)]
+pub struct OnCard<T> {
+    /// The answer.
+    pub value: T,
+    /// The total of blanks, at most 37.
+    pub blanks: u64,
+}
+
+/// Reads a card of 98 bytes at its scale, factor and zone; blanks may stand before the first digit
+/// of a number of more than one digit. Refuses 1, 17, 1, 2, 3, 6, 7 and 8, 9, 10, 11.
+pub fn read_card(series: Series, card: &[u8]) -> Result<OnCard<Card>, Refusal> {
     // SAFETY: the pointer and length are those of one slice, which is only read.
     let given = unsafe { raw::fordcask_read_card(series, card.as_ptr(), card.len()) };
+    let read = OnCard { value: of(&given), blanks: given.blanks };
+    answer(given.number, given.at, read)
+}
+
+/// Reads a card as document 01 has it, where no blank may stand before a digit: 7 instead. Refuses
+/// as [`read_card`].
+pub fn read_strict(series: Series, card: &[u8]) -> Result<Card, Refusal> {
+    // SAFETY: the pointer and length are those of one slice, which is only read.
+    let given = unsafe { raw::fordcask_read_strict(series, card.as_ptr(), card.len()) };
+    answer(given.number, given.at, of(&given))
+}
+
+fn of(given: &raw::Card) -> Card {
     let record = Record {
         n: given.n,
         m: given.m,
@@ -58,7 +82,7 @@ pub fn read_card(series: Series, card: &[u8]) -> Result<Card, Refusal> {
         tif: given.tif != 0,
     };
     let spacing = Spacing { a: given.a, b: given.b };
-    answer(given.number, given.at, Card { spacing, record })
+    Card { spacing, record }
 }
 
 /// Writes a record as the first 98 bytes of `out`; the rest stays, and all of it in a refusal.

@@ -1,7 +1,8 @@
 //! The C entry points as they are; units and ranges are in `bindings/c/fordcask.h`.
 //!
 //! `number` 0 means answered, else it is the refusal's number and `at` its place.
-//! In a refusal every other field is 0.
+//! In a refusal every other field is 0. `blanks` is how many blanks stood before the digits of the
+//! card's numbers.
 //!
 //! A buffer is a pointer and a length in elements. The pointer is not null and is aligned for its
 //! elements; it points to that many elements. Where the length is 0 any aligned address but null
@@ -21,6 +22,7 @@ unsafe extern "C" {
     pub safe fn fordcask_offset(lat: i64, lon: i64, centre_lat: i64, centre_lon: i64) -> Offset;
 
     pub fn fordcask_read_card(series: Series, card: *const u8, card_len: usize) -> Card;
+    pub fn fordcask_read_strict(series: Series, card: *const u8, card_len: usize) -> Card;
     pub fn fordcask_write_card(
         series: Series,
         record: Record,
@@ -72,7 +74,7 @@ unsafe extern "C" {
         overview_card_len: usize,
         row: i64,
         column: i64,
-    ) -> Pixel;
+    ) -> OverviewPixel;
 
     pub fn fordcask_index_check(
         series: Series,
@@ -83,7 +85,7 @@ unsafe extern "C" {
         count: u64,
         marks: *mut u8,
         marks_len: usize,
-    ) -> Refusal;
+    ) -> Verdict;
     pub fn fordcask_tile(
         series: Series,
         card: *const u8,
@@ -131,7 +133,7 @@ unsafe extern "C" {
         positions_len: usize,
         numbers: *mut u32,
         numbers_len: usize,
-    ) -> Refusal;
+    ) -> Verdict;
     pub fn fordcask_corner_positions(
         series: Series,
         card: *const u8,
@@ -142,7 +144,7 @@ unsafe extern "C" {
         positions_len: usize,
         numbers: *mut u32,
         numbers_len: usize,
-    ) -> Refusal;
+    ) -> Verdict;
     pub fn fordcask_pixels(
         series: Series,
         card: *const u8,
@@ -153,7 +155,7 @@ unsafe extern "C" {
         pixels_len: usize,
         numbers: *mut u32,
         numbers_len: usize,
-    ) -> Refusal;
+    ) -> Verdict;
     pub fn fordcask_corner_pixels(
         series: Series,
         card: *const u8,
@@ -164,5 +166,5 @@ unsafe extern "C" {
         pixels_len: usize,
         numbers: *mut u32,
         numbers_len: usize,
-    ) -> Refusal;
+    ) -> Verdict;
 }

@@ -1,3 +1,4 @@
+use crate::card::OnCard;
 use crate::position::Pixel;
 use crate::raw;
 use crate::refusal::{answer, Refusal};
@@ -46,7 +47,7 @@ impl Sheet<'_> {
     /// Mark k - 1 becomes 1 if k occurs before the refused entry (anywhere, if none is refused),
     /// else 0, for k up to the count; with TIF N all of these become 1. Marks beyond stay.
     /// A refusal before the entries are looked at (the card's, or 6) leaves all marks unchanged.
-    pub fn index_check(&self, tiles: Tiles, marks: &mut [u8]) -> Result<(), Refusal> {
+    pub fn index_check(&self, tiles: Tiles, marks: &mut [u8]) -> Result<OnCard<()>, Refusal> {
         // SAFETY: each pointer and length are those of one slice; marks are lent for writing.
         let given = unsafe {
             raw::fordcask_index_check(
@@ -60,7 +61,7 @@ impl Sheet<'_> {
                 marks.len(),
             )
         };
-        answer(given.number, given.at, ())
+        answer(given.number, given.at, OnCard { value: (), blanks: given.blanks })
     }
 
     /// The 49,152 bytes of the pixel's tile, a part of `store`, which holds exactly
@@ -70,14 +71,16 @@ impl Sheet<'_> {
         tiles: Tiles,
         store: &'s [u8],
         pixel: Pixel,
-    ) -> Result<&'s [u8], Refusal> {
+    ) -> Result<OnCard<&'s [u8]>, Refusal> {
         let given = self.look_up(tiles, store, pixel)?;
-        Ok(&store[given.offset as usize..][..given.length as usize])
+        let value = &store[given.offset as usize..][..given.length as usize];
+        Ok(OnCard { value, blanks: given.blanks })
     }
 
     /// The number of the pixel's tile among the stored ones, from 1. Refuses as [`Sheet::tile`].
-    pub fn stored(&self, tiles: Tiles, store: &[u8], pixel: Pixel) -> Result<u64, Refusal> {
-        Ok(self.look_up(tiles, store, pixel)?.stored)
+    pub fn stored(&self, tiles: Tiles, store: &[u8], pixel: Pixel) -> Result<OnCard<u64>, Refusal> {
+        let given = self.look_up(tiles, store, pixel)?;
+        Ok(OnCard { value: given.stored, blanks: given.blanks })
     }
 
     fn look_up(&self, tiles: Tiles, store: &[u8], pixel: Pixel) -> Result<raw::Tile, Refusal> {
@@ -100,7 +103,12 @@ impl Sheet<'_> {
     }
 
     /// The three band values of a pixel. Refuses as [`Sheet::tile`].
-    pub fn bands(&self, tiles: Tiles, store: &[u8], pixel: Pixel) -> Result<Bands, Refusal> {
+    pub fn bands(
+        &self,
+        tiles: Tiles,
+        store: &[u8],
+        pixel: Pixel,
+    ) -> Result<OnCard<Bands>, Refusal> {
         // SAFETY: each pointer and length are those of one slice, which is only read.
         let given = unsafe {
             raw::fordcask_bands(
@@ -117,13 +125,13 @@ impl Sheet<'_> {
             )
         };
         let value = Bands { red: given.red, green: given.green, blue: given.blue };
-        answer(given.number, given.at, value)
+        answer(given.number, given.at, OnCard { value, blanks: given.blanks })
     }
 
     /// The first tile of the window that isn't stored, by its number from 0 in the image, or none.
     ///
     /// Refuses 6, 12, then 15 where an entry above the count comes before any missing tile.
-    pub fn window(&self, tiles: Tiles, window: Window) -> Result<Option<u64>, Refusal> {
+    pub fn window(&self, tiles: Tiles, window: Window) -> Result<OnCard<Option<u64>>, Refusal> {
         // SAFETY: each pointer and length are those of one slice, which is only read.
         let given = unsafe {
             raw::fordcask_window(
@@ -140,6 +148,6 @@ impl Sheet<'_> {
             )
         };
         let value = (given.missing != 0).then_some(given.tile);
-        answer(given.number, given.at, value)
+        answer(given.number, given.at, OnCard { value, blanks: given.blanks })
     }
 }

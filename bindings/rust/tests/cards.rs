@@ -15,7 +15,8 @@ fn there_and_back(ask: &mut Ask, random: &mut Random, series: Series) {
     let out_len = 98 + random.below(8);
     let mut card = card(series, &record);
     let read = ask.read(series, &card).expect("a good card is read");
-    assert_eq!(read.record, record, "reading what was written");
+    assert_eq!(read.value.record, record, "reading what was written");
+    assert_eq!(read.blanks, 0, "no blanks in what was written");
     ask.write_back(series, &read, &card, out_len);
     for _ in 0..3 {
         damage(random, &mut card);

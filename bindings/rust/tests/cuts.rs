@@ -3,7 +3,7 @@
 mod rule;
 mod support;
 
-use fordcask::{Series, Sheet};
+use fordcask::{OnCard, Series, Sheet};
 use support::cuts::{common_pixels, cut, list, pixel_with, Ends};
 use support::make::{all_chart, card, chart, overview, pixel, record, scale, town_chart};
 use support::make::{Maker, SCALES, ZONES};
@@ -25,6 +25,7 @@ fn demand_3() {
         }
     }
     println!("cases demand_3 {ends:?}");
+    assert_eq!(ends.with_blanks, 0, "no blanks in these lists");
     assert!(ends.lists > 150_000 && ends.answered > 200_000, "{ends:?}");
     assert!(ends.outside > 100_000 && ends.padding > 100_000, "{ends:?}");
 }
@@ -62,11 +63,12 @@ fn place_by_trying() {
         let series = maker(&mut random);
         let record = record(&mut random, series, 4);
         let head = rule::read(series, &card(series, &record)).expect("a card");
-        let Ok(place) = rule::place(&head, pixel(&mut random, &record)) else {
+        let Ok(OnCard { value: place, .. }) = rule::place(&head, pixel(&mut random, &record))
+        else {
             continue;
         };
         let bytes = cut(&mut random, series, place);
-        let other = rule::read(series, &bytes).expect("an accepted card");
+        let other = rule::read(series, &bytes).expect("an accepted card").value;
         let tried = rule::has_place(&other, place);
         assert_eq!(tried, pixel_with(&other, place), "{place:?} {other:?}");
         found += u64::from(tried.is_some());

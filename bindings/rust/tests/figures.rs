@@ -2,7 +2,7 @@
 //! and some more edges, worked out from their rules. Each test names those not printed there.
 
 use fordcask::{align, basic_zone, cover, offset, read_card, rectangle, spacing, write_card};
-use fordcask::{Pair, Pixel, Position, Refusal, Series, Sheet, Spacing};
+use fordcask::{OnCard, Pair, Pixel, Position, Refusal, Series, Sheet, Spacing};
 
 const REFUSED_1: Refusal = Refusal { number: 1, at: 0 };
 const REFUSED_16: Refusal = Refusal { number: 16, at: 0 };
@@ -158,9 +158,10 @@ fn town_card_figures() {
     for ((scale, card), positions) in TOWN_CARDS.into_iter().zip(TOWN_POSITIONS) {
         let series = Series::chart(scale, 1);
         let read = read_card(series, card).expect("a card that opens");
-        assert_eq!((read.record.n, read.record.m), (100, -20), "1:{scale}");
+        let record = read.value.record;
+        assert_eq!((record.n, record.m, read.blanks), (100, -20, 0), "1:{scale}");
         let mut out = [7; 100];
-        let written = write_card(series, &read.record, &mut out);
+        let written = write_card(series, &record, &mut out);
         if scale == 10_000 {
             assert_eq!((written, &out[..98]), (Ok(()), &card[..]), "1:{scale}");
         } else {
@@ -171,8 +172,10 @@ fn town_card_figures() {
         for (pair, positions) in [Pair::Corner, Pair::Centre].into_iter().zip(positions) {
             for ((row, column), (lat, lon)) in pixels.into_iter().zip(positions) {
                 let (pixel, position) = (Pixel { row, column }, Position { lat, lon });
-                assert_eq!(sheet.position_in(pair, pixel), Ok(position), "1:{scale} {pixel:?}");
-                assert_eq!(sheet.pixel_in(pair, position), Ok(pixel), "1:{scale} {position:?}");
+                let there = OnCard { value: position, blanks: 0 };
+                assert_eq!(sheet.position_in(pair, pixel), Ok(there), "1:{scale} {pixel:?}");
+                let back = OnCard { value: pixel, blanks: 0 };
+                assert_eq!(sheet.pixel_in(pair, position), Ok(back), "1:{scale} {position:?}");
             }
         }
     }

@@ -105,7 +105,8 @@ fn random_windows(test: &str, rounds: u32, maker: Maker) {
         let sheet = Sheet { series, card: &card };
         let (index, count) = index_of(&mut random, &record);
         let window = any_window(&mut random, &record);
-        match ask.window(&sheet, Tiles { index: &index, count }, window) {
+        let found = ask.window(&sheet, Tiles { index: &index, count }, window);
+        match found.map(|told| told.value) {
             Ok(Some(_)) => missing += 1,
             Ok(None) => none += 1,
             Err(_) => (),

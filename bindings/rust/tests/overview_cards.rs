@@ -51,8 +51,8 @@ fn every_factor_and_zone() {
                 let record = record(&mut random, series, 999);
                 let card = card(series, &record);
                 let read = ask.read(series, &card).expect("a good card is read");
-                assert_eq!(read.record, record, "{series:?}");
-                assert_eq!(Ok(read.spacing), ask.spacing(series), "{series:?}");
+                assert_eq!((read.value.record, read.blanks), (record, 0), "{series:?}");
+                assert_eq!(Ok(read.value.spacing), ask.spacing(series), "{series:?}");
                 let out_len = 98 + random.below(8);
                 ask.write_back(series, &read, &card, out_len);
             }
@@ -83,9 +83,9 @@ fn round_trips() {
         trips += 1;
         assert_eq!(written, Ok(()), "{series:?} {record:?}");
         let read = read_card(series, &first).expect("a written card is read");
-        assert_eq!(read.record, record, "reading what was written");
+        assert_eq!((read.value.record, read.blanks), (record, 0), "reading what was written");
         let mut second = [7; 98];
-        assert_eq!(write_card(series, &read.record, &mut second), Ok(()));
+        assert_eq!(write_card(series, &read.value.record, &mut second), Ok(()));
         assert_eq!(second, first, "writing what was read");
     }
     println!("cases round_trips {trips} {none}");
@@ -204,7 +204,7 @@ fn town_scales() {
             let record = record(&mut random, series, 999);
             let card = card(series, &record);
             let read = ask.read(series, &card).expect("a card that opens");
-            assert_eq!(read.record, record, "{series:?}");
+            assert_eq!((read.value.record, read.blanks), (record, 0), "{series:?}");
             assert_eq!(ask.write(series, &record, 98), Err(RETIRED), "{series:?}");
             let lon = random.between(-64_800_000, 64_800_000);
             assert_eq!(ask.align(series, lon / 2, lon), Err(RETIRED), "{series:?}");

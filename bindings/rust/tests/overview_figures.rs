@@ -1,7 +1,7 @@
 //! Figures of E4, worked out from its sentences and 01's; 02 prints the ends of k and of S × k.
 
 use fordcask::{align, cover, read_card, rectangle, spacing, write_card};
-use fordcask::{Pair, Pixel, Position, Refusal, Series, Sheet, Spacing};
+use fordcask::{OnCard, OverviewPixel, Pair, Pixel, Position, Refusal, Series, Sheet, Spacing};
 
 const ONE: Refusal = Refusal { number: 1, at: 0 };
 const SEVENTEEN: Refusal = Refusal { number: 17, at: 0 };
@@ -106,8 +106,9 @@ fn cards() {
     let worked = read_card(of(1_000_000, 1, 1), WORKED).expect("the worked card");
     // the worked card is one of any scale and factor of this product
     assert_eq!(read_card(of(50_000, 20, 1), WORKED), Ok(worked));
+    assert_eq!(worked.blanks, 0);
     let mut out = [7; 98];
-    assert_eq!(write_card(of(50_000, 20, 1), &worked.record, &mut out), Ok(()));
+    assert_eq!(write_card(of(50_000, 20, 1), &worked.value.record, &mut out), Ok(()));
     assert_eq!(&out, WORKED);
     assert_eq!(read_card(of(1_000_000, 2, 1), WORKED).map_err(|r| r.number), Err(9));
     assert_eq!(read_card(of(1_000_000, 1, 1), TWICE).map_err(|r| r.number), Err(9));
@@ -115,8 +116,9 @@ fn cards() {
     assert_eq!(read_card(of(1_000_000, 21, 1), WORKED), Err(ONE));
     for (factor, card, n, m) in [(2, TWICE, 50, -10), (3, THRICE, 34, -7)] {
         let read = read_card(of(1_000_000, factor, 1), card).expect("an overview's card");
-        assert_eq!((read.record.n, read.record.m), (n, m), "factor {factor}");
-        assert_eq!(write_card(of(1_000_000, factor, 1), &read.record, &mut out), Ok(()));
+        let record = read.value.record;
+        assert_eq!((record.n, record.m, read.blanks), (n, m, 0), "factor {factor}");
+        assert_eq!(write_card(of(1_000_000, factor, 1), &record, &mut out), Ok(()));
         assert_eq!(&out, card, "factor {factor}");
     }
 }
@@ -129,9 +131,9 @@ fn town_card() {
     let series = of(9_999, 64, 1);
     let sheet = Sheet { series, card };
     let read = sheet.read().expect("a card that opens");
-    assert_eq!((read.record.n, read.record.m), (100, -20));
+    assert_eq!((read.value.record.n, read.value.record.m, read.blanks), (100, -20, 0));
     let mut out = [7; 98];
-    assert_eq!(write_card(series, &read.record, &mut out), Err(RETIRED));
+    assert_eq!(write_card(series, &read.value.record, &mut out), Err(RETIRED));
     assert_eq!(out, [7; 98]);
     let figures = [
         (Pair::Corner, (0, 0), (2_651_391, -573_959)),
@@ -141,8 +143,8 @@ fn town_card() {
     ];
     for (pair, (row, column), (lat, lon)) in figures {
         let (pixel, position) = (Pixel { row, column }, Position { lat, lon });
-        assert_eq!(sheet.position_in(pair, pixel), Ok(position));
-        assert_eq!(sheet.pixel_in(pair, position), Ok(pixel));
+        assert_eq!(sheet.position_in(pair, pixel), Ok(OnCard { value: position, blanks: 0 }));
+        assert_eq!(sheet.pixel_in(pair, position), Ok(OnCard { value: pixel, blanks: 0 }));
     }
 }
 
@@ -152,6 +154,7 @@ fn overview_pixels() {
     let twice = Sheet { series: of(1_000_000, 2, 1), card: TWICE };
     let thrice = Sheet { series: of(1_000_000, 3, 1), card: THRICE };
     let at = |row, column| Pixel { row, column };
+    let told = |pixel| OverviewPixel { pixel, blanks: 0, overview_blanks: 0 };
     // the positions are those 01 prints for the first two
     let figures = [
         (at(0, 0), at(0, 0), at(80, 41)),
@@ -161,15 +164,15 @@ fn overview_pixels() {
         (at(255, 127), at(127, 64), at(165, 84)),
     ];
     for (pixel, in_twice, in_thrice) in figures {
-        assert_eq!(chart.overview_pixel(&twice, pixel), Ok(in_twice), "{pixel:?}");
-        assert_eq!(chart.overview_pixel(&thrice, pixel), Ok(in_thrice), "{pixel:?}");
-        assert_eq!(chart.overview_pixel(&chart, pixel), Ok(pixel), "{pixel:?}");
+        assert_eq!(chart.overview_pixel(&twice, pixel), Ok(told(in_twice)), "{pixel:?}");
+        assert_eq!(chart.overview_pixel(&thrice, pixel), Ok(told(in_thrice)), "{pixel:?}");
+        assert_eq!(chart.overview_pixel(&chart, pixel), Ok(told(pixel)), "{pixel:?}");
     }
     let twelve = Err(Refusal { number: 12, at: 0 });
     assert_eq!(chart.overview_pixel(&twice, at(256, 0)), twelve);
     // the overview's last column is east of the chart: the other way round there is 12
     assert_eq!(twice.overview_pixel(&chart, at(0, 127)), twelve);
-    assert_eq!(twice.overview_pixel(&chart, at(0, 1)), Ok(at(0, 2)));
+    assert_eq!(twice.overview_pixel(&chart, at(0, 1)), Ok(told(at(0, 2))));
     let bad = Sheet { series: of(1_000_000, 0, 1), card: TWICE };
     assert_eq!(chart.overview_pixel(&bad, at(256, 0)), Err(SEVENTEEN));
     assert_eq!(bad.overview_pixel(&chart, at(256, 0)), Err(SEVENTEEN));

@@ -5,7 +5,7 @@
 mod rule;
 mod support;
 
-use fordcask::{Card, Pair, Pixel, Position, Series, Sheet};
+use fordcask::{Card, OnCard, Pair, Pixel, Position, Series, Sheet};
 use support::cuts::{over, place_at};
 use support::make::{all_chart, card, chart, overview, pixel, record, ZONES};
 use support::{seeded, Ask, Random};
@@ -62,9 +62,10 @@ fn at_place(card: &Card, (row, column): (i64, i64)) -> Result<Pixel, u32> {
 
 /// Asks, and holds the answer or refusal to the nearest place of the whole grid.
 fn ask_nearest(ask: &mut Ask, chart: &Sheet, overview: &Sheet, pixel: Pixel) -> Result<Pixel, u32> {
-    let found = ask.overview_pixel(chart, overview, pixel).map_err(|refusal| refusal.number);
-    let there = chart.position_in(Pair::Corner, pixel).expect("a pixel of the chart");
-    let card = rule::read(overview.series, overview.card).expect("an accepted card");
+    let found = ask.overview_pixel(chart, overview, pixel);
+    let found = found.map(|told| told.pixel).map_err(|refusal| refusal.number);
+    let there = chart.position_in(Pair::Corner, pixel).expect("a pixel of the chart").value;
+    let card = rule::read(overview.series, overview.card).expect("an accepted card").value;
     assert_eq!(found, at_place(&card, nearest_place(&card, there)), "{overview:?} {there:?}");
     found
 }
@@ -94,7 +95,7 @@ fn whole_grid() {
         let chart_card = card(series, &record);
         let chart = Sheet { series, card: &chart_card };
         let pixel = inside(&mut random, &record);
-        let there = chart.position_in(Pair::Corner, pixel).expect("a pixel of the chart");
+        let there = chart.position_in(Pair::Corner, pixel).expect("a pixel of the chart").value;
         let over_card = over(&mut random, over_series, there);
         let overview = Sheet { series: over_series, card: &over_card };
         answered += u64::from(ask_nearest(&mut ask, &chart, &overview, pixel).is_ok());
@@ -118,7 +119,7 @@ fn no_nearer_neighbour() {
         let chart_card = card(series, &record);
         let chart = Sheet { series, card: &chart_card };
         let asked = pixel(&mut random, &record);
-        let Ok(there) = chart.position_in(Pair::Corner, asked) else {
+        let Ok(OnCard { value: there, .. }) = chart.position_in(Pair::Corner, asked) else {
             continue;
         };
         let over_card = over(&mut random, over_series, there);
@@ -127,8 +128,9 @@ fn no_nearer_neighbour() {
             continue;
         };
         answered += 1;
-        let card = rule::read(over_series, &over_card).expect("an accepted card");
-        let place = rule::place(&card, found).expect("a pixel of the tiles");
+        let read = rule::read(over_series, &over_card).expect("an accepted card");
+        let place = rule::place(&read, found.pixel).expect("a pixel of the tiles").value;
+        let card = read.value;
         let row = least(place.row - 3..=place.row + 3, |u| row_distance(&card, there.lat, u));
         let columns = place.column - 3..=place.column + 3;
         let column = least(columns, |v| column_distance(&card, there.lon, v));
@@ -158,7 +160,7 @@ fn date_line() {
         let chart_card = card(series, &record);
         let chart = Sheet { series, card: &chart_card };
         let asked = inside(&mut random, &record);
-        let there = chart.position_in(Pair::Corner, asked).expect("a pixel of the chart");
+        let there = chart.position_in(Pair::Corner, asked).expect("a pixel of the chart").value;
         across[usize::from(there.lon < 0)] += 1;
         let n = -(-place_at(over_series, there).row).div_euclid(128) + 1;
         let found = [over_side, -over_side, over_side - 1].map(|m| {

@@ -8,7 +8,7 @@ use fordcask::{Pair, Pixel, Position, Record, Series, Sheet};
 use support::cuts::place_at;
 use support::faults::{compatible, spoil_all, FAULTS};
 use support::make::{all_chart, card, overview, with_edges};
-use support::{seeded, Ask, Random};
+use support::{or_zero, seeded, Ask, Random};
 
 /// Of a pixel: in the chart, in the padding, outside the tiles.
 const STATES: [u32; 3] = [0, 13, 12];
@@ -37,7 +37,7 @@ fn chart_and_pixel(random: &mut Random, series: Series, state: u32) -> (Record, 
 fn found_in(series: Series, record: &Record, there: Position) -> Option<Pixel> {
     let all = all_chart(record.n, record.m, record.nfl, record.nfc, record.tif);
     let read = rule::read(series, &card(series, &all)).expect("an accepted card");
-    rule::pixel(Pair::Corner, &read, there).ok()
+    rule::pixel(Pair::Corner, &read, there).ok().map(|told| told.value)
 }
 
 /// An overview's record that gives this state at a position.
@@ -65,7 +65,7 @@ fn overview_at(random: &mut Random, series: Series, there: Position, state: u32)
 fn anywhere(series: Series, record: &Record, pixel: Pixel) -> Position {
     let all = all_chart(record.n, record.m, record.nfl, record.nfc, record.tif);
     let read = rule::read(series, &card(series, &all)).expect("an accepted card");
-    rule::position(Pair::Corner, &read, pixel).unwrap_or_default()
+    or_zero(rule::position(Pair::Corner, &read, pixel))
 }
 
 /// One call with these sets of faults and these states; the first refusal in order is given.

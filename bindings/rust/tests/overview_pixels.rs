@@ -4,7 +4,7 @@
 mod rule;
 mod support;
 
-use fordcask::{Pair, Pixel, Position, Record, Series, Sheet};
+use fordcask::{OverviewPixel, Pair, Pixel, Position, Record, Series, Sheet};
 use support::cuts::{over, place_at};
 use support::edges::greatest_scale;
 use support::make::{all_chart, card, chart, overview, pixel, record, town_overview, with_edges};
@@ -23,14 +23,18 @@ struct Steps {
 fn anywhere(series: Series, record: &Record, pixel: Pixel) -> Option<Position> {
     let all = all_chart(record.n, record.m, record.nfl, record.nfc, record.tif);
     let card = rule::read(series, &card(series, &all)).expect("an accepted card");
-    rule::position(Pair::Corner, &card, pixel).ok()
+    rule::position(Pair::Corner, &card, pixel).ok().map(|told| told.value)
 }
 
 /// Asks at a pixel of a chart, and holds the answer to the two steps taken one by one.
 fn asked(ask: &mut Ask, chart: &Sheet, overview: &Sheet, pixel: Pixel, steps: &mut Steps) {
     let found = ask.overview_pixel(chart, overview, pixel);
     let first = chart.position_in(Pair::Corner, pixel);
-    let second = first.and_then(|position| overview.pixel_in(Pair::Corner, position));
+    let second = first.and_then(|there| {
+        let found = overview.pixel_in(Pair::Corner, there.value)?;
+        let (pixel, overview_blanks) = (found.value, found.blanks);
+        Ok(OverviewPixel { pixel, blanks: there.blanks, overview_blanks })
+    });
     assert_eq!(found, second, "the two steps");
     match (first.is_ok(), second.is_ok()) {
         (false, _) => steps.chart += 1,
@@ -124,7 +128,11 @@ fn its_own_overview() {
         let card = card(series, &record);
         let sheet = Sheet { series, card: &card };
         let pixel = pixel(&mut random, &record);
-        let right = sheet.position_in(Pair::Corner, pixel).map(|_| pixel);
+        let right = sheet.position_in(Pair::Corner, pixel).map(|_| OverviewPixel {
+            pixel,
+            blanks: 0,
+            overview_blanks: 0,
+        });
         assert_eq!(ask.overview_pixel(&sheet, &sheet, pixel), right, "{series:?}");
     }
     ask.met("overview_pixel", &[0, 12, 13]);
@@ -169,7 +177,7 @@ fn every_pixel() {
         let chart = Sheet { series, card: &chart_card };
         let corner =
             chart.position_in(Pair::Corner, Pixel { row: 0, column: 0 }).expect("the corner");
-        let place = place_at(over_series, corner);
+        let place = place_at(over_series, corner.value);
         let (n, m) = (-(-place.row).div_euclid(128) + 1, place.column.div_euclid(128) - 1);
         let over_card = card(over_series, &all_chart(n, m, 4, 4, false));
         let overview = Sheet { series: over_series, card: &over_card };
@@ -178,7 +186,7 @@ fn every_pixel() {
             let mut last = Pixel::default();
             for column in 0..256 {
                 let pixel = Pixel { row, column };
-                let found = ask.overview_pixel(&chart, &overview, pixel).expect("a pixel");
+                let found = ask.overview_pixel(&chart, &overview, pixel).expect("a pixel").pixel;
                 let right = column == 0 || (found.row == last.row && found.column >= last.column);
                 let old = above[column as usize];
                 let down = row == 0 || (found.column == old.column && found.row >= old.row);

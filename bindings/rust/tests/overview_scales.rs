@@ -8,7 +8,7 @@ use fordcask::{Pixel, Series, Sheet};
 use support::ask_all::{ask_all, QUESTIONS};
 use support::edges::{first, of_scale, of_series, of_zone, scales_at, FACTOR_EDGES};
 use support::make::{all_chart, card, overview, BAD_FACTORS, BAD_SCALES, BAD_ZONES, ZONES};
-use support::{seeded, Ask, PAIRS, WORKED, WORKED_SERIES};
+use support::{or_zero, seeded, Ask, PAIRS, WORKED, WORKED_SERIES};
 
 const POLE: i64 = 32_400_000;
 const DATE_LINE: i64 = 64_800_000;
@@ -185,7 +185,7 @@ fn questions_on_a_card() {
                 _ => WORKED.to_vec(),
             };
             let position = rule::read(series, &bytes).and_then(|c| rule::position(pair, &c, pixel));
-            let position = position.unwrap_or_default();
+            let position = or_zero(position);
             let whole = bytes.clone();
             bytes.truncate(short);
             let other = random.pick(&[worked, Sheet { series, card: &whole }]);

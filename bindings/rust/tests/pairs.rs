@@ -3,10 +3,10 @@
 mod rule;
 mod support;
 
-use fordcask::{Pair, Pixel, Position, Refusal, Series, Sheet};
+use fordcask::{OverviewPixel, Pair, Pixel, Position, Refusal, Series, Sheet};
 use support::cuts::over;
 use support::make::{all_chart, card, chart, overview, pixel, record};
-use support::{seeded, Ask, PAIRS, WORKED, WORKED_SERIES};
+use support::{no_blanks, or_zero, seeded, Ask, PAIRS, WORKED, WORKED_SERIES};
 
 const TWELVE: Refusal = Refusal { number: 12, at: 0 };
 
@@ -25,12 +25,12 @@ fn worked_card() {
     ];
     for (pixel, corner, centre) in figures {
         let [corner, centre] = [corner, centre].map(|(lat, lon)| Position { lat, lon });
-        assert_eq!(sheet.position_in(Pair::Corner, pixel), Ok(corner));
-        assert_eq!(sheet.pixel_in(Pair::Corner, corner), Ok(pixel));
-        assert_eq!(sheet.position_in(Pair::Centre, pixel), Ok(centre));
-        assert_eq!(sheet.pixel_in(Pair::Centre, centre), Ok(pixel));
-        assert_eq!(sheet.position(pixel), Ok(centre), "no pair named");
-        assert_eq!(sheet.pixel(centre), Ok(pixel), "no pair named");
+        assert_eq!(sheet.position_in(Pair::Corner, pixel), Ok(no_blanks(corner)));
+        assert_eq!(sheet.pixel_in(Pair::Corner, corner), Ok(no_blanks(pixel)));
+        assert_eq!(sheet.position_in(Pair::Centre, pixel), Ok(no_blanks(centre)));
+        assert_eq!(sheet.pixel_in(Pair::Centre, centre), Ok(no_blanks(pixel)));
+        assert_eq!(sheet.position(pixel), Ok(no_blanks(centre)), "no pair named");
+        assert_eq!(sheet.pixel(centre), Ok(no_blanks(pixel)), "no pair named");
     }
     for pair in PAIRS {
         assert_eq!(sheet.position_in(pair, at(256, 0)), Err(TWELVE));
@@ -50,9 +50,9 @@ fn ties_of_rows() {
         for row in 0..640 {
             let up = 128 * n - row;
             let [corner, centre] = ask.position(&sheet, at(row, 3));
-            assert_eq!(corner.map(|position| position.lat), Ok(405 * up));
+            assert_eq!(corner.map(|position| position.value.lat), Ok(405 * up));
             // the floor of 405 × up − 202.5 + 0.5, north and south alike
-            assert_eq!(centre.map(|position| position.lat), Ok(405 * up - 202));
+            assert_eq!(centre.map(|position| position.value.lat), Ok(405 * up - 202));
             ask.there_and_back(&sheet, at(row, 3));
         }
     }
@@ -72,9 +72,9 @@ fn ties_of_columns() {
             let east = 128 * m + column;
             let right = |lon: i64| if lon >= 64_800_000 { lon - 129_600_000 } else { lon };
             let [corner, centre] = ask.position(&sheet, at(3, column));
-            assert_eq!(corner.map(|position| position.lon), Ok(right(675 * east)));
+            assert_eq!(corner.map(|position| position.value.lon), Ok(right(675 * east)));
             // the floor of 675 × east + 337.5 + 0.5, east and west alike
-            assert_eq!(centre.map(|position| position.lon), Ok(right(675 * east + 338)));
+            assert_eq!(centre.map(|position| position.value.lon), Ok(right(675 * east + 338)));
             ask.there_and_back(&sheet, at(3, column));
         }
     }
@@ -89,16 +89,16 @@ fn pairs_differ() {
     let sheet = Sheet { series, card: &card };
     let corner = Position { lat: 1_613_672, lon: -10_771_875 };
     let centre = Position { lat: 1_610_508, lon: -10_757_812 };
-    assert_eq!(sheet.position_in(Pair::Corner, at(1, 1)), Ok(corner));
-    assert_eq!(sheet.position(at(1, 1)), Ok(centre));
+    assert_eq!(sheet.position_in(Pair::Corner, at(1, 1)), Ok(no_blanks(corner)));
+    assert_eq!(sheet.position(at(1, 1)), Ok(no_blanks(centre)));
     // three quarters of a pixel south and east of the corner of (1, 1)
     let between = Position { lat: 1_608_926, lon: -10_750_781 };
-    assert_eq!(sheet.pixel(between), Ok(at(1, 1)));
-    assert_eq!(sheet.pixel_in(Pair::Corner, between), Ok(at(2, 2)));
+    assert_eq!(sheet.pixel(between), Ok(no_blanks(at(1, 1))));
+    assert_eq!(sheet.pixel_in(Pair::Corner, between), Ok(no_blanks(at(2, 2))));
     // the corner 01 prints for the worked card's first pixel is rounded north and west
     let sheet = Sheet { series: WORKED_SERIES, card: WORKED };
     let corner = Position { lat: 4_143_223, lon: -897_507 };
-    assert_eq!(sheet.pixel_in(Pair::Corner, corner), Ok(at(0, 0)));
+    assert_eq!(sheet.pixel_in(Pair::Corner, corner), Ok(no_blanks(at(0, 0))));
     assert_eq!(sheet.pixel(corner), Err(TWELVE));
 }
 
@@ -116,13 +116,15 @@ fn overview_stays() {
         let chart_card = card(series, &record);
         let chart = Sheet { series, card: &chart_card };
         let asked = pixel(&mut random, &record);
-        let there = chart.position_in(Pair::Corner, asked).unwrap_or_default();
+        let there = or_zero(chart.position_in(Pair::Corner, asked));
         let over_card = over(&mut random, over_series, there);
         let overview = Sheet { series: over_series, card: &over_card };
         let found = ask.overview_pixel(&chart, &overview, asked);
         let [corner, centre] = PAIRS.map(|pair| {
             let there = chart.position_in(pair, asked)?;
-            overview.pixel_in(pair, there)
+            let found = overview.pixel_in(pair, there.value)?;
+            let (pixel, overview_blanks) = (found.value, found.blanks);
+            Ok(OverviewPixel { pixel, blanks: there.blanks, overview_blanks })
         });
         assert_eq!(found, corner, "{series:?} {over_series:?} {asked:?}");
         answered += u64::from(found.is_ok());

@@ -3,11 +3,11 @@
 mod rule;
 mod support;
 
-use fordcask::{Pixel, Series, Sheet};
+use fordcask::{OnCard, Pixel, Series, Sheet};
 use support::cuts::{cut, near_place, walk, Ends};
 use support::make::{all_chart, card, overview, record, toward_ends, town_overview, with_edges};
 use support::make::{Maker, SCALE_BANDS, ZONES};
-use support::{seeded, Ask, Random, PAIRS};
+use support::{no_blanks, seeded, Ask, Random, PAIRS};
 
 /// A scale of each band in each zone, and overviews of factors 2 to 64.
 fn some_series(random: &mut Random) -> Vec<Series> {
@@ -41,15 +41,16 @@ fn every_pixel() {
         for (pair, answered) in PAIRS.into_iter().zip(&mut answered) {
             for (row, column) in (-1..=128).flat_map(|row| (-1..=128).map(move |c| (row, c))) {
                 let pixel = Pixel { row, column };
-                let Ok(position) = sheet.position_in(pair, pixel) else {
+                let Ok(OnCard { value: position, blanks }) = sheet.position_in(pair, pixel) else {
                     continue;
                 };
                 *answered += 1;
                 let place = sheet.place(pixel).expect("a pixel of the tiles");
-                let near = near_place(pair, series, place, position);
+                let near = near_place(pair, series, place.value, position);
                 assert!(near, "{pair:?} {series:?} {record:?} {pixel:?}");
+                assert_eq!((place.blanks, blanks), (0, 0), "{pair:?} {series:?} {record:?}");
                 let back = sheet.pixel_in(pair, position);
-                assert_eq!(back, Ok(pixel), "{pair:?} {series:?} {record:?}");
+                assert_eq!(back, Ok(no_blanks(pixel)), "{pair:?} {series:?} {record:?}");
             }
         }
     }
@@ -85,7 +86,7 @@ fn long_list(random: &mut Random, series: Series) -> Ends {
     let first = Pixel { row, column: random.between(record.nls as i64, record.nus as i64) };
     let mut cards = vec![card(series, &record)];
     let head = rule::read(series, &cards[0]).expect("an accepted card");
-    let place = rule::place(&head, first).expect("a pixel of the tiles");
+    let place = rule::place(&head, first).expect("a pixel of the tiles").value;
     cards.extend((0..200).map(|_| cut(random, series, place)));
     let [corner, centre] = PAIRS.map(|pair| walk(pair, series, &cards, first));
     assert_eq!(corner, centre, "the place alone tells how each call ends");

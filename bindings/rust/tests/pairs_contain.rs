@@ -6,7 +6,7 @@ mod support;
 use fordcask::{Card, Pair, Pixel, Position, Record, Series, Sheet};
 use support::contain::{contains, of_chart, tried};
 use support::make::{chart, overview, record, toward_ends, town_chart, town_overview, Maker};
-use support::{seeded, Ask, Random};
+use support::{no_blanks, seeded, Ask, Random};
 
 const MAKERS: [Maker; 4] = [chart, town_chart, overview, town_overview];
 
@@ -59,12 +59,13 @@ fn by_trying() {
         let record = record(&mut random, series, 2);
         let bytes = support::make::card(series, &record);
         let sheet = Sheet { series, card: &bytes };
-        let card = rule::read(series, &bytes).expect("an accepted card");
+        let card = rule::read(series, &bytes).expect("an accepted card").value;
         for _ in 0..12 {
             let position = near_edge(&mut random, &card);
             let [_, found] = ask.pixel(&sheet, position);
             let right = tried(&card, position);
-            assert_eq!(found.map_err(|r| r.number), right, "{series:?} {record:?} {position:?}");
+            let found = found.map(|told| told.value).map_err(|refusal| refusal.number);
+            assert_eq!(found, right, "{series:?} {record:?} {position:?}");
             ends[right.map_or_else(|number| number as usize - 11, |_| 0)] += 1;
         }
     }
@@ -76,7 +77,7 @@ fn by_trying() {
 /// The pixel found contains the position and none of its eight neighbours does; of two pixels next
 /// to an edge the one south and east of it has the edge.
 fn at_edges(random: &mut Random, ask: &mut Ask, sheet: &Sheet, record: &Record) {
-    let card = rule::read(sheet.series, sheet.card).expect("an accepted card");
+    let card = rule::read(sheet.series, sheet.card).expect("an accepted card").value;
     let row = random.between(record.nul as i64, record.nll as i64);
     let column = random.between(record.nls as i64, record.nus as i64);
     let edge = Position { lat: north_end(&card, row), lon: west_end(&card, column) };
@@ -90,7 +91,7 @@ fn at_edges(random: &mut Random, ask: &mut Ask, sheet: &Sheet, record: &Record) 
         }
         let [_, found] = ask.pixel(sheet, position);
         assert!(contains(&card, right, position), "{right:?} {position:?}");
-        let found = found.map_err(|refusal| refusal.number);
+        let found = found.map(|told| told.value).map_err(|refusal| refusal.number);
         assert_eq!(found, of_chart(&card, right), "{:?} {position:?}", sheet.series);
         for (down, across) in [(-1, -1), (-1, 0), (-1, 1), (0, -1), (0, 1), (1, -1), (1, 0), (1, 1)]
         {
@@ -118,24 +119,25 @@ fn edges() {
 #[test]
 fn whole_edges() {
     let at = |row, column| Pixel { row, column };
+    let told = |row, column| Ok(no_blanks(at(row, column)));
     for m in [-7, 3] {
         let rows = Series::chart(1_251_200, 3);
         let card = support::make::card(rows, &support::make::all_chart(2, m, 4, 1, false));
         let sheet = Sheet { series: rows, card: &card };
-        let lon = sheet.position(at(0, 5)).expect("a pixel").lon;
+        let lon = sheet.position(at(0, 5)).expect("a pixel").value.lon;
         for row in 1..512 {
             let lat = 405 * (256 - row);
             let found = [1, 0, -1].map(|north| sheet.pixel(Position { lat: lat + north, lon }));
-            assert_eq!(found, [Ok(at(row - 1, 5)), Ok(at(row, 5)), Ok(at(row, 5))]);
+            assert_eq!(found, [told(row - 1, 5), told(row, 5), told(row, 5)]);
         }
         let columns = Series::chart(1_280_000, 3);
         let card = support::make::card(columns, &support::make::all_chart(2, m, 1, 4, false));
         let sheet = Sheet { series: columns, card: &card };
-        let lat = sheet.position(at(5, 0)).expect("a pixel").lat;
+        let lat = sheet.position(at(5, 0)).expect("a pixel").value.lat;
         for column in 1..512 {
             let lon = 675 * (128 * m + column);
             let found = [-1, 0, 1].map(|east| sheet.pixel(Position { lat, lon: lon + east }));
-            assert_eq!(found, [Ok(at(5, column - 1)), Ok(at(5, column)), Ok(at(5, column))]);
+            assert_eq!(found, [told(5, column - 1), told(5, column), told(5, column)]);
         }
     }
 }
@@ -149,11 +151,12 @@ fn answers_lie_inside() {
         let record = record(&mut random, series, 999);
         let bytes = support::make::card(series, &record);
         let sheet = Sheet { series, card: &bytes };
-        let card = rule::read(series, &bytes).expect("an accepted card");
+        let card = rule::read(series, &bytes).expect("an accepted card").value;
         let row = toward_ends(&mut random, record.nul as i64, record.nll as i64);
         let column = toward_ends(&mut random, record.nls as i64, record.nus as i64);
         let pixel = Pixel { row, column };
-        let position = sheet.position_in(Pair::Centre, pixel).expect("a pixel of the chart");
-        assert!(contains(&card, pixel, position), "{series:?} {record:?} {pixel:?}");
+        let there = sheet.position_in(Pair::Centre, pixel).expect("a pixel of the chart");
+        assert!(contains(&card, pixel, there.value), "{series:?} {record:?} {pixel:?}");
+        assert_eq!(there.blanks, 0, "{series:?} {record:?} {pixel:?}");
     }
 }

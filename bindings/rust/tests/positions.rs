@@ -7,7 +7,7 @@ mod support;
 use fordcask::{Pixel, Position, Record, Series, Sheet};
 use support::make::{around, card, chart, edge_columns, edge_rows, overview, pixel, record};
 use support::make::{town_chart, with_edges, Maker, SCALES, ZONES};
-use support::{seeded, Ask, Random, PAIRS, SIGNED_ENDS};
+use support::{or_zero, seeded, Ask, Random, PAIRS, SIGNED_ENDS};
 
 /// Every pair of edge rows and edge columns, and the ends of i64.
 fn ask_edges(ask: &mut Ask, sheet: &Sheet, record: &Record) {
@@ -77,7 +77,7 @@ fn ask_positions(ask: &mut Ask, random: &mut Random, sheet: &Sheet, record: &Rec
     let inside =
         Pixel { row: middle(record.nul, record.nll), column: middle(record.nls, record.nus) };
     for pair in PAIRS {
-        let inside = ask.position_in(pair, sheet, inside).expect("a pixel of the chart");
+        let inside = ask.position_in(pair, sheet, inside).expect("a pixel of the chart").value;
         for lat in &lats {
             let _ = ask.pixel_in(pair, sheet, Position { lat: *lat, lon: inside.lon });
             let lon = random.pick(&lons);
@@ -167,7 +167,7 @@ fn random_asked(test: &str, rounds: u32, maker: Maker) {
             ask.there_and_back(&sheet, pixel(&mut random, &record));
         }
         let near = ask.position(&sheet, pixel(&mut random, &record));
-        let near = random.pick(&near).unwrap_or_default();
+        let near = or_zero(random.pick(&near));
         let position = Position {
             lat: near.lat + random.between(-4_000, 4_000),
             lon: near.lon + random.between(-4_000, 4_000),

@@ -1,14 +1,13 @@
-//! The C answers field by field: value parts are 0 in a refusal, unused slots are 0, and lists
-//! of odd length are refused.
+//! The C answers field by field: value parts are 0 in a refusal, the total of blanks too (02, E2),
+//! and unused slots are 0.
 
 mod rule;
 mod support;
 
-use fordcask::{raw, Card, Pair, Pixel, Position, Refusal, Series, Sheet};
-use support::damage::change_some;
-use support::make::{all_chart, card, changes_of, chart, overview, pixel, record, scale};
-use support::make::{town_chart, town_scale, Maker};
-use support::{seeded, Random, PAIRS, WORKED};
+use fordcask::{raw, Card, OnCard, Refusal, Series};
+use support::blanks::pad_all;
+use support::make::{all_chart, card, changes_of, scale, town_scale};
+use support::{no_blanks, seeded, WORKED};
 
 /// The answer of a refusal: everything but number and place is 0.
 fn refused_card(number: u32, at: u64) -> raw::Card {
@@ -27,6 +26,7 @@ fn refused_card(number: u32, at: u64) -> raw::Card {
         nfc: 0,
         bad: [0; 12],
         tif: 0,
+        blanks: 0,
     }
 }
 
@@ -58,6 +58,12 @@ fn read(series: Series, card: &[u8]) -> raw::Card {
     unsafe { raw::fordcask_read_card(series, card.as_ptr(), card.len()) }
 }
 
+/// Reads as 01 has it through the C entry point.
+fn read_strict(series: Series, card: &[u8]) -> raw::Card {
+    // SAFETY: the pointer and length are those of one slice.
+    unsafe { raw::fordcask_read_strict(series, card.as_ptr(), card.len()) }
+}
+
 /// The worked card, and the card of its record at the ends of the town scales (02, E13).
 fn cards() -> Vec<(u64, Vec<u8>)> {
     let mut cards = vec![(1_000_000, WORKED.to_vec())];
@@ -67,14 +73,18 @@ fn cards() -> Vec<(u64, Vec<u8>)> {
     cards
 }
 
-/// A card that is read, field by field.
-fn read_as(card: &Card) -> raw::Card {
-    let record = &card.record;
+/// A card that is read or refused, field by field.
+fn read_as(answer: Result<OnCard<Card>, Refusal>) -> raw::Card {
+    let read = match answer {
+        Ok(read) => read,
+        Err(refusal) => return refused_card(refusal.number, refusal.at),
+    };
+    let (spacing, record) = (read.value.spacing, read.value.record);
     raw::Card {
         number: 0,
         at: 0,
-        a: card.spacing.a,
-        b: card.spacing.b,
+        a: spacing.a,
+        b: spacing.b,
         n: record.n,
         m: record.m,
         nul: record.nul,
@@ -85,25 +95,33 @@ fn read_as(card: &Card) -> raw::Card {
         nfc: record.nfc,
         bad: record.bad,
         tif: u8::from(record.tif),
+        blanks: read.blanks,
     }
 }
 
-/// Each one-byte change that is refused has zeros, and TIF is 0 or 1.
+/// Each one-byte change that is refused has zeros, and TIF is 0 or 1; read as 01 has it the total
+/// of blanks is 0 in each answer. The good card goes as it stands and with all its blanks (02, E2).
 #[test]
 fn refused_cards() {
     for (scale, good) in cards() {
-        let mut refused = 0;
-        for card in changes_of(&good) {
-            let found = read(Series::chart(scale, 1), &card);
-            match rule::read(Series::chart(scale, 1), &card) {
-                Ok(right) => assert_eq!(found, read_as(&right), "1:{scale}"),
-                Err(refusal) => {
-                    refused += 1;
-                    assert_eq!(found, refused_card(refusal.number, refusal.at), "1:{scale}");
-                }
+        let series = Series::chart(scale, 1);
+        let mut padded = good.clone();
+        let put = pad_all(&mut padded);
+        for (good, blanks) in [(good, 0), (padded, put)] {
+            let (mut refused, mut told) = ([0, 0], 0);
+            for card in changes_of(&good) {
+                let (found, right) = (read(series, &card), rule::read(series, &card));
+                assert_eq!(found, read_as(right), "1:{scale}");
+                refused[0] += u64::from(found.number > 0);
+                told = told.max(found.blanks);
+                let (found, right) = (read_strict(series, &card), rule::read_strict(series, &card));
+                assert_eq!(found, read_as(right.map(no_blanks)), "1:{scale}");
+                refused[1] += u64::from(found.number > 0);
             }
+            assert!(refused[0] > 20_000 && refused[1] > 20_000, "{refused:?} at 1:{scale}");
+            assert_eq!(refused[1] == 24_990, blanks > 1, "none read as 01 has it at 1:{scale}");
+            assert!(told >= blanks && told > 0, "{told} told of {blanks} at 1:{scale}");
         }
-        assert!(refused > 20_000, "{refused} refused at 1:{scale}");
     }
 }
 
@@ -159,90 +177,5 @@ fn unused_slots() {
         assert_eq!(rectangle.length, slots.len() as u64);
         slots.resize(18, 0);
         assert_eq!(rectangle.zones[..], slots, "rectangle({scale}, {south}, {north})");
-    }
-}
-
-fn raw_position(pair: Pair, sheet: &Sheet, pixel: Pixel) -> raw::Position {
-    let ask = match pair {
-        Pair::Corner => raw::fordcask_corner_position,
-        Pair::Centre => raw::fordcask_position,
-    };
-    // SAFETY: the pointer and length are those of one slice.
-    unsafe { ask(sheet.series, sheet.card.as_ptr(), sheet.card.len(), pixel.row, pixel.column) }
-}
-
-fn raw_pixel(pair: Pair, sheet: &Sheet, position: Position) -> raw::Pixel {
-    let ask = match pair {
-        Pair::Corner => raw::fordcask_corner_pixel,
-        Pair::Centre => raw::fordcask_pixel,
-    };
-    // SAFETY: the pointer and length are those of one slice.
-    unsafe { ask(sheet.series, sheet.card.as_ptr(), sheet.card.len(), position.lat, position.lon) }
-}
-
-/// Number, place and value of an answer; the value is 0, 0 in a refusal.
-fn fields<T: Default>(answer: Result<T, Refusal>) -> (u32, u64, T) {
-    match answer {
-        Ok(value) => (0, 0, value),
-        Err(refusal) => (refusal.number, refusal.at, T::default()),
-    }
-}
-
-/// Both questions in both pairs, each field as the rule says.
-fn ask_fields(sheet: &Sheet, pixel: Pixel, position: Position, met: &mut Vec<(Pair, u32)>) {
-    let card = rule::read(sheet.series, sheet.card);
-    for pair in PAIRS {
-        let right = card.and_then(|card: Card| rule::position(pair, &card, pixel));
-        let (number, at, Position { lat, lon }) = fields(right);
-        let found = raw_position(pair, sheet, pixel);
-        assert_eq!(found, raw::Position { number, at, lat, lon }, "{pair:?} {sheet:?} {pixel:?}");
-        let right = card.and_then(|card: Card| rule::pixel(pair, &card, position));
-        let (number, at, Pixel { row, column }) = fields(right);
-        let found = raw_pixel(pair, sheet, position);
-        assert_eq!(found, raw::Pixel { number, at, row, column }, "{pair:?} {sheet:?}");
-        if !met.contains(&(pair, number)) {
-            met.push((pair, number));
-        }
-    }
-}
-
-/// A position near a pixel's, or at an end of the ranges.
-fn some_position(random: &mut Random, near: Position) -> Position {
-    let lat = near.lat + random.between(-900, 900);
-    let lon = near.lon + random.between(-900, 900);
-    let far = [32_400_000, 32_400_001, -32_400_000, -32_400_001, i64::MIN, i64::MAX];
-    let wide = [64_800_000, 64_800_001, -64_800_000, -64_800_001, i64::MIN, i64::MAX];
-    match random.below(8) {
-        0 => Position { lat: random.pick(&far), lon },
-        1 => Position { lat, lon: random.pick(&wide) },
-        _ => Position { lat, lon },
-    }
-}
-
-/// Random cards of every kind, some damaged.
-#[test]
-fn every_field() {
-    let mut random = seeded("every_field");
-    let makers: [Maker; 3] = [chart, town_chart, overview];
-    let mut met = Vec::new();
-    for round in 0..60_000 {
-        let series = makers[round % 3](&mut random);
-        let record = record(&mut random, series, 3);
-        let good = card(series, &record);
-        let asked = pixel(&mut random, &record);
-        let pair = random.pick(&PAIRS);
-        let near = Sheet { series, card: &good }.position_in(pair, asked).unwrap_or_default();
-        let position = some_position(&mut random, near);
-        let mut bytes = good.clone();
-        if random.once_in(6) {
-            change_some(&mut random, &mut bytes);
-        }
-        ask_fields(&Sheet { series, card: &bytes }, asked, position, &mut met);
-    }
-    for pair in PAIRS {
-        let mut numbers: Vec<u32> =
-            met.iter().filter(|(of, _)| *of == pair).map(|(_, number)| *number).collect();
-        numbers.sort_unstable();
-        assert_eq!(numbers, [0, 4, 5, 7, 8, 9, 10, 11, 12, 13], "{pair:?}");
     }
 }

@@ -4,17 +4,25 @@
 mod rule;
 mod support;
 
-use fordcask::{raw, Pair, Pixel, Refusal, Series};
+use fordcask::{raw, OverviewPixel, Pair, Pixel, Refusal, Series};
+use support::blanks::pad_some;
 use support::cuts::over;
 use support::faults::{compatible, spoil_all, FAULTS};
 use support::make::{card, overview, pixel, record};
-use support::seeded;
+use support::{or_zero, seeded};
 
-/// Number and place of an answer, and its two values, 0 in a refusal.
-fn block<T: Default>(answer: Result<T, Refusal>) -> (u32, u64, T) {
-    match answer {
-        Ok(value) => (0, 0, value),
-        Err(refusal) => (refusal.number, refusal.at, T::default()),
+/// The block of an answer; pixel and both totals of blanks are 0 in a refusal (02, E2).
+fn block(answer: Result<OverviewPixel, Refusal>) -> raw::OverviewPixel {
+    let refusal = answer.err().unwrap_or(Refusal { number: 0, at: 0 });
+    let none = OverviewPixel { pixel: Pixel::default(), blanks: 0, overview_blanks: 0 };
+    let told = answer.unwrap_or(none);
+    raw::OverviewPixel {
+        number: refusal.number,
+        at: refusal.at,
+        row: told.pixel.row,
+        column: told.pixel.column,
+        blanks: told.blanks,
+        overview_blanks: told.overview_blanks,
     }
 }
 
@@ -73,7 +81,11 @@ fn unused_slots() {
 }
 
 /// The overview question through the C entry point.
-fn overview_pixel(chart: (Series, &[u8]), over: (Series, &[u8]), pixel: Pixel) -> raw::Pixel {
+fn overview_pixel(
+    chart: (Series, &[u8]),
+    over: (Series, &[u8]),
+    pixel: Pixel,
+) -> raw::OverviewPixel {
     let ((series, card), (over_series, over_card)) = (chart, over);
     // SAFETY: each pointer and length are those of one slice.
     unsafe {
@@ -90,12 +102,12 @@ fn overview_pixel(chart: (Series, &[u8]), over: (Series, &[u8]), pixel: Pixel) -
     }
 }
 
-/// Answers and refusals of every kind; row and column are 0 in each refusal.
+/// Answers and refusals of every kind; row, column and both totals are 0 in each refusal.
 #[test]
 fn overview_pixels() {
     let mut random = seeded("overview_pixels");
     let sets: Vec<usize> = (0..1 << FAULTS.len()).filter(|set| compatible(*set)).collect();
-    let (mut answered, mut refused) = (0, 0);
+    let (mut answered, mut both, mut refused) = (0, 0, 0);
     for _ in 0..60_000 {
         let (mut series, mut over_series) = (overview(&mut random), overview(&mut random));
         let record = record(&mut random, series, 3);
@@ -103,7 +115,9 @@ fn overview_pixels() {
         let mut chart = card(series, &record);
         let there = rule::read(series, &chart);
         let there = there.and_then(|card| rule::position(Pair::Corner, &card, asked));
-        let mut over_card = over(&mut random, over_series, there.unwrap_or_default());
+        let mut over_card = over(&mut random, over_series, or_zero(there));
+        pad_some(&mut random, &mut chart);
+        pad_some(&mut random, &mut over_card);
         if random.once_in(3) {
             let set = random.pick(&sets);
             spoil_all(&mut random, set, &mut series, &mut chart);
@@ -117,15 +131,15 @@ fn overview_pixels() {
             rule::overview_pixel(&card, &over, asked)
         });
         let found = overview_pixel((series, &chart), (over_series, &over_card), asked);
-        let (number, at, value) = block(right);
-        let expected = raw::Pixel { number, at, row: value.row, column: value.column };
-        assert_eq!(found, expected, "{series:?} {over_series:?} {asked:?}");
-        match number {
+        assert_eq!(found, block(right), "{series:?} {over_series:?} {asked:?}");
+        match found.number {
             0 => answered += 1,
             _ => refused += 1,
         }
+        both += u64::from(found.blanks > 0 && found.overview_blanks > 0);
     }
     assert!(answered > 5_000 && refused > 30_000, "{answered} and {refused}");
+    assert!(both > 3_000 && both < answered, "{both} of {answered} with blanks in both cards");
 }
 
 /// Questions on a card whose factor is refused, or is another: zeros, and buffers unchanged.
@@ -143,21 +157,22 @@ fn refused_questions() {
         // SAFETY: each pointer and length are those of one array or slice.
         unsafe {
             let place = raw::fordcask_place(s, c, length, 1, 1);
-            assert_eq!(place, raw::Place { number, at: 0, row: 0, column: 0 });
+            assert_eq!(place, raw::Place { number, at: 0, row: 0, column: 0, blanks: 0 });
             for ask in [raw::fordcask_position, raw::fordcask_corner_position] {
-                let none = raw::Position { number, at: 0, lat: 0, lon: 0 };
+                let none = raw::Position { number, at: 0, lat: 0, lon: 0, blanks: 0 };
                 assert_eq!(ask(s, c, length, 1, 1), none);
             }
             for ask in [raw::fordcask_pixel, raw::fordcask_corner_pixel] {
-                let none = raw::Pixel { number, at: 0, row: 0, column: 0 };
+                let none = raw::Pixel { number, at: 0, row: 0, column: 0, blanks: 0 };
                 assert_eq!(ask(s, c, length, 100_000, 100_000), none);
             }
             let tile = raw::fordcask_tile(s, c, length, i, 2, 2, t, size, 1, 1);
-            assert_eq!(tile, raw::Tile { number, at: 0, stored: 0, offset: 0, length: 0 });
+            let none = raw::Tile { number, at: 0, stored: 0, offset: 0, length: 0, blanks: 0 };
+            assert_eq!(tile, none);
             let bands = raw::fordcask_bands(s, c, length, i, 2, 2, t, size, 1, 1);
-            assert_eq!(bands, raw::Bands { number, at: 0, red: 0, green: 0, blue: 0 });
+            assert_eq!(bands, raw::Bands { number, at: 0, red: 0, green: 0, blue: 0, blanks: 0 });
             let window = raw::fordcask_window(s, c, length, i, 2, 2, 0, 0, 1, 2);
-            assert_eq!(window, raw::Window { number, at: 0, missing: 0, tile: 0 });
+            assert_eq!(window, raw::Window { number, at: 0, missing: 0, tile: 0, blanks: 0 });
         }
         refused_buffers(s, &good, number);
     }
@@ -166,7 +181,7 @@ fn refused_questions() {
 /// Index check and the lists leave what they are lent; a card refused has zeros in every field.
 fn refused_buffers(series: Series, card: &[u8], number: u32) {
     let (c, length, index) = (card.as_ptr(), card.len(), [1u32, 2]);
-    let none = raw::Refusal { number, at: 0 };
+    let none = raw::Verdict { number, at: 0, blanks: 0 };
     let (mut marks, mut out, mut numbers, asked) = ([7u8; 3], [7i64; 4], [7u32; 3], [1i64; 4]);
     let (marked, lent, n) = (marks.as_mut_ptr(), out.as_mut_ptr(), numbers.as_mut_ptr());
     // SAFETY: each pointer and length are those of one array or slice, and none overlap.
@@ -182,11 +197,14 @@ fn refused_buffers(series: Series, card: &[u8], number: u32) {
         }
     }
     assert_eq!((marks, out, numbers), ([7; 3], [7; 4], [7; 3]));
-    // SAFETY: the pointer and length are those of one slice.
-    let read = unsafe { raw::fordcask_read_card(series, c, length) };
-    assert_eq!((read.number, read.at, read.a, read.b), (number, 0, 0, 0));
-    assert_eq!((read.n, read.m, read.nul, read.nus, read.nll, read.nls), (0, 0, 0, 0, 0, 0));
-    assert_eq!((read.nfl, read.nfc, read.bad, read.tif), (0, 0, [0; 12], 0));
+    for ask in [raw::fordcask_read_card, raw::fordcask_read_strict] {
+        // SAFETY: the pointer and length are those of one slice.
+        let read = unsafe { ask(series, c, length) };
+        assert_eq!((read.number, read.at, read.a, read.b), (number, 0, 0, 0));
+        assert_eq!((read.n, read.m, read.nul, read.nus, read.nll, read.nls), (0, 0, 0, 0, 0, 0));
+        assert_eq!((read.nfl, read.nfc, read.bad), (0, 0, [0; 12]));
+        assert_eq!((read.tif, read.blanks), (0, 0));
+    }
 }
 
 /// Writing refused for scale, factor or product leaves the output, and what lies round it.

@@ -26,6 +26,11 @@ fn one_byte_changes_read() {
     ask.met("read", &[0, 7, 8, 9, 10, 11]);
     ask.met_at("read", 7, &SEVENS);
     ask.met_at("read", 8, &EIGHTS);
+    // a blank in the first byte of a number, and none more (02, E2)
+    ask.met_totals("read", 0..=1);
+    ask.met("read_strict", &[0, 7, 8, 9, 10, 11]);
+    ask.met_at("read_strict", 7, &SEVENS);
+    ask.met_at("read_strict", 8, &EIGHTS);
 }
 
 /// Every one-byte change of a card at each end of the town scales, and just above (02, E13).

@@ -16,7 +16,7 @@ fn some_pixel(random: &mut Random) -> Pixel {
 fn ask_all(ask: &mut Ask, sheet: &Sheet, pixel: Pixel, position: Position, height: u64) {
     let _ = ask.place(sheet, pixel);
     for position in ask.position(sheet, pixel).into_iter().flatten() {
-        let _ = ask.pixel(sheet, position);
+        let _ = ask.pixel(sheet, position.value);
     }
     let _ = ask.pixel(sheet, position);
     let (tiles, store) = (Tiles { index: &[], count: 2 }, [9; 2 * 49_152]);
@@ -51,8 +51,8 @@ fn changes_asked(test: &str, good: Sheet) {
             for (row, column) in [(0, 0), (0, 127), (255, 0), (255, 127), (256, 0), (0, -1)] {
                 let pixel = Pixel { row, column };
                 for pair in PAIRS {
-                    let position = good.position_in(pair, pixel).unwrap_or(position);
-                    ask_all(&mut ask, &sheet, pixel, position, 3);
+                    let there = good.position_in(pair, pixel).map(|told| told.value);
+                    ask_all(&mut ask, &sheet, pixel, there.unwrap_or(position), 3);
                 }
             }
         }
@@ -92,7 +92,7 @@ fn damaged_asked(test: &str, rounds: u32, maker: Maker) {
         let good = rule::read(series, &card).expect("a good card");
         let last = Pixel { row: record.nll as i64, column: record.nus as i64 };
         let last = PAIRS.map(|pair| rule::position(pair, &good, last));
-        let last = random.pick(&last).expect("a pixel of the chart");
+        let last = random.pick(&last).expect("a pixel of the chart").value;
         change_some(&mut random, &mut card);
         if round % 8 == 0 {
             series.scale = random.pick(&[series.scale, 0, 4_999, 20_000_001, u64::MAX]);

@@ -9,7 +9,7 @@ use lib.IntN.{pos, natAbs}
 use Rattle.whole.specs.Whole.{floorDiv, ceilDiv}
 use Rattle.whole.proofs.Signed.{Is, is-nat, is-same, is-ceil, is-size}
 use Rattle.arc.specs.Scales.{isScale}
-use Rattle.arc.specs.Spacing.{spacingAt, SpacingUnit, Spaced, Grid, SpacingIs, SpacingFalls, RowsAtLeast}
+use Rattle.arc.specs.Spacing.{spacingAt, SpacingUnit, Spaced, Grid, SpacingIs, SpacingFalls, ColumnsAtLeast, RowsAtLeast}
 use Rattle.arc.proofs.Scales.{scale-least, scale-most}
 
 -- the constant as a quotient of naturals
@@ -96,6 +96,13 @@ falls u s t w g k h =
     let r : b < a + 1 = lt-of-mul-lt-mul-right t (omega (arith, close u t k, enough u s g, mul-le-mul-left a h, add-mul a 1 t)) in
     let es = is-q u s g in
     let et = is-q u t k in
+    omega arith
+
+pub columns-least : ColumnsAtLeast
+unfolding q
+columns-least u s w g =
+    let l : 9 ≤ q u s g = at-least u s g 9 (omega (arith, w .least, scale-most s g)) in
+    let e = is-q u s g in
     omega arith
 
 pub rows-least : RowsAtLeast

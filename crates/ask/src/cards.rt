@@ -7,6 +7,7 @@ use crate::word;
 use arc::Refusal;
 use arc::Series;
 use arc::Verdict;
+use fordcask::CardParts;
 
 // Whether the line is one of these questions, well formed; then it is answered.
 pub fn asked(name: &[u8], line: &[u8], at: usize) -> bool {
@@ -29,7 +30,11 @@ pub fn asked(name: &[u8], line: &[u8], at: usize) -> bool {
 
 fn on_card(name: &[u8], series: Series, card: &[u8]) -> bool {
     if check::same(name, b"read_card") {
-        read_card(series, card);
+        read(fordcask::fordcask_read_card(series, card));
+        return true;
+    }
+    if check::same(name, b"read_strict") {
+        read(fordcask::fordcask_read_strict(series, card));
         return true;
     }
     if check::same(name, b"extents") {
@@ -42,27 +47,27 @@ fn on_card(name: &[u8], series: Series, card: &[u8]) -> bool {
 fn on_pair(name: &[u8], series: Series, card: &[u8], x: i64, y: i64) -> bool {
     if check::same(name, b"place") {
         let r = fordcask::fordcask_place(series, card, x, y);
-        print::pair(r.number, r.at, r.row, r.column);
+        print::pair(r.number, r.at, r.row, r.column, r.blanks);
         return true;
     }
     if check::same(name, b"position") {
         let r = fordcask::fordcask_position(series, card, x, y);
-        print::pair(r.number, r.at, r.lat, r.lon);
+        print::pair(r.number, r.at, r.lat, r.lon, r.blanks);
         return true;
     }
     if check::same(name, b"pixel") {
         let r = fordcask::fordcask_pixel(series, card, x, y);
-        print::pair(r.number, r.at, r.row, r.column);
+        print::pair(r.number, r.at, r.row, r.column, r.blanks);
         return true;
     }
     if check::same(name, b"corner_position") {
         let r = fordcask::fordcask_corner_position(series, card, x, y);
-        print::pair(r.number, r.at, r.lat, r.lon);
+        print::pair(r.number, r.at, r.lat, r.lon, r.blanks);
         return true;
     }
     if check::same(name, b"corner_pixel") {
         let r = fordcask::fordcask_corner_pixel(series, card, x, y);
-        print::pair(r.number, r.at, r.row, r.column);
+        print::pair(r.number, r.at, r.row, r.column, r.blanks);
         return true;
     }
     if check::same(name, b"judge_pixel") {
@@ -74,8 +79,8 @@ fn on_pair(name: &[u8], series: Series, card: &[u8], x: i64, y: i64) -> bool {
     false
 }
 
-fn read_card(series: Series, card: &[u8]) {
-    let k = fordcask::fordcask_read_card(series, card);
+// What reading answered.
+fn read(k: CardParts) {
     let bad = k.bad;
     print::refusal(k.number, k.at);
     print::naturals(&[k.a, k.b]);
@@ -84,7 +89,7 @@ fn read_card(series: Series, card: &[u8]) {
     print::naturals(&[k.nul, k.nus, k.nll, k.nls, k.nfl, k.nfc]);
     print::name(&bad);
     print::natural(k.tif as u64);
-    print::end_line();
+    print::end_card(k.blanks);
 }
 
 fn extents(series: Series, card: &[u8]) {

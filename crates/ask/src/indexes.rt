@@ -44,7 +44,7 @@ fn checked(s: Stated, card: &[u8], index: &[u32], marks: &mut [u8]) {
     let r = fordcask::fordcask_index_check(s.series, card, index, s.count, marks);
     print::refusal(r.number, r.at);
     print::bytes(marks);
-    print::end_line();
+    print::end_card(r.blanks);
 }
 
 fn index_check(line: &[u8], at: usize, s: Stated, card: &[u8], index: &[u32]) -> bool {
@@ -79,6 +79,8 @@ fn window(line: &[u8], at: usize, s: Stated, card: &[u8], index: &[u32]) -> bool
         height.value,
         width.value,
     );
-    print::answer(r.number, r.at, &[r.missing, r.tile]);
+    print::refusal(r.number, r.at);
+    print::naturals(&[r.missing, r.tile]);
+    print::end_card(r.blanks);
     true
 }

@@ -69,19 +69,19 @@ fn answer(
 ) {
     if corner & positions {
         let r = fordcask::fordcask_corner_positions(series, card, given, values, numbers);
-        print::lists(r.number, r.at, values, numbers);
+        print::lists(r.number, r.at, values, numbers, r.blanks);
         return;
     }
     if corner {
         let r = fordcask::fordcask_corner_pixels(series, card, given, values, numbers);
-        print::lists(r.number, r.at, values, numbers);
+        print::lists(r.number, r.at, values, numbers, r.blanks);
         return;
     }
     if positions {
         let r = fordcask::fordcask_positions(series, card, given, values, numbers);
-        print::lists(r.number, r.at, values, numbers);
+        print::lists(r.number, r.at, values, numbers, r.blanks);
         return;
     }
     let r = fordcask::fordcask_pixels(series, card, given, values, numbers);
-    print::lists(r.number, r.at, values, numbers);
+    print::lists(r.number, r.at, values, numbers, r.blanks);
 }

@@ -93,14 +93,12 @@ fn tile(s: Stated, card: &[u8], index: &[u32], store: &[u8], row: i64, column: i
     print::refusal(r.number, r.at);
     print::naturals(&[r.stored, r.offset, r.length]);
     print::ends(part(s, card, index, store, row, column));
-    print::end_line();
+    print::end_card(r.blanks);
 }
 
 fn bands(s: Stated, card: &[u8], index: &[u32], store: &[u8], row: i64, column: i64) {
     let r = fordcask::fordcask_bands(s.series, card, index, s.count, store, row, column);
-    print::answer(
-        r.number,
-        r.at,
-        &[r.red as u64, r.green as u64, r.blue as u64],
-    );
+    print::refusal(r.number, r.at);
+    print::naturals(&[r.red as u64, r.green as u64, r.blue as u64]);
+    print::end_card(r.blanks);
 }

@@ -25,6 +25,12 @@ pub fn asked(line: &[u8], at: usize) -> bool {
         row.value,
         column.value,
     );
-    print::pair(r.number, r.at, r.row, r.column);
+    print::refusal(r.number, r.at);
+    print::signed(r.row);
+    print::signed(r.column);
+    if (r.blanks != 0) | (r.overview_blanks != 0) {
+        print::totals(r.blanks, r.overview_blanks);
+    }
+    print::end_line();
     true
 }

@@ -50,12 +50,28 @@ pub fn answer(number: u32, at: u64, values: &[u64]) {
     end_line();
 }
 
-// A line of number, place and two signed values.
-pub fn pair(number: u32, at: u64, x: i64, y: i64) {
+// The end of a line on a card: the total of its blanks, where there are any (02, E2).
+pub fn end_card(blanks: u64) {
+    if blanks != 0 {
+        text(b" blanks");
+        natural(blanks);
+    }
+    end_line();
+}
+
+// The totals of blanks of two cards.
+pub fn totals(blanks: u64, overview: u64) {
+    text(b" blanks");
+    natural(blanks);
+    natural(overview);
+}
+
+// A line of number, place and two signed values, on a card.
+pub fn pair(number: u32, at: u64, x: i64, y: i64, blanks: u64) {
     refusal(number, at);
     signed(x);
     signed(y);
-    end_line();
+    end_card(blanks);
 }
 
 // A byte as a line has it.
@@ -128,12 +144,12 @@ fn band(b: u8) {
     size(b as u64);
 }
 
-// A line of number, place and the two lists that were lent.
-pub fn lists(number: u32, at: u64, s: &[i64], told: &[u32]) {
+// A line of number, place and the two lists that were lent, on a card.
+pub fn lists(number: u32, at: u64, s: &[i64], told: &[u32], blanks: u64) {
     refusal(number, at);
     values(s);
     numbers(told);
-    end_line();
+    end_card(blanks);
 }
 
 // The first and the last byte of a part.

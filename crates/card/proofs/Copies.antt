@@ -24,6 +24,7 @@ use Rattle.origin.proofs.Axis.{tileAngle, stored-is}
 use Rattle.origin.proofs.Stored.{counted, counted-is, axis, stored-unique}
 use Rattle.text.specs.Text.{number, angleOf}
 use Rattle.card.specs.declared.Card.{Card}
+use Rattle.card.specs.declared.Fill.{Fill}
 use Rattle.card.specs.declared.Pair.{Pair}
 use Rattle.card.specs.declared.PlaceAnswer.{PlaceAnswer}
 use Rattle.card.specs.declared.PositionAnswer.{PositionAnswer}
@@ -100,9 +101,9 @@ place-alike pair series j k p q r c i r′ c′ i′ =
 
 pub bytes-alike : BytesAlike
 unfolding cardOf
-bytes-alike series s t j k p q (lso, (pso, (nul, (nus, (nll, (nls, (nfl, (nfc, end)))))))) =
-    let x = read-to series s j p in
-    let y = read-to series t k q in
+bytes-alike series s t j k v w p q (lso, (pso, (nul, (nus, (nll, (nls, (nfl, (nfc, end)))))))) =
+    let x = read-to Fill.Blanks series s j v p in
+    let y = read-to Fill.Blanks series t k w q in
     let e = x .spacing in
     let f = y .spacing in
     let a : x .a ≡ y .a = cc in
@@ -166,26 +167,27 @@ rounded-again x g t k z h = go (tileStoring x t z) refl
 -- ---- a card whose origin is moved
 
 module _ (s t : List ℕ) where
-  judged-same : (f : Subfield) → bytesOf f s ≡ bytesOf f t → judgeField f s ≡ judgeField f t
+  judged-same : (f : Subfield) → bytesOf f s ≡ bytesOf f t → judgeField Fill.Blanks f s ≡ judgeField Fill.Blanks f t
   unfolding judgeField
-  judged-same f e = ap (λ (u : List ℕ). judge (rightKind (f .kind) u) (rightValue (f .kind) u) (f .at)) e
+  judged-same f e = ap (λ (u : List ℕ). judge (rightKind Fill.Blanks (f .kind) u) (rightValue (f .kind) u) (f .at)) e
 
-  walk-same : (fs : List Subfield) → SameIn fs s t → walk fs s ≡ walk fs t
+  walk-same : (fs : List Subfield) → SameIn fs s t → walk Fill.Blanks fs s ≡ walk Fill.Blanks fs t
   walk-same [] h = refl
   walk-same (f ∷ fs) h = ap₂ orElse (judged-same f (h .0)) (walk-same fs (h .1))
 
   -- the other subfields accepted, the two of the origin decide
-  walk-origin : walk layout s ≡ Verdict.Accepted → SameIn others s t → walk layout t ≡ orElse (judgeField LSO t) (judgeField PSO t)
+  walk-origin : walk Fill.Blanks layout s ≡ Verdict.Accepted → SameIn others s t
+      → walk Fill.Blanks layout t ≡ orElse (judgeField Fill.Blanks LSO t) (judgeField Fill.Blanks PSO t)
   unfolding layout
   walk-origin e (str, (arv, (brv, rest))) =
-      let first = orElse-both (judgeField STR s) _ e in
-      let second = orElse-both (judgeField ARV s) _ (first .1) in
-      let third = orElse-both (judgeField BRV s) _ (second .1) in
-      let past = sym (walk-same (drop 3 others) rest) ∙ orElse-both (judgeField PSO s) _ (orElse-both (judgeField LSO s) _ (third .1) .1) .1 in
+      let first = orElse-both (judgeField Fill.Blanks STR s) _ e in
+      let second = orElse-both (judgeField Fill.Blanks ARV s) _ (first .1) in
+      let third = orElse-both (judgeField Fill.Blanks BRV s) _ (second .1) in
+      let past = sym (walk-same (drop 3 others) rest) ∙ orElse-both (judgeField Fill.Blanks PSO s) _ (orElse-both (judgeField Fill.Blanks LSO s) _ (third .1) .1) .1 in
       ap₂ orElse (sym (judged-same STR str) ∙ first .0)
       (ap₂ orElse (sym (judged-same ARV arv) ∙ second .0)
       (ap₂ orElse (sym (judged-same BRV brv) ∙ third .0)
-      (ap (orElse (judgeField LSO t)) (ap (orElse (judgeField PSO t)) past ∙ orElse-accepted (judgeField PSO t)))))
+      (ap (orElse (judgeField Fill.Blanks LSO t)) (ap (orElse (judgeField Fill.Blanks PSO t)) past ∙ orElse-accepted (judgeField Fill.Blanks PSO t)))))
 
 no-column : (series : Series) (a b : ℕ) (t : List ℕ) (n : Option ℤ) → withOrigin series a b t n none ≡ refusedCard (refusal 10)
 no-column series a b t none = refl
@@ -195,7 +197,7 @@ no-column series a b t (some n) = refl
 moved-none : (x : ℕ) → Grid x → (t : ℕ) (y z k : ℤ) → Stores x t y k → Moved y z → tileStoring x t z ≡ none
 moved-none x g t y z k e h = rounded-again x g t k z (subst⁻¹ (λ (y : ℤ). Moved y z) (e .same) h)
 
-module _ (series : Series) (s t : List ℕ) (k : Card) (x : ReadTo series s k) where
+module _ (series : Series) (s t : List ℕ) (k : Card) (blanks : ℕ) (x : ReadTo Fill.Blanks series s k blanks) where
   no-origin : LSOMoved s t ⊎ PSOMoved s t
       → withOrigin series (x .a) (x .b) t (rowTile (x .b) t) (columnTile (x .a) t) ≡ refusedCard (refusal 10)
   no-origin (inl h) =
@@ -208,8 +210,8 @@ module _ (series : Series) (s t : List ℕ) (k : Card) (x : ReadTo series s k) w
 
 pub moved-refused : MovedRefused
 unfolding readIn withValues
-moved-refused series s t k p l h m =
-    let x = read-to series s k p in
+moved-refused series s t k blanks p l h m =
+    let x = read-to Fill.Blanks series s k blanks p in
     rw (
       x .spacing,
       x .not-polar,
@@ -217,5 +219,5 @@ moved-refused series s t k p l h m =
       walk-origin s t (x .judged) h,
       eq-eqb (numberIn ARV t) (x .a) (ap number (sym (h .1 .0)) ∙ x .arv),
       eq-eqb (numberIn BRV t) (x .b) (ap number (sym (h .1 .1 .0)) ∙ x .brv),
-      no-origin series s t k x m,
+      no-origin series s t k blanks x m,
     )

@@ -12,6 +12,7 @@ use Rattle.arc.specs.declared.SpacingAnswer.{SpacingAnswer}
 use Rattle.arc.specs.Spacing.{Grid, spacingOf}
 use Rattle.arc.proofs.Answered.{answered-grids}
 use Rattle.card.specs.declared.Card.{Card}
+use Rattle.card.specs.declared.Fill.{Fill}
 use Rattle.card.specs.Layout.{NUL, NUS, NLL, NLS, NFL, NFC, layout}
 use Rattle.card.specs.Read.{numberIn, cardOf, Accepted, Known}
 use Rattle.card.proofs.Walked.{between, right-in}
@@ -40,14 +41,14 @@ pub record Laid (k : Card) : Type 0 where
   pub left-right : k .nls ≤ k .nus
   pub right : k .nus < 128 * k .nfc
 
-read-laid : (series : Series) (s : List ℕ) (k : Card) → ReadTo series s k → Laid k
+read-laid : (series : Series) (s : List ℕ) (k : Card) (blanks : ℕ) → ReadTo Fill.Blanks series s k blanks → Laid k
 unfolding cardOf layout
-read-laid series s k r =
+read-laid series s k blanks r =
     let g = answered-grids series (r .a) (r .b) (r .spacing) in
     let N : ℕ = raise (r .b / 512) (r .n) in
     let n : Is (r .n) N (r .b / 512) = is-raise (r .b / 512) (r .n) (r .n-stored .on-grid) in
-    let nfl = between 1 (numberIn NFL s) 999 (right-in s (r .judged) 9 (omega arith) .1) in
-    let nfc = between 1 (numberIn NFC s) 999 (right-in s (r .judged) 10 (omega arith) .1) in
+    let nfl = between 1 (numberIn NFL s) 999 (right-in Fill.Blanks s (r .judged) 9 (omega arith) .1) in
+    let nfc = between 1 (numberIn NFC s) 999 (right-in Fill.Blanks s (r .judged) 10 (omega arith) .1) in
     let x = extends (r .a) (r .b) (r .n) (numberIn NUL s) (numberIn NUS s) (numberIn NLL s) (numberIn NLS s) (numberIn NFL s) (numberIn NFC s) (r .extents) in
     subst Laid (r .card)
     (record {
@@ -80,7 +81,7 @@ read-laid series s k r =
     })
 
 pub accepted-laid : (series : Series) (k : Card) → Accepted series k → Laid k
-accepted-laid series k h = read-laid series (h .bytes) k (read-to series (h .bytes) k (h .read))
+accepted-laid series k h = read-laid series (h .bytes) k (h .blanks) (read-to Fill.Blanks series (h .bytes) k (h .blanks) (h .read))
 
 pub known-laid : (k : Card) → Known k → Laid k
 known-laid k h = accepted-laid (h .series) k (h .is-read)
@@ -93,7 +94,7 @@ pub record Spacing (series : Series) (k : Card) : Type 0 where
 pub accepted-spacing : (series : Series) (k : Card) → Accepted series k → Spacing series k
 unfolding cardOf
 accepted-spacing series k h =
-    let r = read-to series (h .bytes) k (h .read) in
+    let r = read-to Fill.Blanks series (h .bytes) k (h .blanks) (h .read) in
     subst (Spacing series) (r .card) (record { constants = r .spacing; same-series = refl })
 
 -- two cards of one scale, factor and zone have the same

@@ -16,7 +16,12 @@ module _ (series : Series) (bytes : List ℕ) {x : Reading} (e : x ≡ readOf se
   card-known v =
       record {
         series = series;
-        is-read = record { bytes = bytes; read = sym e ∙ ap (λ (w : Verdict). record { verdict = w; card = x .card }) v };
+        is-read =
+            record {
+              bytes = bytes;
+              blanks = x .blanks;
+              read = sym e ∙ ap (λ (w : Verdict). record { verdict = w; card = x .card; blanks = x .blanks }) v;
+            };
       }
 
   pub card-answers : {A : Type 0} (f : Refusal → A) (g : Card → A) → x .verdict ≡ Verdict.Accepted

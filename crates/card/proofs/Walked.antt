@@ -8,6 +8,7 @@ use borrow.Author.Tests.{leb-true, ltb-true}
 use lib.Dec.{leb, ltb}
 use lib.ListN.{length, getD}
 use Rattle.arc.specs.declared.Verdict.{Verdict}
+use Rattle.card.specs.declared.Fill.{Fill}
 use Rattle.card.specs.Layout.{Subfield, STR, layout, bytesOf, rightKind, rightValue, judge, judgeField, orElse, walk}
 use Rattle.card.specs.Write.{test}
 
@@ -39,16 +40,18 @@ judge-both false v p e = let x : _≡_ {A = ℕ} 0 1 = cc in absurd (omega arith
 
 -- ---- the walk
 
-abbrev pub RightIn : List ℕ → Subfield → Type 0
-RightIn s f = (rightKind (f .kind) (bytesOf f s) ≡ true) × (rightValue (f .kind) (bytesOf f s) ≡ true)
+abbrev pub RightIn : Fill → List ℕ → Subfield → Type 0
+RightIn fill s f = (rightKind fill (f .kind) (bytesOf f s) ≡ true) × (rightValue (f .kind) (bytesOf f s) ≡ true)
 
-right-at : (s : List ℕ) (fs : List Subfield) → walk fs s ≡ Verdict.Accepted → (i : ℕ) → i < length fs → RightIn s (getD fs i STR)
-unfolding judgeField
-right-at s [] e i h = absurd (omega arith)
-right-at s (f ∷ fs) e zero h =
-    judge-both (rightKind (f .kind) (bytesOf f s)) (rightValue (f .kind) (bytesOf f s)) (f .at) (orElse-both (judgeField f s) (walk fs s) e .0)
-right-at s (f ∷ fs) e (suc i) h = right-at s fs (orElse-both (judgeField f s) (walk fs s) e .1) i (omega arith)
+module _ (fill : Fill) (s : List ℕ) where
+  right-at : (fs : List Subfield) → walk fill fs s ≡ Verdict.Accepted → (i : ℕ) → i < length fs → RightIn fill s (getD fs i STR)
+  unfolding judgeField
+  right-at [] e i h = absurd (omega arith)
+  right-at (f ∷ fs) e zero h =
+      judge-both (rightKind fill (f .kind) (bytesOf f s)) (rightValue (f .kind) (bytesOf f s)) (f .at)
+      (orElse-both (judgeField fill f s) (walk fill fs s) e .0)
+  right-at (f ∷ fs) e (suc i) h = right-at fs (orElse-both (judgeField fill f s) (walk fill fs s) e .1) i (omega arith)
 
-pub right-in : (s : List ℕ) → walk layout s ≡ Verdict.Accepted → (i : ℕ) → i < 20 → RightIn s (getD layout i STR)
-unfolding layout
-right-in s e i h = right-at s layout e i h
+  pub right-in : walk fill layout s ≡ Verdict.Accepted → (i : ℕ) → i < 20 → RightIn fill s (getD layout i STR)
+  unfolding layout
+  right-in e i h = right-at layout e i h

@@ -24,6 +24,7 @@ use Rattle.arc.specs.Spacing.{Grid}
 use Rattle.origin.specs.Origin.{storedAngle}
 use Rattle.text.specs.Text.{angleOf}
 use Rattle.card.specs.declared.Card.{Card}
+use Rattle.card.specs.declared.Fill.{Fill}
 use Rattle.card.specs.declared.Pair.{Pair}
 use Rattle.card.specs.Layout.{STR, ARV, BRV, LSO, PSO, NUL, NUS, NLL, NLS, NFL, NFC, PNC, PNL, COD, ROD, POR, PCB, PVB, BAD, TIF}
 use Rattle.card.specs.Layout.{Subfield, bytesOf, judgeField, orElse}
@@ -65,7 +66,7 @@ SameIn (f ∷ fs) s t = (bytesOf f s ≡ bytesOf f t) × SameIn fs s t
 
 abbrev pub BytesAlike : Type 0
 BytesAlike =
-    (series : Series) (s t : List ℕ) (j k : Card) → readOf series s ≡ acceptedCard j → readOf series t ≡ acceptedCard k
+    (series : Series) (s t : List ℕ) (j k : Card) (x y : ℕ) → readOf series s ≡ acceptedCard j x → readOf series t ≡ acceptedCard k y
     → SameIn (LSO ∷ PSO ∷ NUL ∷ NUS ∷ NLL ∷ NLS ∷ NFL ∷ NFC ∷ []) s t → Copies j k
 
 -- ---- stored angles rounded again
@@ -93,6 +94,6 @@ PSOMoved s t = Moved (angleOf 2 (bytesOf PSO s)) (angleOf 2 (bytesOf PSO t))
 -- its LSO or PSO is not of the right kind or value
 abbrev pub MovedRefused : Type 0
 MovedRefused =
-    (series : Series) (s t : List ℕ) (k : Card) → readOf series s ≡ acceptedCard k
+    (series : Series) (s t : List ℕ) (k : Card) (blanks : ℕ) → readOf series s ≡ acceptedCard k blanks
     → length t ≡ length s → SameIn others s t → LSOMoved s t ⊎ PSOMoved s t
-    → readOf series t ≡ onVerdict (orElse (judgeField LSO t) (judgeField PSO t)) refusedCard (refusedCard (refusal 10))
+    → readOf series t ≡ onVerdict (orElse (judgeField Fill.Blanks LSO t) (judgeField Fill.Blanks PSO t)) refusedCard (refusedCard (refusal 10))

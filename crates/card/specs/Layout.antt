@@ -3,8 +3,9 @@
 --     Subfield, sub at width kind    a subfield: its offset, its width, what may stand in it
 --     STR .. TIF             the subfields, by the standard's tags
 --     layout                 all of them, left to right
---     judgeField f s         7 before 8 in each, the subfield's offset as place
---     walk layout s          the first refusal, left to right
+--     numberLaid fill s      whether s is laid out as a number, with zeros (01) or with blanks too (02, E2) before its digits
+--     judgeField fill f s    7 before 8 in each, the subfield's offset as place
+--     walk fill layout s     the first refusal, left to right
 use Prim.Native.Nat.{ℕ}
 use mathlib.Core.List.{List, [], _∷_}
 use mathlib.Core.Bool.{Bool, true, cond, _&&_}
@@ -12,7 +13,8 @@ use lib.Dec.{leb}
 use lib.ListN.{getD}
 use Rattle.arc.specs.declared.Verdict.{Verdict}
 use Rattle.arc.specs.Refusals.{refusalAt, onVerdict}
-use Rattle.text.specs.Text.{part, isDigit, all, number, angleLaid, angleValid, nameLaid, isFlag}
+use Rattle.text.specs.Text.{part, isDigit, all, number, filled, angleLaid, angleValid, nameLaid, isFlag}
+use Rattle.card.specs.declared.Fill.{Fill}
 
 -- digits from low to high; so many digits of degrees and the rest of an angle, within a limit; a file's name; Y or N
 pub data Kind : Type 0 where
@@ -108,12 +110,17 @@ layout =
 abbrev pub bytesOf : Subfield → List ℕ → List ℕ
 bytesOf f s = part (f .at) (f .width) s
 
+-- all digits, zero-filled (01), or blanks before the first digit too; a subfield of blanks alone is still wrong (02, E2)
+abbrev pub numberLaid : Fill → List ℕ → Bool
+numberLaid Fill.Zeros s = all isDigit s
+numberLaid Fill.Blanks s = filled s
+
 -- 7 where this fails: each byte is the digit, sign, dot or letter laid out; TIF has no wrong kind
-abbrev pub rightKind : Kind → List ℕ → Bool
-rightKind (Number low high) s = all isDigit s
-rightKind (Angle d limit) s = angleLaid d s
-rightKind Name s = nameLaid s
-rightKind Flag s = true
+abbrev pub rightKind : Fill → Kind → List ℕ → Bool
+rightKind fill (Number low high) s = numberLaid fill s
+rightKind fill (Angle d limit) s = angleLaid d s
+rightKind fill Name s = nameLaid s
+rightKind fill Flag s = true
 
 -- 8 where this fails: a constant, minutes or seconds 60 or more, an angle outside its range, minus zero, NFL or NFC, TIF
 abbrev pub rightValue : Kind → List ℕ → Bool
@@ -126,13 +133,13 @@ abbrev pub judge : Bool → Bool → ℕ → Verdict
 judge kind value place =
     cond kind (cond value Verdict.Accepted (Verdict.Refused (refusalAt 8 place))) (Verdict.Refused (refusalAt 7 place))
 
-unfoldable pub judgeField : Subfield → List ℕ → Verdict
-judgeField f s = judge (rightKind (f .kind) (bytesOf f s)) (rightValue (f .kind) (bytesOf f s)) (f .at)
+unfoldable pub judgeField : Fill → Subfield → List ℕ → Verdict
+judgeField fill f s = judge (rightKind fill (f .kind) (bytesOf f s)) (rightValue (f .kind) (bytesOf f s)) (f .at)
 
 -- the first of two that refuses
 abbrev pub orElse : Verdict → Verdict → Verdict
 orElse v w = onVerdict v Verdict.Refused w
 
-abbrev pub walk : List Subfield → List ℕ → Verdict
-walk [] s = Verdict.Accepted
-walk (f ∷ fs) s = orElse (judgeField f s) (walk fs s)
+abbrev pub walk : Fill → List Subfield → List ℕ → Verdict
+walk fill [] s = Verdict.Accepted
+walk fill (f ∷ fs) s = orElse (judgeField fill f s) (walk fill fs s)

@@ -1,5 +1,6 @@
 pub mod Layout
 pub mod Extents
+pub mod Blanks
 pub mod Read
 pub mod Write
 pub mod Grid
@@ -11,4 +12,5 @@ pub mod Contained
 pub mod Overview
 pub mod Offset
 pub mod RoundTrips
+pub mod Strict
 pub mod Steps

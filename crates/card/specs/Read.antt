@@ -2,9 +2,12 @@
 -- Definitions only.
 --     tileStoring x t angle  the whole number from −t to t whose stored angle this is; the angle fixes it
 --     cardOf ..              the value of a card that is not refused
---     readOf series s        what reading answers
+--     readAs fill series s   what reading answers, whatever may fill the numbers
+--     readOf series s        what reading answers: blanks may stand before a number's digits, and the total of them is told (02, E2)
+--     readStrict series s    what reading answers where none may: 01 as it stands
 --     Accepted, Known        some bytes are read to this card
 --     onCard x f g           a question on a card as it was read: reading's refusal first, then the question's own answer
+--     toldOnCard t x f g     what is told of it: its report and the total of blanks (02, E2)
 use mathlib.Core.Path.{_≡_}
 use Prim.Native.Nat.{ℕ, _+_, _*_, _/_}
 use mathlib.Core.List.{List}
@@ -19,14 +22,16 @@ use Rattle.arc.specs.declared.Series.{Series}
 use Rattle.arc.specs.declared.Refusal.{Refusal}
 use Rattle.arc.specs.declared.Verdict.{Verdict}
 use Rattle.arc.specs.declared.SpacingAnswer.{SpacingAnswer}
-use Rattle.arc.specs.Refusals.{refusal, onVerdict}
+use Rattle.arc.specs.Refusals.{Report, refusal, onVerdict}
 use Rattle.arc.specs.Zones.{isPolar}
 use Rattle.arc.specs.Spacing.{spacingOf}
 use Rattle.origin.specs.Origin.{storedAngle}
 use Rattle.card.specs.declared.Card.{Card}
 use Rattle.card.specs.declared.Reading.{Reading}
+use Rattle.card.specs.declared.Fill.{Fill}
 use Rattle.text.specs.Text.{number, angleOf}
 use Rattle.card.specs.Layout.{Subfield, ARV, BRV, LSO, PSO, NUL, NUS, NLL, NLS, NFL, NFC, BAD, TIF, layout, bytesOf, walk}
+use Rattle.card.specs.Blanks.{totalBlanks, withTotal}
 use Rattle.card.specs.Extents.{extentsHold}
 
 abbrev pub equalℤ : ℤ → ℤ → Bool
@@ -84,20 +89,21 @@ noCard =
       east = 0;
     }
 
-abbrev pub acceptedCard : Card → Reading
-acceptedCard k = record { verdict = Verdict.Accepted; card = k }
+-- and so many blanks were met
+abbrev pub acceptedCard : Card → ℕ → Reading
+acceptedCard k blanks = record { verdict = Verdict.Accepted; card = k; blanks = blanks }
 
 abbrev pub refusedCard : Refusal → Reading
-refusedCard r = record { verdict = Verdict.Refused r; card = noCard }
+refusedCard r = record { verdict = Verdict.Refused r; card = noCard; blanks = 0 }
 
 -- 11
-abbrev pub withExtents : Card → Reading
-withExtents k =
-    cond (extentsHold (k .a) (k .b) (k .n) (k .nul) (k .nus) (k .nll) (k .nls) (k .nfl) (k .nfc)) (acceptedCard k) (refusedCard (refusal 11))
+abbrev pub withExtents : Card → ℕ → Reading
+withExtents k blanks =
+    cond (extentsHold (k .a) (k .b) (k .n) (k .nul) (k .nus) (k .nll) (k .nls) (k .nfl) (k .nfc)) (acceptedCard k blanks) (refusedCard (refusal 11))
 
 -- 10, 11
 abbrev pub withOrigin : Series → ℕ → ℕ → List ℕ → Option ℤ → Option ℤ → Reading
-withOrigin series a b s (some n) (some m) = withExtents (cardOf series a b n m s)
+withOrigin series a b s (some n) (some m) = withExtents (cardOf series a b n m s) (totalBlanks layout s)
 withOrigin series a b s (some n) none = refusedCard (refusal 10)
 withOrigin series a b s none m = refusedCard (refusal 10)
 
@@ -109,26 +115,35 @@ withValues series a b s =
     (refusedCard (refusal 9))
 
 -- 3, 6, then 7, 8, then these
-unfoldable pub readIn : Series → SpacingAnswer → List ℕ → Reading
-readIn series (SpacingAnswer.Constants a b) s =
+unfoldable pub readIn : Fill → Series → SpacingAnswer → List ℕ → Reading
+readIn fill series (SpacingAnswer.Constants a b) s =
     cond (isPolar (series .zone)) (refusedCard (refusal 3))
-    (cond (eqb (length s) 98) (onVerdict (walk layout s) refusedCard (withValues series a b s)) (refusedCard (refusal 6)))
-readIn series (SpacingAnswer.Refused r) s = refusedCard r
+    (cond (eqb (length s) 98) (onVerdict (walk fill layout s) refusedCard (withValues series a b s)) (refusedCard (refusal 6)))
+readIn fill series (SpacingAnswer.Refused r) s = refusedCard r
 
 -- 1, 17, 1, 2, then these
+abbrev pub readAs : Fill → Series → List ℕ → Reading
+readAs fill series s = readIn fill series (spacingOf series) s
+
 abbrev pub readOf : Series → List ℕ → Reading
-readOf series s = readIn series (spacingOf series) s
+readOf series s = readAs Fill.Blanks series s
+
+abbrev pub readStrict : Series → List ℕ → Reading
+readStrict series s = readAs Fill.Zeros series s
 
 -- a card is accepted when reading does not refuse it (01, "Origins and the zone grid")
 pub record Accepted (series : Series) (k : Card) : Type 0 where
   pub bytes : List ℕ
-  pub read : readOf series bytes ≡ acceptedCard k
+  pub blanks : ℕ
+  pub read : readOf series bytes ≡ acceptedCard k blanks
 
 -- some accepted card gives the value
 pub record Known (k : Card) : Type 0 where
   pub series : Series
   pub is-read : Accepted series k
 
--- a question on a card as it was read: reading's refusal first, then the question's own answer
 abbrev pub onCard : {A : Type 0} → Reading → (Refusal → A) → (Card → A) → A
 onCard x f g = onVerdict (x .verdict) f (g (x .card))
+
+abbrev pub toldOnCard : {A : Type 0} → (A → Report) → Reading → (Refusal → A) → (Card → A) → Report
+toldOnCard report x f g = withTotal (x .blanks) (report (onCard x f g))

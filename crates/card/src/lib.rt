@@ -67,10 +67,17 @@ pub fn no_card() -> Card
     }
 }
 
-// What reading answers: the card is all 0 in a refusal.
+// What may stand before the digits of a number: zeros alone, as in 01, or blanks too (02, E2).
+pub enum Fill {
+    Zeros,
+    Blanks,
+}
+
+// What reading answers: the verdict, the card, and the total of blanks met; card and total are all 0 in a refusal.
 pub struct Reading {
     pub verdict: Verdict,
     pub card: Card,
+    pub blanks: u64,
 }
 
 // What is written on a card.

@@ -14,6 +14,7 @@ use Rattle.text.specs.declared.Digits.{Digits}
 use Rattle.text.proofs.Bytes.{all-groups}
 use Rattle.text.proofs.Runs.{laid-tests}
 use Rattle.text.proofs.Angles.{valid-tests}
+use Rattle.card.specs.declared.Fill.{Fill}
 use Rattle.card.specs.Layout.{LSO, PSO, layout, bytesOf, walk}
 use Rattle.card_text.specs.StepsFields.{DigitsOf, shifted, valueIn}
 use Rattle.card.proofs.Walked.{right-in}
@@ -60,14 +61,14 @@ module _ (w limit : ℕ) (p : List ℕ) {d m t h : Digits} (ed : DigitsOf (part 
       (rw (rd, rm, rt, rh), rw (rd, rm, rt, rh))
 
 -- ---- the two angles of a card whose subfields are right
-module _ (s : List ℕ) (w : walk layout s ≡ Verdict.Accepted) where
+module _ (fill : Fill) (s : List ℕ) (w : walk fill layout s ≡ Verdict.Accepted) where
   lso-size : angleSize 3 (bytesOf LSO s) ≤ 64800000
   unfolding layout
-  lso-size = valid-tests 3 64800000 (bytesOf LSO s) (right-in s w 3 (omega arith) .1) .2
+  lso-size = valid-tests 3 64800000 (bytesOf LSO s) (right-in fill s w 3 (omega arith) .1) .2
 
   pso-size : angleSize 2 (bytesOf PSO s) ≤ 32400000
   unfolding layout
-  pso-size = valid-tests 2 32400000 (bytesOf PSO s) (right-in s w 4 (omega arith) .1) .2
+  pso-size = valid-tests 2 32400000 (bytesOf PSO s) (right-in fill s w 4 (omega arith) .1) .2
 
   pub lso-is : Is (angleOf 3 (bytesOf LSO s)) (valueIn LSO s) 64800000
   unfolding valueIn

@@ -1,3 +1,4 @@
+pub mod Blanks
 pub mod Table
 pub mod Angles
 pub mod Axes

@@ -4,6 +4,7 @@ use mathlib.Core.List.{List, [], _∷_}
 use mathlib.Core.Bool.{Bool, true, false}
 use Prim.Native.Nat.{ℕ}
 use Rattle.arc.specs.declared.Verdict.{Verdict}
+use Rattle.card.specs.declared.Fill.{Fill}
 use Rattle.card.specs.Layout.{Subfield}
 use Rattle.card.specs.Layout.{bytesOf, rightKind, rightValue, judge, judgeField, orElse, walk}
 use Rattle.card.proofs.Walked.{orElse-both, orElse-accepted, judge-both}
@@ -17,35 +18,36 @@ orElse-assoc Verdict.Accepted b c = refl
 orElse-assoc (Verdict.Refused r) b c = refl
 
 -- ---- a row as it was read: where its bytes are of the wrong kind, no more is known of it
-module _ (f : Subfield) (s : List ℕ) (before : Verdict) (laid valid : Bool) (v : ℕ) (x : Field)
-    (ex : x ≡ fieldOf before (f .at) laid valid v) (el : laid ≡ rightKind (f .kind) (bytesOf f s)) where
-  pub field-at : (rightKind (f .kind) (bytesOf f s) ≡ true → (valid ≡ rightValue (f .kind) (bytesOf f s)) × (v ≡ valueOf (f .kind) (bytesOf f s)))
-      → FieldAt f s before x
+module _ (fill : Fill) (f : Subfield) (s : List ℕ) (before : Verdict) (laid valid : Bool) (v : ℕ) (x : Field)
+    (ex : x ≡ fieldOf before (f .at) laid valid v) (el : laid ≡ rightKind fill (f .kind) (bytesOf f s)) where
+  pub field-at : (rightKind fill (f .kind) (bytesOf f s) ≡ true → (valid ≡ rightValue (f .kind) (bytesOf f s)) × (v ≡ valueOf (f .kind) (bytesOf f s)))
+      → FieldAt fill f s before x
   unfolding judgeField valueIn fieldOf
   field-at right =
       record {
-        joins = rw (ex, el) (ap (orElse before) (judged (rightKind (f .kind) (bytesOf f s)) refl));
-        kept = λ e. rw ex (right (judge-both (rightKind (f .kind) (bytesOf f s)) (rightValue (f .kind) (bytesOf f s)) (f .at) e .0) .1);
+        joins = rw (ex, el) (ap (orElse before) (judged (rightKind fill (f .kind) (bytesOf f s)) refl));
+        kept = λ e. rw ex (right (judge-both (rightKind fill (f .kind) (bytesOf f s)) (rightValue (f .kind) (bytesOf f s)) (f .at) e .0) .1);
       }
     where
-      judged : (k : Bool) → rightKind (f .kind) (bytesOf f s) ≡ k → judge k valid (f .at) ≡ judge k (rightValue (f .kind) (bytesOf f s)) (f .at)
+      judged : (k : Bool) → rightKind fill (f .kind) (bytesOf f s) ≡ k → judge k valid (f .at) ≡ judge k (rightValue (f .kind) (bytesOf f s)) (f .at)
       judged true e = rw (right e .0)
       judged false e = refl
 
 -- ---- rows read one after the other
 
 infixr 5 _▸_
-pub data Passed : List ℕ → List Subfield → Verdict → List ℕ → Verdict → Type 0 where
-  end : {s : List ℕ} {v : Verdict} → Passed s [] v [] v
-  _▸_ : {s : List ℕ} {f : Subfield} {fs : List Subfield} {v w : Verdict} {x : Field} {vs : List ℕ}
-      → FieldAt f s v x → Passed s fs (x .verdict) vs w → Passed s (f ∷ fs) v (x .value ∷ vs) w
+pub data Passed (fill : Fill) (s : List ℕ) : List Subfield → Verdict → List ℕ → Verdict → Type 0 where
+  end : {v : Verdict} → Passed fill s [] v [] v
+  _▸_ : {f : Subfield} {fs : List Subfield} {v w : Verdict} {x : Field} {vs : List ℕ}
+      → FieldAt fill f s v x → Passed fill s fs (x .verdict) vs w → Passed fill s (f ∷ fs) v (x .value ∷ vs) w
 
-pub passed-walk : {s : List ℕ} {fs : List Subfield} {v w : Verdict} {vs : List ℕ} → Passed s fs v vs w → w ≡ orElse v (walk fs s)
-passed-walk {v} end = sym (orElse-accepted v)
-passed-walk (_▸_ {s} {f} {fs} {v} r p) = passed-walk p ∙ rw (r .joins) (orElse-assoc v (judgeField f s) (walk fs s))
+module _ {fill : Fill} {s : List ℕ} where
+  pub passed-walk : {fs : List Subfield} {v w : Verdict} {vs : List ℕ} → Passed fill s fs v vs w → w ≡ orElse v (walk fill fs s)
+  passed-walk {v} end = sym (orElse-accepted v)
+  passed-walk (_▸_ {f} {fs} {v} r p) = passed-walk p ∙ rw (r .joins) (orElse-assoc v (judgeField fill f s) (walk fill fs s))
 
-pub passed-values : {s : List ℕ} {fs : List Subfield} {v w : Verdict} {vs : List ℕ} → Passed s fs v vs w
-    → walk fs s ≡ Verdict.Accepted → vs ≡ valuesIn fs s
-passed-values end e = refl
-passed-values (_▸_ {s} {f} {fs} r p) e =
-    let b = orElse-both (judgeField f s) (walk fs s) e in ap₂ _∷_ (r .kept (b .0)) (passed-values p (b .1))
+  pub passed-values : {fs : List Subfield} {v w : Verdict} {vs : List ℕ} → Passed fill s fs v vs w
+      → walk fill fs s ≡ Verdict.Accepted → vs ≡ valuesIn fs s
+  passed-values end e = refl
+  passed-values (_▸_ {f} {fs} r p) e =
+      let b = orElse-both (judgeField fill f s) (walk fill fs s) e in ap₂ _∷_ (r .kept (b .0)) (passed-values p (b .1))

@@ -16,6 +16,7 @@ use Rattle.origin.proofs.Axis.{latitudes, longitudes}
 use Rattle.card.specs.declared.Record.{Record}
 use Rattle.text.specs.Text.{angleOf}
 use Rattle.card.specs.Layout.{ARV, BRV, LSO, PSO, NUL, NUS, NLL, NLS, NFL, NFC, TIF, layout, bytesOf}
+use Rattle.card.specs.Blanks.{totalBlanks}
 use Rattle.card.specs.Read.{numberIn, cardOf, acceptedCard, refusedCard, withOrigin, withValues}
 use Rattle.card_text.specs.StepsFields.{valueIn, valuesIn}
 use Rattle.card_text.specs.StepsRead.{foundAt, tileAt, extentsAt, recordIn, cardFrom, Walked}
@@ -51,19 +52,19 @@ module _ {s values : List ℕ} (w : Walked s values) (n m : ℤ) (bad : List ℕ
 module _ {a b : ℕ} (ga : Grid a) (gb : Grid b) {s values : List ℕ} (w : Walked s values) where
   pub pso-kept : getD values 4 0 ≤ 2 * 32400000
   unfolding layout
-  pso-kept = rw (kept-at w 4) (pso-high s (w .walks))
+  pso-kept = rw (kept-at w 4) (pso-high (w .fill) s (w .walks))
 
   pub lso-kept : getD values 3 0 ≤ 2 * 64800000
   unfolding layout
-  lso-kept = rw (kept-at w 3) (lso-high s (w .walks))
+  lso-kept = rw (kept-at w 3) (lso-high (w .fill) s (w .walks))
 
   pso-value : Is (angleOf 2 (bytesOf PSO s)) (getD values 4 0) 32400000
   unfolding layout
-  pso-value = rw (kept-at w 4) (pso-is s (w .walks))
+  pso-value = rw (kept-at w 4) (pso-is (w .fill) s (w .walks))
 
   lso-value : Is (angleOf 3 (bytesOf LSO s)) (getD values 3 0) 64800000
   unfolding layout
-  lso-value = rw (kept-at w 3) (lso-is s (w .walks))
+  lso-value = rw (kept-at w 3) (lso-is (w .fill) s (w .walks))
 
   pub north-high : {r : Counted} {n : ℕ} → r ≡ foundAt b (getD values 4 0) → r ≡ Counted.From n → n ≤ 2 * (b / 512)
   north-high = found-high (latitudes b gb) gb (angleOf 2 (bytesOf PSO s)) (getD values 4 0) pso-value pso-kept
@@ -94,7 +95,7 @@ module _ (series : Series) (a b north east : ℕ) (s : List ℕ) (r : Record) (o
   pub extents-are : r ≡ recordIn (pos north -ℤ pos (b / 512)) (pos east -ℤ pos (a / 256)) s
       → ok ≡ extentsAt a north (r .nul) (r .nus) (r .nll) (r .nls) (r .nfl) (r .nfc)
       → withOrigin series a b s (tileAt (b / 512) (Counted.From north)) (tileAt (a / 256) (Counted.From east))
-      ≡ cond ok (acceptedCard (cardFrom series a b north east r)) (refusedCard (refusal 11))
+      ≡ cond ok (acceptedCard (cardFrom series a b north east r) (totalBlanks layout s)) (refusedCard (refusal 11))
   unfolding cardOf
   extents-are er eo =
       let n : ℤ = pos north -ℤ pos (b / 512) in

@@ -5,7 +5,7 @@
 --     extentsAt ..       the extents, n being counted from −B/512
 --     recordIn n m s     the record that a card's bytes hold
 --     cardFrom ..        the value of a card, of its record
---     Walked s values    the layout refuses nothing, and these are its values
+--     Walked s values    the layout refuses nothing, whatever may fill its numbers, and these are its values
 use mathlib.Core.Path.{_≡_}
 use Prim.Native.Nat.{ℕ, _*_, _/_}
 use mathlib.Core.List.{List}
@@ -20,6 +20,7 @@ use Rattle.arc.specs.declared.Series.{Series}
 use Rattle.arc.specs.declared.Verdict.{Verdict}
 use Rattle.arc.specs.Zones.{circle, tile}
 use Rattle.card.specs.declared.Card.{Card}
+use Rattle.card.specs.declared.Fill.{Fill}
 use Rattle.card.specs.declared.Record.{Record}
 use Rattle.card.specs.Layout.{NUL, NUS, NLL, NLS, NFL, NFC, BAD, TIF, layout, bytesOf, walk}
 use Rattle.card.specs.Read.{numberIn}
@@ -78,6 +79,7 @@ cardFrom series a b north east r =
     }
 
 pub record Walked (s values : List ℕ) : Type 0 where
+  pub fill : Fill
   pub long : length s ≡ 98
-  pub walks : walk layout s ≡ Verdict.Accepted
+  pub walks : walk fill layout s ≡ Verdict.Accepted
   pub kept : values ≡ valuesIn layout s

@@ -3,6 +3,7 @@ use crate::digits;
 use arc::Circle;
 use arc::Refusal;
 use arc::Verdict;
+use card::Fill;
 use text::Digits;
 ghost use mathlib.Core.Path.{_≡_};
 ghost use Prim.Native.Nat.{_+_, _<_, _≤_};
@@ -10,7 +11,7 @@ ghost use lib.ListN.{length};
 ghost use Rattle.card.specs.Layout.{Kind};
 ghost use Rattle.text.specs.Text.{part};
 ghost use Rattle.card.specs.Layout.{sub, judge, orElse};
-ghost use Rattle.card_text.specs.StepsFields.{shifted, DigitsOf, fieldOf, FieldAt, FieldsOf};
+ghost use Rattle.card_text.specs.StepsFields.{shifted, DigitsOf, fieldOf, FieldAt, PlainAt, FieldsOf};
 
 // Any number of at most eight digits.
 const ANY: u64 = 99_999_999;
@@ -75,12 +76,12 @@ fn shifted_by(limit: u64, below: bool, size: u64) -> u64
     limit - size
 }
 
-// Digits, from low to high.
-fn number_at(s: &[u8], o: usize, w: usize, low: u64, high: u64, before: Field) -> Field
-    requires { ⌜ o + w ≤ length (now s) ⌝ ∗ ⌜ w ≤ 8 ⌝ }
-    ensures { λ r. ⌜ FieldAt (sub o w (Kind.Number low high)) (now (s .entry)) (before .verdict) r ⌝ }
+// Digits, from low to high, and blanks before them where they may stand.
+fn number_at(fill: Fill, s: &[u8], o: usize, w: usize, low: u64, high: u64, before: Field) -> Field
+    requires { ⌜ o + w ≤ length (now s) ⌝ ∗ ⌜ 0 < w ⌝ ∗ ⌜ w ≤ 8 ⌝ }
+    ensures { λ r. ⌜ FieldAt fill (sub o w (Kind.Number low high)) (now (s .entry)) (before .verdict) r ⌝ }
 {
-    let n = digits::digits_at(s, o, w);
+    let n = digits::number_of(fill, digits::bytes_at(s, o, w));
     joined(
         before,
         o,
@@ -93,7 +94,7 @@ fn number_at(s: &[u8], o: usize, w: usize, low: u64, high: u64, before: Field) -
 // ±DDDMMSS.SS or ±DDMMSS.SS, its degrees being read: 43 is +, 45 is −, 46 is the dot.
 fn angle_at(s: &[u8], o: usize, w: usize, d: Digits, limit: u64, before: Field) -> Field
     requires { ⌜ o + (w + 8) ≤ length (now s) ⌝ ∗ ⌜ w ≤ 3 ⌝ ∗ ⌜ limit ≤ 64800000 ⌝ ∗ ⌜ DigitsOf (part (o + 1) w (now s)) d ⌝ }
-    ensures { λ r. ⌜ FieldAt (sub o (w + 8) (Kind.Angle w limit)) (now (s .entry)) (before .verdict) r ⌝ }
+    ensures { λ r. ⌜ PlainAt (sub o (w + 8) (Kind.Angle w limit)) (now (s .entry)) (before .verdict) r ⌝ }
 {
     let p = digits::bytes_at(s, o, w + 8);
     let sign = p[0];
@@ -110,7 +111,7 @@ fn angle_at(s: &[u8], o: usize, w: usize, d: Digits, limit: u64, before: Field) 
 // BAD.
 fn name_at(s: &[u8], o: usize, before: Field) -> Field
     requires { ⌜ o + 12 ≤ length (now s) ⌝ }
-    ensures { λ r. ⌜ FieldAt (sub o 12 Kind.Name) (now (s .entry)) (before .verdict) r ⌝ }
+    ensures { λ r. ⌜ PlainAt (sub o 12 Kind.Name) (now (s .entry)) (before .verdict) r ⌝ }
 {
     joined(
         before,
@@ -124,7 +125,7 @@ fn name_at(s: &[u8], o: usize, before: Field) -> Field
 // 89 is Y, 78 is N.
 fn flag_at(s: &[u8], o: usize, before: Field) -> Field
     requires { ⌜ o + 1 ≤ length (now s) ⌝ }
-    ensures { λ r. ⌜ FieldAt (sub o 1 Kind.Flag) (now (s .entry)) (before .verdict) r ⌝ }
+    ensures { λ r. ⌜ PlainAt (sub o 1 Kind.Flag) (now (s .entry)) (before .verdict) r ⌝ }
 {
     let b = s[o];
     joined(before, o, true, (b == 89) | (b == 78), (b == 89) as u64)
@@ -132,31 +133,31 @@ fn flag_at(s: &[u8], o: usize, before: Field) -> Field
 
 // Every subfield, left to right: STR ARV BRV LSO PSO NUL NUS NLL NLS NFL NFC PNC PNL COD ROD POR PCB PVB BAD TIF.
 #[rattlefmt::skip]
-pub fn fields_in(s: &[u8]) -> Fields
+pub fn fields_in(fill: Fill, s: &[u8]) -> Fields
     requires { ⌜ length (now s) ≡ 98 ⌝ }
-    ensures { λ r. ⌜ FieldsOf (now (s .entry)) r ⌝ }
+    ensures { λ r. ⌜ FieldsOf fill (now (s .entry)) r ⌝ }
 {
     let none = Field { value: 0, verdict: Verdict::Accepted };
-    let str = number_at(s, 0, 1, 3, 3, none);
-    let arv = number_at(s, 1, 8, 0, ANY, str);
-    let brv = number_at(s, 9, 8, 0, ANY, arv);
+    let str = number_at(fill, s, 0, 1, 3, 3, none);
+    let arv = number_at(fill, s, 1, 8, 0, ANY, str);
+    let brv = number_at(fill, s, 9, 8, 0, ANY, arv);
     let lon = digits::digits_at(s, 18, 3);
     let lso = angle_at(s, 17, 3, lon, Circle::HALF, brv);
     let lat = digits::digits_at(s, 29, 2);
     let pso = angle_at(s, 28, 2, lat, Circle::QUARTER, lso);
-    let nul = number_at(s, 38, 6, 0, ANY, pso);
-    let nus = number_at(s, 44, 6, 0, ANY, nul);
-    let nll = number_at(s, 50, 6, 0, ANY, nus);
-    let nls = number_at(s, 56, 6, 0, ANY, nll);
-    let nfl = number_at(s, 62, 3, 1, 999, nls);
-    let nfc = number_at(s, 65, 3, 1, 999, nfl);
-    let pnc = number_at(s, 68, 6, 128, 128, nfc);
-    let pnl = number_at(s, 74, 6, 128, 128, pnc);
-    let cod = number_at(s, 80, 1, 0, 0, pnl);
-    let rod = number_at(s, 81, 1, 1, 1, cod);
-    let por = number_at(s, 82, 1, 0, 0, rod);
-    let pcb = number_at(s, 83, 1, 0, 0, por);
-    let pvb = number_at(s, 84, 1, 8, 8, pcb);
+    let nul = number_at(fill, s, 38, 6, 0, ANY, pso);
+    let nus = number_at(fill, s, 44, 6, 0, ANY, nul);
+    let nll = number_at(fill, s, 50, 6, 0, ANY, nus);
+    let nls = number_at(fill, s, 56, 6, 0, ANY, nll);
+    let nfl = number_at(fill, s, 62, 3, 1, 999, nls);
+    let nfc = number_at(fill, s, 65, 3, 1, 999, nfl);
+    let pnc = number_at(fill, s, 68, 6, 128, 128, nfc);
+    let pnl = number_at(fill, s, 74, 6, 128, 128, pnc);
+    let cod = number_at(fill, s, 80, 1, 0, 0, pnl);
+    let rod = number_at(fill, s, 81, 1, 1, 1, cod);
+    let por = number_at(fill, s, 82, 1, 0, 0, rod);
+    let pcb = number_at(fill, s, 83, 1, 0, 0, por);
+    let pvb = number_at(fill, s, 84, 1, 8, 8, pcb);
     let bad = name_at(s, 85, pvb);
     let tif = flag_at(s, 97, bad);
     let verdict = tif.verdict;

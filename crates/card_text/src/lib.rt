@@ -2,12 +2,13 @@
 use arc::Series;
 use arc::SpacingAnswer;
 use arc::Verdict;
+use card::Fill;
 use card::Reading;
 use card::Record;
 ghost use mathlib.Core.Path.{_≡_};
 ghost use Rattle.arc.specs.declared.SpacingAnswer.{SpacingAnswer};
 ghost use Rattle.arc.specs.Spacing.{Grid};
-ghost use Rattle.card.specs.Read.{readIn, readOf};
+ghost use Rattle.card.specs.Read.{readIn, readAs, readOf, readStrict};
 ghost use Rattle.card.specs.Write.{writeOf, outOf};
 
 mod digits;
@@ -17,9 +18,9 @@ mod stored;
 mod write;
 
 // Reading, the spacing being known. Refuses 3, 6, the subfields' 7 and 8, 9, 10, 11.
-fn read_spaced(series: Series, a: u64, b: u64, bytes: &[u8]) -> Reading
+fn read_spaced(fill: Fill, series: Series, a: u64, b: u64, bytes: &[u8]) -> Reading
     requires { ⌜ Grid a ⌝ ∗ ⌜ Grid b ⌝ }
-    ensures { λ r. ⌜ r ≡ readIn series (SpacingAnswer.Constants a b) (now (bytes .entry)) ⌝ }
+    ensures { λ r. ⌜ r ≡ readIn fill series (SpacingAnswer.Constants a b) (now (bytes .entry)) ⌝ }
 {
     if arc::is_polar(series.zone) {
         return read::refused_with(arc::refused(3));
@@ -27,7 +28,7 @@ fn read_spaced(series: Series, a: u64, b: u64, bytes: &[u8]) -> Reading
     if bytes.len() != 98 {
         return read::refused_with(arc::refused(6));
     }
-    let f = fields::fields_in(bytes);
+    let f = fields::fields_in(fill, bytes);
     let verdict = f.verdict;
     let values = f.values;
     match verdict {
@@ -36,14 +37,28 @@ fn read_spaced(series: Series, a: u64, b: u64, bytes: &[u8]) -> Reading
     }
 }
 
-// Reads a card. Refuses 1, 17, 1, 2, 3, 6, the subfields' 7 and 8, 9, 10, 11.
+// Reading, whatever may fill the numbers.
+fn read_as(fill: Fill, series: Series, bytes: &[u8]) -> Reading
+    ensures { λ r. ⌜ r ≡ readAs fill series (now (bytes .entry)) ⌝ }
+{
+    match arc::spacing(series) {
+        SpacingAnswer::Constants { a, b } => read_spaced(fill, series, a, b, bytes),
+        SpacingAnswer::Refused(r) => read::refused_with(r),
+    }
+}
+
+// Reads a card, in which blanks may stand before a number's digits (02, E2). Refuses 1, 17, 1, 2, 3, 6, the subfields' 7 and 8, 9, 10, 11.
 pub fn read_card(series: Series, bytes: &[u8]) -> Reading
     ensures { λ r. ⌜ r ≡ readOf series (now (bytes .entry)) ⌝ }
 {
-    match arc::spacing(series) {
-        SpacingAnswer::Constants { a, b } => read_spaced(series, a, b, bytes),
-        SpacingAnswer::Refused(r) => read::refused_with(r),
-    }
+    read_as(Fill::Blanks, series, bytes)
+}
+
+// Reads a card, in which none may, as in 01. Refuses the same.
+pub fn read_strict(series: Series, bytes: &[u8]) -> Reading
+    ensures { λ r. ⌜ r ≡ readStrict series (now (bytes .entry)) ⌝ }
+{
+    read_as(Fill::Zeros, series, bytes)
 }
 
 // Writes a record as a card. Refuses 1, 24, 17, 1, 2, 3, 6, NFL, NFC (8), BAD (7), 10, 11; on a refusal the output stays.

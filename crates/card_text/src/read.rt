@@ -1,4 +1,5 @@
 // From the values of a card to its record and its value (01, "The image card, 98 bytes", "Numbers given in refusal").
+use crate::digits;
 use crate::stored;
 use arc::Refusal;
 use arc::Series;
@@ -13,6 +14,7 @@ ghost use lib.ListN.{length};
 ghost use Rattle.arc.specs.Spacing.{Grid};
 ghost use Rattle.card.specs.Layout.{BAD, bytesOf};
 ghost use Rattle.card.specs.Read.{refusedCard, withValues};
+ghost use Rattle.card_text.specs.StepsFields.{leadTotal};
 ghost use Rattle.card_text.specs.StepsRead.{extentsAt, recordIn, cardFrom, Walked};
 
 // The values' places in the layout.
@@ -45,6 +47,7 @@ pub fn refused_with(r: Refusal) -> Reading
     Reading {
         verdict: Verdict::Refused(r),
         card: card::no_card(),
+        blanks: 0,
     }
 }
 
@@ -89,6 +92,19 @@ pub fn extents_hold(a: u64, north: u64, r: Record) -> bool
     let rows = (r.nul <= r.nll) & (r.nll / 128 < r.nfl);
     let columns = (r.nls <= r.nus) & (r.nus / 128 < r.nfc);
     (r.nfc <= a / 128) & (r.nfl <= north) & rows & columns
+}
+
+// The total of blanks before the digits of the numbers: ARV BRV NUL NUS NLL NLS NFL NFC PNC PNL (02, E2).
+fn blanks_in(s: &[u8]) -> u64
+    requires { ⌜ length (now s) ≡ 98 ⌝ }
+    ensures { λ r. ⌜ r ≡ leadTotal (now (s .entry)) ⌝ }
+{
+    let spacing = digits::leading_at(s, 1, 8) + digits::leading_at(s, 9, 8);
+    let rows = digits::leading_at(s, 38, 6) + digits::leading_at(s, 50, 6);
+    let columns = digits::leading_at(s, 44, 6) + digits::leading_at(s, 56, 6);
+    let tiles = digits::leading_at(s, 62, 3) + digits::leading_at(s, 65, 3);
+    let sides = digits::leading_at(s, 68, 6) + digits::leading_at(s, 74, 6);
+    spacing + rows + columns + tiles + sides
 }
 
 // The card of a record, its origin counted from the South Pole and from 180° west.
@@ -139,5 +155,6 @@ pub fn read_values(series: Series, a: u64, b: u64, s: &[u8], values: [u64; 20]) 
     Reading {
         verdict: Verdict::Accepted,
         card: card_of(series, a, b, north, east, r),
+        blanks: blanks_in(s),
     }
 }

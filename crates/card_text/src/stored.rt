@@ -16,13 +16,15 @@ pub fn angle_at(tiles: u64, spacing: u64, limit: u32) -> i64
     whole::difference(origin::stored_at(tiles, spacing) as u32, limit)
 }
 
-// The tiles whose stored angle this is.
+// The tiles whose stored angle this is: the nearest hundredth to theirs, which is asked without a division.
 pub fn tile_of(spacing: u64, angle: u64) -> Counted
     requires { ⌜ Grid spacing ⌝ ∗ ⌜ angle ≤ 129600000 ⌝ }
     ensures { λ r. ⌜ r ≡ foundAt spacing angle ⌝ }
 {
-    let k = whole::nearest(angle * spacing, Tile::ANGLE);
-    if whole::nearest(k * Tile::ANGLE, spacing) == angle {
+    let asked = angle * spacing;
+    let k = whole::nearest(asked, Tile::ANGLE);
+    let found = k * Tile::ANGLE;
+    if (2 * asked <= 2 * found + spacing) & (2 * found < 2 * asked + spacing) {
         return Counted::From(k);
     }
     Counted::Outside

@@ -12,7 +12,7 @@ factor-one s zone =
       cover = λ lat. rw (scale-at-one s);
       rectangle = λ south north. rw (scale-at-one s);
       alignment = λ lat lon. rw (scale-at-one s);
-      reading = λ card. rw (scale-at-one s);
+      reading = λ fill card. rw (scale-at-one s);
       writing = λ r out. rw (scale-at-one s);
       output = λ r out. rw (scale-at-one s);
     }

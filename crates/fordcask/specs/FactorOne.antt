@@ -13,7 +13,8 @@ use Rattle.zones.specs.Cover.{refusedCover, coverAt, coverOf}
 use Rattle.rectangle.specs.Rectangle.{refusedRectangle, rectangleAt, rectangleOf}
 use Rattle.origin.specs.Origin.{alignIn, alignOf}
 use Rattle.card.specs.declared.Record.{Record}
-use Rattle.card.specs.Read.{readIn, readOf}
+use Rattle.card.specs.declared.Fill.{Fill}
+use Rattle.card.specs.Read.{readIn, readAs}
 use Rattle.card.specs.Write.{writeIn, writeOf, textFor, outAfter, outOf}
 
 -- 1, 2; cover 1, 4; rectangles 1, 4, 4, 16 (02, E3); alignment 1, 24, 2, 3, 4, 5; reading 1, 2, 3, 6, ..; writing 1, 24, 2, 3, 6, .. (24: 02, E13)
@@ -24,7 +25,8 @@ pub record AsInDocument01 (s zone : ℕ) : Type 0 where
   pub rectangle : (south north : ℤ)
       → rectangleOf s 1 south north ≡ onConstant (rowsFor (chartScale s)) refusedRectangle (λ b. rectangleAt b south north)
   pub alignment : (lat lon : ℤ) → alignOf (chartSeries s zone) lat lon ≡ alignIn zone (forWriting s (spacingFor (chartScale s) zone)) lat lon
-  pub reading : (card : List ℕ) → readOf (chartSeries s zone) card ≡ readIn (chartSeries s zone) (spacingFor (chartScale s) zone) card
+  pub reading : (fill : Fill) (card : List ℕ)
+      → readAs fill (chartSeries s zone) card ≡ readIn fill (chartSeries s zone) (spacingFor (chartScale s) zone) card
   pub writing : (r : Record) (out : List ℕ)
       → writeOf (chartSeries s zone) r out ≡ writeIn zone (forWriting s (spacingFor (chartScale s) zone)) r (length out)
   pub output : (r : Record) (out : List ℕ)

@@ -1,5 +1,6 @@
 // Lists of pixels and of positions of a card, handed in as its bytes with scale, factor and zone (01, "Origins and the zone grid"; 02, E8).
-use arc::Refusal;
+use crate::on_card;
+use crate::parts::VerdictParts;
 use arc::Series;
 use arc::Verdict;
 use card::Pair;
@@ -10,6 +11,7 @@ ghost use Rattle.arc.specs.declared.Verdict.{Verdict};
 ghost use Rattle.arc.specs.Refusals.{refusalOf};
 ghost use Rattle.card.specs.declared.Pair.{Pair};
 ghost use Rattle.card.specs.Read.{readOf, onCard};
+ghost use Rattle.fordcask.specs.Entry.{verdictParts};
 ghost use Rattle.lists.specs.Lists.{listsVerdict, reportAt, positionReportAt, pixelReportAt, valuesLeft, numbersLeft};
 
 // The answers to the entries of a list, in either pair, the card read once. Refuses reading's numbers, then 6; on a refusal both lists stay.
@@ -21,9 +23,9 @@ fn list_on_card(
     list: &[i64],
     values: &mut [i64],
     numbers: &mut [u32],
-) -> Refusal
-    ensures answer { λ r. ⌜ r ≡ refusalOf (onCard (readOf series (now (card .entry))) Verdict.Refused
-        (λ k. listsVerdict (length (now (list .entry))) (length (now (values .entry))) (length (now (numbers .entry))))) ⌝ }
+) -> VerdictParts
+    ensures answer { λ r. ⌜ r ≡ verdictParts (readOf series (now (card .entry)) .blanks) (refusalOf (onCard (readOf series (now (card .entry))) Verdict.Refused
+        (λ k. listsVerdict (length (now (list .entry))) (length (now (values .entry))) (length (now (numbers .entry)))))) ⌝ }
     ensures values { λ _. ⌜ now (values .exit) ≡ onCard (readOf series (now (card .entry))) (λ e. now (values .entry))
         (λ k. valuesLeft (reportAt pair asked k) (now (list .entry)) (now (values .entry)) (now (numbers .entry))) ⌝ }
     ensures numbers { λ _. ⌜ now (numbers .exit) ≡ onCard (readOf series (now (card .entry))) (λ e. now (numbers .entry))
@@ -33,8 +35,11 @@ fn list_on_card(
     let verdict = reading.verdict;
     let k = reading.card;
     match verdict {
-        Verdict::Accepted => lists::answer_list(pair, k, asked, list, values, numbers).refusal(),
-        Verdict::Refused(e) => e,
+        Verdict::Accepted => on_card::verdict_on(
+            lists::answer_list(pair, k, asked, list, values, numbers).refusal(),
+            reading.blanks,
+        ),
+        Verdict::Refused(e) => on_card::verdict_on(e, reading.blanks),
     }
 }
 
@@ -46,9 +51,9 @@ pub extern "C" fn fordcask_positions(
     pixels: &[i64],
     positions: &mut [i64],
     numbers: &mut [u32],
-) -> Refusal
-    ensures answer { λ r. ⌜ r ≡ refusalOf (onCard (readOf series (now (card .entry))) Verdict.Refused
-        (λ k. listsVerdict (length (now (pixels .entry))) (length (now (positions .entry))) (length (now (numbers .entry))))) ⌝ }
+) -> VerdictParts
+    ensures answer { λ r. ⌜ r ≡ verdictParts (readOf series (now (card .entry)) .blanks) (refusalOf (onCard (readOf series (now (card .entry))) Verdict.Refused
+        (λ k. listsVerdict (length (now (pixels .entry))) (length (now (positions .entry))) (length (now (numbers .entry)))))) ⌝ }
     ensures positions { λ _. ⌜ now (positions .exit) ≡ onCard (readOf series (now (card .entry))) (λ e. now (positions .entry))
         (λ k. valuesLeft (positionReportAt Pair.Centre k) (now (pixels .entry)) (now (positions .entry)) (now (numbers .entry))) ⌝ }
     ensures numbers { λ _. ⌜ now (numbers .exit) ≡ onCard (readOf series (now (card .entry))) (λ e. now (numbers .entry))
@@ -73,9 +78,9 @@ pub extern "C" fn fordcask_corner_positions(
     pixels: &[i64],
     positions: &mut [i64],
     numbers: &mut [u32],
-) -> Refusal
-    ensures answer { λ r. ⌜ r ≡ refusalOf (onCard (readOf series (now (card .entry))) Verdict.Refused
-        (λ k. listsVerdict (length (now (pixels .entry))) (length (now (positions .entry))) (length (now (numbers .entry))))) ⌝ }
+) -> VerdictParts
+    ensures answer { λ r. ⌜ r ≡ verdictParts (readOf series (now (card .entry)) .blanks) (refusalOf (onCard (readOf series (now (card .entry))) Verdict.Refused
+        (λ k. listsVerdict (length (now (pixels .entry))) (length (now (positions .entry))) (length (now (numbers .entry)))))) ⌝ }
     ensures positions { λ _. ⌜ now (positions .exit) ≡ onCard (readOf series (now (card .entry))) (λ e. now (positions .entry))
         (λ k. valuesLeft (positionReportAt Pair.Corner k) (now (pixels .entry)) (now (positions .entry)) (now (numbers .entry))) ⌝ }
     ensures numbers { λ _. ⌜ now (numbers .exit) ≡ onCard (readOf series (now (card .entry))) (λ e. now (numbers .entry))
@@ -100,9 +105,9 @@ pub extern "C" fn fordcask_pixels(
     positions: &[i64],
     pixels: &mut [i64],
     numbers: &mut [u32],
-) -> Refusal
-    ensures answer { λ r. ⌜ r ≡ refusalOf (onCard (readOf series (now (card .entry))) Verdict.Refused
-        (λ k. listsVerdict (length (now (positions .entry))) (length (now (pixels .entry))) (length (now (numbers .entry))))) ⌝ }
+) -> VerdictParts
+    ensures answer { λ r. ⌜ r ≡ verdictParts (readOf series (now (card .entry)) .blanks) (refusalOf (onCard (readOf series (now (card .entry))) Verdict.Refused
+        (λ k. listsVerdict (length (now (positions .entry))) (length (now (pixels .entry))) (length (now (numbers .entry)))))) ⌝ }
     ensures pixels { λ _. ⌜ now (pixels .exit) ≡ onCard (readOf series (now (card .entry))) (λ e. now (pixels .entry))
         (λ k. valuesLeft (pixelReportAt Pair.Centre k) (now (positions .entry)) (now (pixels .entry)) (now (numbers .entry))) ⌝ }
     ensures numbers { λ _. ⌜ now (numbers .exit) ≡ onCard (readOf series (now (card .entry))) (λ e. now (numbers .entry))
@@ -127,9 +132,9 @@ pub extern "C" fn fordcask_corner_pixels(
     positions: &[i64],
     pixels: &mut [i64],
     numbers: &mut [u32],
-) -> Refusal
-    ensures answer { λ r. ⌜ r ≡ refusalOf (onCard (readOf series (now (card .entry))) Verdict.Refused
-        (λ k. listsVerdict (length (now (positions .entry))) (length (now (pixels .entry))) (length (now (numbers .entry))))) ⌝ }
+) -> VerdictParts
+    ensures answer { λ r. ⌜ r ≡ verdictParts (readOf series (now (card .entry)) .blanks) (refusalOf (onCard (readOf series (now (card .entry))) Verdict.Refused
+        (λ k. listsVerdict (length (now (positions .entry))) (length (now (pixels .entry))) (length (now (numbers .entry)))))) ⌝ }
     ensures pixels { λ _. ⌜ now (pixels .exit) ≡ onCard (readOf series (now (card .entry))) (λ e. now (pixels .entry))
         (λ k. valuesLeft (pixelReportAt Pair.Corner k) (now (positions .entry)) (now (pixels .entry)) (now (numbers .entry))) ⌝ }
     ensures numbers { λ _. ⌜ now (numbers .exit) ≡ onCard (readOf series (now (card .entry))) (λ e. now (numbers .entry))

@@ -1,5 +1,10 @@
 // Questions on a card, handed in as its bytes with scale, factor and zone (01, "Origins and the zone grid"; 02, E8).
+use crate::on_card;
 use crate::parts::CardParts;
+use crate::parts::OverviewOnCards;
+use crate::parts::PixelOnCard;
+use crate::parts::PlaceOnCard;
+use crate::parts::PositionOnCard;
 use crate::parts::RecordParts;
 use arc::Refusal;
 use arc::Series;
@@ -7,50 +12,36 @@ use arc::Verdict;
 use card::Card;
 use card::Pair;
 use card::PixelAnswer;
-use card::PixelParts;
 use card::PlaceAnswer;
-use card::PlaceParts;
 use card::PositionAnswer;
-use card::PositionParts;
 use card::Record;
 ghost use mathlib.Core.Path.{_≡_};
-ghost use Rattle.arc.specs.Refusals.{refusalOf};
+ghost use Rattle.arc.specs.Refusals.{refusalOf, refusedWith};
 ghost use Rattle.card.specs.declared.Pair.{Pair};
 ghost use Rattle.card.specs.declared.PlaceAnswer.{PlaceAnswer};
 ghost use Rattle.card.specs.declared.PositionAnswer.{PositionAnswer};
 ghost use Rattle.card.specs.declared.PixelAnswer.{PixelAnswer};
-ghost use Rattle.card.specs.Read.{readOf, onCard, Known};
+ghost use Rattle.card.specs.Read.{readOf, readStrict, onCard, toldOnCard, Known};
+ghost use Rattle.card.specs.Blanks.{withTotal};
 ghost use Rattle.card.specs.Write.{writeOf, outOf};
-ghost use Rattle.card.specs.Grid.{placeOf, placeReport, placeTold, positionOf, positionReport, positionTold, pixelOf, pixelReport, pixelTold};
+ghost use Rattle.card.specs.Grid.{placeOf, placeReport, positionOf, positionReport, pixelOf, pixelReport};
 ghost use Rattle.card.specs.Overview.{overviewPixelOf};
-ghost use Rattle.fordcask.specs.Entry.{cardParts, recordFrom};
+ghost use Rattle.fordcask.specs.Entry.{cardParts, recordFrom, placeBlock, positionBlock, pixelBlock, overviewBlock};
 
-// Reads a card. Refuses 1, 17, 1, 2, 3, 6, the subfields' 7 and 8, 9, 10, 11.
+// Reads a card, in which blanks may stand before a number's digits (02, E2). Refuses 1, 17, 1, 2, 3, 6, the subfields' 7 and 8, 9, 10, 11.
 #[no_mangle]
 pub extern "C" fn fordcask_read_card(series: Series, card: &[u8]) -> CardParts
     ensures { λ r. ⌜ r ≡ cardParts (readOf series (now (card .entry))) ⌝ }
 {
-    let reading = card_text::read_card(series, card);
-    let verdict = reading.verdict;
-    let refusal = verdict.refusal();
-    let k = reading.card;
-    let bad = k.bad;
-    CardParts {
-        number: refusal.number,
-        at: refusal.at,
-        a: k.a,
-        b: k.b,
-        n: k.n,
-        m: k.m,
-        nul: k.nul,
-        nus: k.nus,
-        nll: k.nll,
-        nls: k.nls,
-        nfl: k.nfl,
-        nfc: k.nfc,
-        bad,
-        tif: k.tif as u8,
-    }
+    on_card::card_parts(card_text::read_card(series, card))
+}
+
+// Reads a card, in which none may, as in 01. Refuses the same.
+#[no_mangle]
+pub extern "C" fn fordcask_read_strict(series: Series, card: &[u8]) -> CardParts
+    ensures { λ r. ⌜ r ≡ cardParts (readStrict series (now (card .entry))) ⌝ }
+{
+    on_card::card_parts(card_text::read_strict(series, card))
 }
 
 // Writes a card. Refuses 1, 24, 17, 1, 2, 3, 6, NFL, NFC (8), BAD (7), 10, 11; on a refusal the output stays.
@@ -77,16 +68,19 @@ pub extern "C" fn fordcask_write_card(series: Series, r: RecordParts, out: &mut 
 
 // The place of a pixel. Refuses reading's numbers, then 12.
 #[no_mangle]
-pub extern "C" fn fordcask_place(series: Series, card: &[u8], row: i64, column: i64) -> PlaceParts
-    ensures { λ r. ⌜ placeTold r
-        ≡ placeReport (onCard (readOf series (now (card .entry))) PlaceAnswer.Refused (λ k. placeOf k row column)) ⌝ }
+pub extern "C" fn fordcask_place(series: Series, card: &[u8], row: i64, column: i64) -> PlaceOnCard
+    ensures { λ r. ⌜ placeBlock r
+        ≡ toldOnCard placeReport (readOf series (now (card .entry))) PlaceAnswer.Refused (λ k. placeOf k row column) ⌝ }
 {
     let reading = card_text::read_card(series, card);
     let verdict = reading.verdict;
     let k = reading.card;
     match verdict {
-        Verdict::Accepted => k.place(row, column).into_parts(),
-        Verdict::Refused(e) => PlaceAnswer::Refused(e).into_parts(),
+        Verdict::Accepted => on_card::place_on(k.place(row, column).into_parts(), reading.blanks),
+        Verdict::Refused(e) => on_card::place_on(
+            PlaceAnswer::Refused(e).into_parts(),
+            reading.blanks,
+        ),
     }
 }
 
@@ -97,16 +91,22 @@ pub extern "C" fn fordcask_position(
     card: &[u8],
     row: i64,
     column: i64,
-) -> PositionParts
-    ensures { λ r. ⌜ positionTold r
-        ≡ positionReport (onCard (readOf series (now (card .entry))) PositionAnswer.Refused (λ k. positionOf Pair.Centre k row column)) ⌝ }
+) -> PositionOnCard
+    ensures { λ r. ⌜ positionBlock r
+        ≡ toldOnCard positionReport (readOf series (now (card .entry))) PositionAnswer.Refused (λ k. positionOf Pair.Centre k row column) ⌝ }
 {
     let reading = card_text::read_card(series, card);
     let verdict = reading.verdict;
     let k = reading.card;
     match verdict {
-        Verdict::Accepted => k.position(row, column).into_parts(),
-        Verdict::Refused(e) => PositionAnswer::Refused(e).into_parts(),
+        Verdict::Accepted => on_card::position_on(
+            k.position(row, column).into_parts(),
+            reading.blanks,
+        ),
+        Verdict::Refused(e) => on_card::position_on(
+            PositionAnswer::Refused(e).into_parts(),
+            reading.blanks,
+        ),
     }
 }
 
@@ -117,31 +117,40 @@ pub extern "C" fn fordcask_corner_position(
     card: &[u8],
     row: i64,
     column: i64,
-) -> PositionParts
-    ensures { λ r. ⌜ positionTold r
-        ≡ positionReport (onCard (readOf series (now (card .entry))) PositionAnswer.Refused (λ k. positionOf Pair.Corner k row column)) ⌝ }
+) -> PositionOnCard
+    ensures { λ r. ⌜ positionBlock r
+        ≡ toldOnCard positionReport (readOf series (now (card .entry))) PositionAnswer.Refused (λ k. positionOf Pair.Corner k row column) ⌝ }
 {
     let reading = card_text::read_card(series, card);
     let verdict = reading.verdict;
     let k = reading.card;
     match verdict {
-        Verdict::Accepted => k.position_in(Pair::Corner, row, column).into_parts(),
-        Verdict::Refused(e) => PositionAnswer::Refused(e).into_parts(),
+        Verdict::Accepted => on_card::position_on(
+            k.position_in(Pair::Corner, row, column).into_parts(),
+            reading.blanks,
+        ),
+        Verdict::Refused(e) => on_card::position_on(
+            PositionAnswer::Refused(e).into_parts(),
+            reading.blanks,
+        ),
     }
 }
 
 // The pixel that contains a position (02, E8). Refuses reading's numbers, then 4, 5, 12, 13.
 #[no_mangle]
-pub extern "C" fn fordcask_pixel(series: Series, card: &[u8], lat: i64, lon: i64) -> PixelParts
-    ensures { λ r. ⌜ pixelTold r
-        ≡ pixelReport (onCard (readOf series (now (card .entry))) PixelAnswer.Refused (λ k. pixelOf Pair.Centre k lat lon)) ⌝ }
+pub extern "C" fn fordcask_pixel(series: Series, card: &[u8], lat: i64, lon: i64) -> PixelOnCard
+    ensures { λ r. ⌜ pixelBlock r
+        ≡ toldOnCard pixelReport (readOf series (now (card .entry))) PixelAnswer.Refused (λ k. pixelOf Pair.Centre k lat lon) ⌝ }
 {
     let reading = card_text::read_card(series, card);
     let verdict = reading.verdict;
     let k = reading.card;
     match verdict {
-        Verdict::Accepted => k.pixel(lat, lon).into_parts(),
-        Verdict::Refused(e) => PixelAnswer::Refused(e).into_parts(),
+        Verdict::Accepted => on_card::pixel_on(k.pixel(lat, lon).into_parts(), reading.blanks),
+        Verdict::Refused(e) => on_card::pixel_on(
+            PixelAnswer::Refused(e).into_parts(),
+            reading.blanks,
+        ),
     }
 }
 
@@ -152,30 +161,54 @@ pub extern "C" fn fordcask_corner_pixel(
     card: &[u8],
     lat: i64,
     lon: i64,
-) -> PixelParts
-    ensures { λ r. ⌜ pixelTold r
-        ≡ pixelReport (onCard (readOf series (now (card .entry))) PixelAnswer.Refused (λ k. pixelOf Pair.Corner k lat lon)) ⌝ }
+) -> PixelOnCard
+    ensures { λ r. ⌜ pixelBlock r
+        ≡ toldOnCard pixelReport (readOf series (now (card .entry))) PixelAnswer.Refused (λ k. pixelOf Pair.Corner k lat lon) ⌝ }
 {
     let reading = card_text::read_card(series, card);
     let verdict = reading.verdict;
     let k = reading.card;
     match verdict {
-        Verdict::Accepted => k.pixel_in(Pair::Corner, lat, lon).into_parts(),
-        Verdict::Refused(e) => PixelAnswer::Refused(e).into_parts(),
+        Verdict::Accepted => on_card::pixel_on(
+            k.pixel_in(Pair::Corner, lat, lon).into_parts(),
+            reading.blanks,
+        ),
+        Verdict::Refused(e) => on_card::pixel_on(
+            PixelAnswer::Refused(e).into_parts(),
+            reading.blanks,
+        ),
     }
 }
 
-// The pixel of an overview, handed in as its bytes, for a pixel of a chart. Refuses reading's numbers, then 12, 13 of the chart, then of the overview.
-fn pixel_on(chart: Card, series: Series, card: &[u8], row: i64, column: i64) -> PixelAnswer
+// The pixel of an overview, handed in as its bytes, for a pixel of a chart whose card was read with so many blanks. Refuses reading's numbers,
+// then 12, 13 of the chart, then of the overview.
+fn pixel_over(
+    chart: Card,
+    blanks: u64,
+    series: Series,
+    card: &[u8],
+    row: i64,
+    column: i64,
+) -> OverviewOnCards
     requires { ⌜ Known chart ⌝ }
-    ensures { λ r. ⌜ r ≡ onCard (readOf series (now (card .entry))) PixelAnswer.Refused (λ k. overviewPixelOf chart k row column) ⌝ }
+    ensures { λ r. ⌜ overviewBlock r
+        ≡ withTotal (readOf series (now (card .entry)) .blanks) (withTotal blanks
+        (pixelReport (onCard (readOf series (now (card .entry))) PixelAnswer.Refused (λ k. overviewPixelOf chart k row column)))) ⌝ }
 {
     let reading = card_text::read_card(series, card);
     let verdict = reading.verdict;
     let k = reading.card;
     match verdict {
-        Verdict::Accepted => chart.overview_pixel(k, row, column),
-        Verdict::Refused(r) => PixelAnswer::Refused(r),
+        Verdict::Accepted => on_card::overview_on(
+            chart.overview_pixel(k, row, column).into_parts(),
+            blanks,
+            reading.blanks,
+        ),
+        Verdict::Refused(e) => on_card::overview_on(
+            PixelAnswer::Refused(e).into_parts(),
+            blanks,
+            reading.blanks,
+        ),
     }
 }
 
@@ -188,22 +221,25 @@ pub extern "C" fn fordcask_overview_pixel(
     overview_card: &[u8],
     row: i64,
     column: i64,
-) -> PixelParts
-    ensures { λ r. ⌜ pixelTold r
-        ≡ pixelReport (onCard (readOf series (now (card .entry))) PixelAnswer.Refused
-        (λ chart. onCard (readOf «overview_series» (now («overview_card» .entry))) PixelAnswer.Refused (λ k. overviewPixelOf chart k row column))) ⌝ }
+) -> OverviewOnCards
+    ensures { λ r. ⌜ overviewBlock r
+        ≡ onCard (readOf series (now (card .entry))) (λ e. refusedWith e 4)
+        (λ chart. withTotal (readOf «overview_series» (now («overview_card» .entry)) .blanks) (withTotal (readOf series (now (card .entry)) .blanks)
+        (pixelReport (onCard (readOf «overview_series» (now («overview_card» .entry))) PixelAnswer.Refused
+        (λ k. overviewPixelOf chart k row column))))) ⌝ }
 {
     let reading = card_text::read_card(series, card);
     let verdict = reading.verdict;
     let chart = reading.card;
     match verdict {
-        Verdict::Accepted => pixel_on(
+        Verdict::Accepted => pixel_over(
             chart,
+            reading.blanks,
             overview_series,
             overview_card,
             row,
             column,
-        ).into_parts(),
-        Verdict::Refused(r) => PixelAnswer::Refused(r).into_parts(),
+        ),
+        Verdict::Refused(e) => on_card::overview_on(PixelAnswer::Refused(e).into_parts(), 0, 0),
     }
 }

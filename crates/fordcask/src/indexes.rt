@@ -1,26 +1,27 @@
 // Questions on a card and its tile index (01, "Tiles").
+use crate::on_card;
+use crate::parts::BandsOnCard;
 use crate::parts::TileParts;
+use crate::parts::VerdictParts;
+use crate::parts::WindowOnCard;
 use arc::Refusal;
 use arc::Series;
 use arc::Tile;
 use arc::Verdict;
 use tiles::BandsAnswer;
-use tiles::BandsParts;
 use tiles::NumberAnswer;
 use tiles::WindowAnswer;
-use tiles::WindowParts;
 ghost use mathlib.Core.Path.{_≡_};
 ghost use Rattle.arc.specs.declared.Verdict.{Verdict};
 ghost use Rattle.arc.specs.Refusals.{refusalOf};
-ghost use Rattle.card.specs.Read.{readOf, onCard};
+ghost use Rattle.card.specs.Read.{readOf, onCard, toldOnCard};
 ghost use Rattle.tiles.specs.declared.NumberAnswer.{NumberAnswer};
 ghost use Rattle.tiles.specs.declared.BandsAnswer.{BandsAnswer};
 ghost use Rattle.tiles.specs.declared.WindowAnswer.{WindowAnswer};
 ghost use Rattle.tiles.specs.Check.{checkOf, marksOf};
 ghost use Rattle.tiles.specs.LookUp.{numberOf, bandsOf, bandsReport};
 ghost use Rattle.tiles.specs.Window.{windowOf, windowReport};
-ghost use Rattle.tiles.specs.Parts.{bandsTold, windowTold};
-ghost use Rattle.fordcask.specs.Entry.{tileParts};
+ghost use Rattle.fordcask.specs.Entry.{verdictParts, bandsBlock, windowBlock, tileParts};
 
 // Whether each number 1 to count occurs exactly once. Refuses reading's numbers, then 6, 15; on those and 6 the marks stay.
 #[no_mangle]
@@ -30,9 +31,9 @@ pub extern "C" fn fordcask_index_check(
     index: &[u32],
     count: u64,
     marks: &mut [u8],
-) -> Refusal
-    ensures answer { λ r. ⌜ r ≡ refusalOf (onCard (readOf series (now (card .entry))) Verdict.Refused
-        (λ k. checkOf k (now (index .entry)) count (now (marks .entry)))) ⌝ }
+) -> VerdictParts
+    ensures answer { λ r. ⌜ r ≡ verdictParts (readOf series (now (card .entry)) .blanks) (refusalOf (onCard (readOf series (now (card .entry))) Verdict.Refused
+        (λ k. checkOf k (now (index .entry)) count (now (marks .entry))))) ⌝ }
     ensures left { λ _. ⌜ now (marks .exit) ≡ onCard (readOf series (now (card .entry))) (λ e. now (marks .entry))
         (λ k. marksOf k (now (index .entry)) count (now (marks .entry))) ⌝ }
 {
@@ -40,8 +41,11 @@ pub extern "C" fn fordcask_index_check(
     let verdict = reading.verdict;
     let k = reading.card;
     match verdict {
-        Verdict::Accepted => tiles::index_check(k, index, count, marks).refusal(),
-        Verdict::Refused(e) => e,
+        Verdict::Accepted => on_card::verdict_on(
+            tiles::index_check(k, index, count, marks).refusal(),
+            reading.blanks,
+        ),
+        Verdict::Refused(e) => on_card::verdict_on(e, reading.blanks),
     }
 }
 
@@ -56,7 +60,7 @@ pub extern "C" fn fordcask_tile(
     row: i64,
     column: i64,
 ) -> TileParts
-    ensures { λ r. ⌜ r ≡ tileParts (onCard (readOf series (now (card .entry))) NumberAnswer.Refused
+    ensures { λ r. ⌜ r ≡ tileParts (readOf series (now (card .entry)) .blanks) (onCard (readOf series (now (card .entry))) NumberAnswer.Refused
         (λ k. numberOf k (now (index .entry)) count (now (store .entry)) row column)) ⌝ }
 {
     let reading = card_text::read_card(series, card);
@@ -70,16 +74,17 @@ pub extern "C" fn fordcask_tile(
                 stored: n,
                 offset: (n - 1) * Tile::BYTES,
                 length: Tile::BYTES,
+                blanks: reading.blanks,
             },
-            NumberAnswer::Refused(e) => no_tile(e),
+            NumberAnswer::Refused(e) => no_tile(e, reading.blanks),
         },
-        Verdict::Refused(e) => no_tile(e),
+        Verdict::Refused(e) => no_tile(e, reading.blanks),
     }
 }
 
 // A refusal of a look-up.
-fn no_tile(e: Refusal) -> TileParts
-    ensures { λ r. ⌜ r ≡ tileParts (NumberAnswer.Refused e) ⌝ }
+fn no_tile(e: Refusal, blanks: u64) -> TileParts
+    ensures { λ r. ⌜ r ≡ tileParts blanks (NumberAnswer.Refused e) ⌝ }
 {
     TileParts {
         number: e.number,
@@ -87,6 +92,7 @@ fn no_tile(e: Refusal) -> TileParts
         stored: 0,
         offset: 0,
         length: 0,
+        blanks: on_card::passed_with(e.number, blanks),
     }
 }
 
@@ -100,16 +106,22 @@ pub extern "C" fn fordcask_bands(
     store: &[u8],
     row: i64,
     column: i64,
-) -> BandsParts
-    ensures { λ r. ⌜ bandsTold r ≡ bandsReport (onCard (readOf series (now (card .entry))) BandsAnswer.Refused
-        (λ k. bandsOf k (now (index .entry)) count (now (store .entry)) row column)) ⌝ }
+) -> BandsOnCard
+    ensures { λ r. ⌜ bandsBlock r ≡ toldOnCard bandsReport (readOf series (now (card .entry))) BandsAnswer.Refused
+        (λ k. bandsOf k (now (index .entry)) count (now (store .entry)) row column) ⌝ }
 {
     let reading = card_text::read_card(series, card);
     let verdict = reading.verdict;
     let k = reading.card;
     match verdict {
-        Verdict::Accepted => tiles::bands(k, index, count, store, row, column).into_parts(),
-        Verdict::Refused(e) => BandsAnswer::Refused(e).into_parts(),
+        Verdict::Accepted => on_card::bands_on(
+            tiles::bands(k, index, count, store, row, column).into_parts(),
+            reading.blanks,
+        ),
+        Verdict::Refused(e) => on_card::bands_on(
+            BandsAnswer::Refused(e).into_parts(),
+            reading.blanks,
+        ),
     }
 }
 
@@ -124,15 +136,21 @@ pub extern "C" fn fordcask_window(
     left: u64,
     height: u64,
     width: u64,
-) -> WindowParts
-    ensures { λ r. ⌜ windowTold r ≡ windowReport (onCard (readOf series (now (card .entry))) WindowAnswer.Refused
-        (λ k. windowOf k (now (index .entry)) count top left height width)) ⌝ }
+) -> WindowOnCard
+    ensures { λ r. ⌜ windowBlock r ≡ toldOnCard windowReport (readOf series (now (card .entry))) WindowAnswer.Refused
+        (λ k. windowOf k (now (index .entry)) count top left height width) ⌝ }
 {
     let reading = card_text::read_card(series, card);
     let verdict = reading.verdict;
     let k = reading.card;
     match verdict {
-        Verdict::Accepted => tiles::window(k, index, count, top, left, height, width).into_parts(),
-        Verdict::Refused(e) => WindowAnswer::Refused(e).into_parts(),
+        Verdict::Accepted => on_card::window_on(
+            tiles::window(k, index, count, top, left, height, width).into_parts(),
+            reading.blanks,
+        ),
+        Verdict::Refused(e) => on_card::window_on(
+            WindowAnswer::Refused(e).into_parts(),
+            reading.blanks,
+        ),
     }
 }

@@ -18,7 +18,7 @@ pub struct RectangleParts {
     pub zones: [u64; 18],
 }
 
-// Number, place, and what a card holds; TIF is 1 for Y.
+// Number, place, what a card holds, and the total of its blanks; TIF is 1 for Y.
 #[repr(C)]
 pub struct CardParts {
     pub number: u32,
@@ -35,6 +35,7 @@ pub struct CardParts {
     pub nfc: u64,
     pub bad: [u8; 12],
     pub tif: u8,
+    pub blanks: u64,
 }
 
 // What is written on a card; TIF is N for 0, else Y.
@@ -52,7 +53,77 @@ pub struct RecordParts {
     pub tif: u8,
 }
 
-// Number, place, the stored number of a tile, and where its bytes stand in the store.
+// Number, place, and the total of blanks of the card, of a question whose answer is left in buffers.
+#[repr(C)]
+pub struct VerdictParts {
+    pub number: u32,
+    pub at: u64,
+    pub blanks: u64,
+}
+
+// Number, the refusal's place, the place of the zone grid, and the total of blanks of the card.
+#[repr(C)]
+pub struct PlaceOnCard {
+    pub number: u32,
+    pub at: u64,
+    pub row: i64,
+    pub column: i64,
+    pub blanks: u64,
+}
+
+// Number, place, latitude and longitude, and the total of blanks of the card.
+#[repr(C)]
+pub struct PositionOnCard {
+    pub number: u32,
+    pub at: u64,
+    pub lat: i64,
+    pub lon: i64,
+    pub blanks: u64,
+}
+
+// Number, place, row and column, and the total of blanks of the card.
+#[repr(C)]
+pub struct PixelOnCard {
+    pub number: u32,
+    pub at: u64,
+    pub row: i64,
+    pub column: i64,
+    pub blanks: u64,
+}
+
+// Number, place, row and column of an overview's pixel, and the totals of blanks of the chart's card and of the overview's.
+#[repr(C)]
+pub struct OverviewOnCards {
+    pub number: u32,
+    pub at: u64,
+    pub row: i64,
+    pub column: i64,
+    pub blanks: u64,
+    pub overview_blanks: u64,
+}
+
+// Number, place, the three band values, and the total of blanks of the card.
+#[repr(C)]
+pub struct BandsOnCard {
+    pub number: u32,
+    pub at: u64,
+    pub red: u8,
+    pub green: u8,
+    pub blue: u8,
+    pub blanks: u64,
+}
+
+// Number, place, 1 where a tile is missing, that tile, and the total of blanks of the card.
+#[repr(C)]
+pub struct WindowOnCard {
+    pub number: u32,
+    pub at: u64,
+    pub missing: u64,
+    pub tile: u64,
+    pub blanks: u64,
+}
+
+// Number, place, the stored number of a tile, where its bytes stand in the store, and the total of blanks of the card.
 #[repr(C)]
 pub struct TileParts {
     pub number: u32,
@@ -60,4 +131,5 @@ pub struct TileParts {
     pub stored: u64,
     pub offset: u64,
     pub length: u64,
+    pub blanks: u64,
 }

@@ -24,9 +24,9 @@ module _ {x s t : List ℕ} {r : ℕ} (p : Put x 0 s t r) where
   stops a end e = record { answer = e ∙ rw (front-length p); left = front-left p }
 
   -- lines follow
-  pub follows : (k : Card) (n : ℕ)
-      → Opens (record { text = x; more = true; card = k; next = n }) s t (record { length = r; more = true; card = k; next = n })
-  follows k n = record { answer = rw (front-length p); left = front-left p }
+  pub follows : (k : Card) (b n : ℕ)
+      → Opens (record { text = x; more = true; card = k; blanks = b; next = n }) s t (record { length = r; more = true; card = k; blanks = b; next = n })
+  follows k b n = record { answer = rw (front-length p); left = front-left p }
 
 -- ---- the tests of an opening
 

@@ -59,11 +59,11 @@ from-lines k s (suc n) at h = turn (ltb at (length s)) refl (λ g. from-lines k 
 opened-card : (o : Option TwoNumbers) (card : List ℕ) (next end : ℕ) (s : List ℕ) (ls : List (List ℕ))
     → ((k : Card) → fromOn k s next (length s) ≡ linesFor k ls) → runFrom (openedCard o card next end) s ≡ withCard o card ls
 opened-card none card next end s ls more = refl
-opened-card (some p) card next end s ls more = let r = readOf (chartSeries (p .left) (p .right)) card in verdict (r .verdict) (r .card)
+opened-card (some p) card next end s ls more = let r = readOf (chartSeries (p .left) (p .right)) card in verdict (r .verdict) (r .card) (r .blanks)
   where
-    verdict : (v : Verdict) (k : Card) → runFrom (openedWith v k next end) s ≡ cardOut v k ls
-    verdict Verdict.Accepted k = rw (more k)
-    verdict (Verdict.Refused e) k = append-nil (cardOut (Verdict.Refused e) k ls)
+    verdict : (v : Verdict) (k : Card) (blanks : ℕ) → runFrom (openedWith v k blanks next end) s ≡ cardOut v k ls
+    verdict Verdict.Accepted k blanks = rw (more k)
+    verdict (Verdict.Refused e) k blanks = append-nil (cardOut (Verdict.Refused e) k ls)
 
 -- no second line
 no-second : (s : List ℕ) → length s ≤ nextAt s 0 → badLine ≡ run (linesOf s)

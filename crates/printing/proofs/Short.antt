@@ -75,17 +75,17 @@ shut s x h = record { short = h; known = λ e. absurd (false≢true e); small = 
 
 with-card : (s : List ℕ) → length s ≤ 65536 → (o : Option TwoNumbers) (card : List ℕ) (next : ℕ) → Opening s (openedCard o card next (length s))
 with-card s h none card next = shut s badLine (omega arith)
-with-card s h (some p) card next = let r = readOf (chartSeries (p .left) (p .right)) card in verdict (r .verdict) (r .card) refl
+with-card s h (some p) card next = let r = readOf (chartSeries (p .left) (p .right)) card in verdict (r .verdict) (r .card) (r .blanks) refl
   where
-    verdict : (v : Verdict) (k : Card) → readOf (chartSeries (p .left) (p .right)) card ≡ record { verdict = v; card = k }
-        → Opening s (openedWith v k next (length s))
-    verdict Verdict.Accepted k e =
+    verdict : (v : Verdict) (k : Card) (blanks : ℕ) → readOf (chartSeries (p .left) (p .right)) card ≡ record { verdict = v; card = k; blanks = blanks }
+        → Opening s (openedWith v k blanks next (length s))
+    verdict Verdict.Accepted k blanks e =
         record {
           short = omega arith;
-          known = λ m. record { series = chartSeries (p .left) (p .right); is-read = record { bytes = card; read = e } };
+          known = λ m. record { series = chartSeries (p .left) (p .right); is-read = record { bytes = card; blanks = blanks; read = e } };
           small = λ m. h;
         }
-    verdict (Verdict.Refused n) k e =
+    verdict (Verdict.Refused n) k blanks e =
         shut s (cardOut (Verdict.Refused n) k []) (refusal-short n k)
 
 pub openings : (s out : List ℕ) → Opening s (openingFor s out)

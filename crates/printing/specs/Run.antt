@@ -32,23 +32,24 @@ lineAt s at = firstLine (drop at s)
 abbrev pub nextAt : List ℕ → ℕ → ℕ
 nextAt s at = at + length (lineAt s at) + 1
 
--- the text; whether lines follow, of which card, and from where
+-- the text; whether lines follow, of which card, and from where; the total of blanks met in reading it, of which nothing is printed (02, E2)
 pub record Opened : Type 0 where
   pub text : List ℕ
   pub more : Bool
   pub card : Card
+  pub blanks : ℕ
   pub next : ℕ
 
 -- no line follows: the next one would start at the end of the input
 abbrev pub closed : List ℕ → ℕ → Opened
-closed text end = record { text = text; more = false; card = noCard; next = end }
+closed text end = record { text = text; more = false; card = noCard; blanks = 0; next = end }
 
-abbrev pub openedWith : Verdict → Card → ℕ → ℕ → Opened
-openedWith Verdict.Accepted k next end = record { text = header; more = true; card = k; next = next }
-openedWith (Verdict.Refused e) k next end = closed (cardOut (Verdict.Refused e) k []) end
+abbrev pub openedWith : Verdict → Card → ℕ → ℕ → ℕ → Opened
+openedWith Verdict.Accepted k blanks next end = record { text = header; more = true; card = k; blanks = blanks; next = next }
+openedWith (Verdict.Refused e) k blanks next end = closed (cardOut (Verdict.Refused e) k []) end
 
 abbrev pub openedCard : Option TwoNumbers → List ℕ → ℕ → ℕ → Opened
-openedCard (some p) card next end = let r = readOf (chartSeries (p .left) (p .right)) card in openedWith (r .verdict) (r .card) next end
+openedCard (some p) card next end = let r = readOf (chartSeries (p .left) (p .right)) card in openedWith (r .verdict) (r .card) (r .blanks) next end
 openedCard none card next end = closed badLine end
 
 -- no second line where the first one reaches the end of the input

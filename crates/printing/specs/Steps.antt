@@ -40,7 +40,7 @@ unfoldable pub openingFor : List ℕ → List ℕ → Opened
 openingFor s out = cond (leb 64 (length out)) (openingOf s) (closed [] (length s))
 
 abbrev pub openingAnswer : Opened → OpeningAnswer
-openingAnswer o = record { length = length (o .text); more = o .more; card = o .card; next = o .next }
+openingAnswer o = record { length = length (o .text); more = o .more; card = o .card; blanks = o .blanks; next = o .next }
 
 -- what the buffer then holds
 abbrev pub openingLeft : List ℕ → List ℕ → List ℕ
@@ -48,7 +48,7 @@ openingLeft s out = over (openingFor s out .text) out
 
 -- nothing follows a text of n bytes
 abbrev pub stopped : ℕ → ℕ → OpeningAnswer
-stopped n end = record { length = n; more = false; card = noCard; next = end }
+stopped n end = record { length = n; more = false; card = noCard; blanks = 0; next = end }
 
 -- the buffer s is t then, and r is answered
 pub record Opens (o : Opened) (s t : List ℕ) (r : OpeningAnswer) : Type 0 where

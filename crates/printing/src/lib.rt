@@ -8,11 +8,13 @@ mod line;
 mod parse;
 mod start;
 
-// What is printed first: its length; then whether lines follow, of which card, and from where; the end of the input, where none do.
+// What is printed first: its length; then whether lines follow, of which card, with how many blanks (02, E2), and from where; the end of the
+// input, where none do.
 pub struct OpeningAnswer {
     pub length: usize,
     pub more: bool,
     pub card: Card,
+    pub blanks: u64,
     pub next: usize,
 }
 

@@ -39,14 +39,22 @@ pub fn stop(length: usize, end: usize) -> OpeningAnswer
         length,
         more: false,
         card,
+        blanks: 0,
         next: end,
     }
 }
 
 // The header, where the card is accepted; lines follow.
-fn opened(out: &mut [u8], verdict: Verdict, card: Card, next: usize, end: usize) -> OpeningAnswer
+fn opened(
+    out: &mut [u8],
+    verdict: Verdict,
+    card: Card,
+    blanks: u64,
+    next: usize,
+    end: usize,
+) -> OpeningAnswer
     requires { ⌜ 64 ≤ length (now out) ⌝ }
-    ensures { λ r. ⌜ Opens (openedWith verdict card next end) (now (out .entry)) (now (out .exit)) r ⌝ }
+    ensures { λ r. ⌜ Opens (openedWith verdict card blanks next end) (now (out .entry)) (now (out .exit)) r ⌝ }
 {
     match verdict {
         Verdict::Accepted => {
@@ -55,6 +63,7 @@ fn opened(out: &mut [u8], verdict: Verdict, card: Card, next: usize, end: usize)
                 length,
                 more: true,
                 card,
+                blanks,
                 next,
             }
         }
@@ -89,7 +98,7 @@ fn two_lines(out: &mut [u8], first: &[u8], second: &[u8], next: usize, end: usiz
             let r = card_text::read_card(series, second);
             let verdict = r.verdict;
             let card = r.card;
-            opened(out, verdict, card, next, end)
+            opened(out, verdict, card, r.blanks, next, end)
         }
         Numbers::Bad => stop_with(out, b"bad line\n", end),
     }

@@ -1,5 +1,5 @@
 -- Reading what was written gives the record back: the record's values fill the layout, so the walk passes and each subfield holds
--- its value's text, which is read as the value. Assumes nothing.
+-- its value's text, which is read as the value, zero-filled. Assumes nothing.
 use mathlib.Core.Path.{_≡_, refl, sym, ap, _∙_}
 use mathlib.Core.List.{List, []}
 use mathlib.Core.Bool.{Bool, true, false, cond}
@@ -21,10 +21,12 @@ use Rattle.origin.specs.Origin.{storedAngle}
 use Rattle.origin.proofs.Axis.{Axis, latitudes, longitudes, stored-within}
 use Rattle.card.specs.declared.Card.{Card}
 use Rattle.card.specs.declared.Record.{Record}
+use Rattle.card.specs.declared.Fill.{Fill}
 use Rattle.text.specs.Text.{number, angleOf, digits, angleText}
 use Rattle.card.specs.Layout.{Subfield, STR, ARV, BRV, LSO, PSO, NUL, NUS, NLL, NLS, NFL, NFC, BAD, TIF, layout, bytesOf, walk}
 use Rattle.card.specs.Extents.{extentsHold}
-use Rattle.card.specs.Read.{numberIn, cardOf}
+use Rattle.card.specs.Blanks.{totalBlanks}
+use Rattle.card.specs.Read.{numberIn, cardOf, acceptedCard, readOf}
 use Rattle.card.specs.Write.{counted, valuesOf, cardText}
 use Rattle.card.specs.RoundTrips.{recordOf, ReadBack, ReadsBack, TextReadBack}
 use Rattle.text.proofs.Numbers.{number-digits}
@@ -32,7 +34,8 @@ use Rattle.text.proofs.Angles.{angle-of-text}
 use Rattle.round_trip.proofs.Table.{count-held, angle-held, a-name, a-flag, Along, done, _then_, along-at, Held, Text, length-written, texts, walks}
 use Rattle.card.proofs.Found.{Stores}
 use Rattle.card.proofs.Acceptance.{to-read}
-use Rattle.round_trip.proofs.Records.{extents, Good, good, n-on, m-on, sizes, inverted, text-out}
+use Rattle.card.proofs.Strict.{strict-accepts}
+use Rattle.round_trip.proofs.Records.{cardWith, extents, Good, good, n-on, m-on, sizes, inverted, text-out}
 
 -- a tile stores the angle read from the text of its stored angle
 tile-back : {x t l : ℕ} → Axis x t l → (k : ℤ) → outside t k ≡ false → (d : ℕ) → l / 360000 < 10 ^ d
@@ -73,7 +76,7 @@ module _ (a b : ℕ) (r : Record) (g : Grids a b) (ok : Good a b r) (twelve : le
   unfolding cardText layout
   all-texts = texts card 0 [] refl refl refl held
 
-  walked : walk layout card ≡ Verdict.Accepted
+  walked : walk Fill.Zeros layout card ≡ Verdict.Accepted
   walked = walks card held all-texts
 
   text : (i : ℕ) → i < 20 → Text card (getD layout i STR) (getD (valuesOf a b r) i (counted 0))
@@ -132,31 +135,40 @@ module _ (a b : ℕ) (r : Record) (g : Grids a b) (ok : Good a b r) (twelve : le
     unfolding cardOf
     extents-back = ap (extents a b) same ∙ ok .extents-hold
 
+    -- as 01 reads it, and so with no blanks
+    is-read : spacingOf series ≡ SpacingAnswer.Constants a b → isPolar (series .zone) ≡ false → readOf series card ≡ acceptedCard k 0
+    unfolding cardOf
+    is-read e p =
+        strict-accepts series card k (totalBlanks layout card)
+        (to-read Fill.Zeros series card k (totalBlanks layout card)
+        (record {
+          a = a;
+          b = b;
+          n = r .n;
+          m = r .m;
+          spacing = e;
+          not-polar = p;
+          long = long;
+          judged = walked;
+          arv = arv-back;
+          brv = brv-back;
+          n-stored = lat-back;
+          m-stored = lon-back;
+          extents = extents-back;
+          card = refl;
+          counted = refl;
+        }))
+        .1
+
     pub read-back : spacingOf series ≡ SpacingAnswer.Constants a b → isPolar (series .zone) ≡ false → ReadBack series r card
     unfolding cardOf
-    read-back e p =
-        record {
-          card = k;
-          read = to-read series card k
-              (record {
-                a = a;
-                b = b;
-                n = r .n;
-                m = r .m;
-                spacing = e;
-                not-polar = p;
-                long = long;
-                judged = walked;
-                arv = arv-back;
-                brv = brv-back;
-                n-stored = lat-back;
-                m-stored = lon-back;
-                extents = extents-back;
-                card = refl;
-              });
-          of-series = refl;
-          same = same;
-        }
+    read-back e p = record { card = k; read = is-read e p; of-series = refl; same = same }
+
+    -- the card is the record's
+    pub read-with : spacingOf series ≡ SpacingAnswer.Constants a b → isPolar (series .zone) ≡ false
+        → readOf series card ≡ acceptedCard (cardWith series a b r) 0
+    unfolding cardOf
+    read-with e p = is-read e p ∙ ap (λ (x : Record). acceptedCard (cardWith series a b x) 0) same
 
 pub reads-back : ReadsBack
 reads-back series r out twelve e =

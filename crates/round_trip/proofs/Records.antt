@@ -3,19 +3,20 @@
 use mathlib.Core.Path.{_≡_, refl}
 use mathlib.Core.List.{List}
 use mathlib.Core.Bool.{Bool, true, false, cond, not, _&&_, and-eq-true-iff}
-use Prim.Native.Nat.{ℕ, _/_, _≤_}
+use Prim.Native.Nat.{ℕ, _*_, _/_, _≤_}
 use native.Mathlib.Omega.{arith}
 use lib.Dec.{leb}
 use lib.ListN.{length, take, drop}
 use lib.Seq.{take-at}
 use borrow.Author.Tests.{leb-true, le-leb, not-true}
-use Rattle.whole.specs.Whole.{outside}
+use Rattle.whole.specs.Whole.{outside, raise}
 use Rattle.arc.specs.declared.Series.{Series}
 use Rattle.arc.specs.declared.Verdict.{Verdict}
 use Rattle.arc.specs.declared.SpacingAnswer.{SpacingAnswer}
 use Rattle.arc.specs.Refusals.{refusal}
 use Rattle.arc.specs.Zones.{isPolar}
 use Rattle.arc.specs.TownScales.{spacingForWriting}
+use Rattle.card.specs.declared.Card.{Card}
 use Rattle.card.specs.declared.Record.{Record}
 use Rattle.text.specs.Text.{nameLaid}
 use Rattle.origin.specs.Origin.{onGrid}
@@ -23,6 +24,28 @@ use Rattle.card.specs.Extents.{extentsHold}
 use Rattle.card.specs.Write.{cardText, first, recordTests, writeIn, writeOf, outOf}
 use Rattle.card.proofs.Walked.{tested, between}
 use Rattle.card.proofs.Spans.{Extends, extends}
+
+-- ---- the card of a record
+
+abbrev pub cardWith : Series → ℕ → ℕ → Record → Card
+cardWith series a b r =
+    record {
+      series = series;
+      a = a;
+      b = b;
+      n = r .n;
+      m = r .m;
+      nul = r .nul;
+      nus = r .nus;
+      nll = r .nll;
+      nls = r .nls;
+      nfl = r .nfl;
+      nfc = r .nfc;
+      bad = r .bad;
+      tif = r .tif;
+      north = 128 * raise (b / 512) (r .n);
+      east = 128 * raise (a / 256) (r .m);
+    }
 
 -- ---- the record's tests
 

@@ -12,6 +12,7 @@ use lib.ListN.{length, getD, drop, length-append, drop-of-length-le}
 use borrow.Author.Tests.{le-leb, eqb-true}
 use Rattle.arc.specs.declared.Verdict.{Verdict}
 use Rattle.text.specs.Text.{isFlag, nameLaid, part}
+use Rattle.card.specs.declared.Fill.{Fill}
 use Rattle.card.specs.Layout.{Kind, Subfield, STR, bytesOf, rightKind, rightValue, judgeField, walk}
 use Rattle.card.specs.Write.{Value, counted, angle, named, flagged, textOf, written}
 use Rattle.text.proofs.Bytes.{part-at, cut}
@@ -36,7 +37,7 @@ angle-held h = an-angle (h .0) (h .1) (h .2)
 -- its text fills the subfield and passes
 pub record Passes (k : Kind) (w : ℕ) (t : List ℕ) : Type 0 where
   pub long : length t ≡ w
-  pub right-kind : rightKind k t ≡ true
+  pub right-kind : rightKind Fill.Zeros k t ≡ true
   pub right-value : rightValue k t ≡ true
 
 passes : {k : Kind} {w : ℕ} {v : Value} → Holds k w v → Passes k w (textOf w v)
@@ -113,7 +114,7 @@ module _ (s : List ℕ) where
       let q : Text s f v = rw (starts o f fs c, e) (part-at pre t (written fs vs) o (f .width) l k) in
       next q (texts (o + f .width) (pre ++ t) (goes-on o f fs c) (length-append pre t ∙ rw (l, k)) (e ∙ sym (append-assoc pre t (written fs vs))) a)
 
-  pub walks : {fs : List Subfield} {vs : List Value} → Along Held fs vs → Along (Text s) fs vs → walk fs s ≡ Verdict.Accepted
+  pub walks : {fs : List Subfield} {vs : List Value} → Along Held fs vs → Along (Text s) fs vs → walk Fill.Zeros fs s ≡ Verdict.Accepted
   unfolding judgeField
   walks done t = refl
   walks (next p a) (next e t) = rw (e, passes p .right-kind, passes p .right-value) (walks a t)

@@ -1,5 +1,5 @@
--- Writing what was read gives the bytes back: each subfield that passed is the text of the value read from it, the tiles store the
--- angles, and the record that a card's value holds passes the tests of writing. Assumes nothing.
+-- Writing what was read gives the bytes back exactly where no blanks were met: each subfield that passed as 01 has it is the text of the value
+-- read from it, the tiles store the angles, and the record that a card's value holds passes the tests of writing. Assumes nothing.
 use mathlib.Core.Path.{_≡_, refl, sym, ap, _∙_}
 use mathlib.Core.List.{List, [], _∷_}
 use mathlib.Core.Bool.{Bool, true, false, cond, _&&_}
@@ -10,34 +10,42 @@ use lib.ListN.{length, getD, take}
 use borrow.Author.Tests.{eqb-true}
 use Rattle.arc.specs.declared.Series.{Series}
 use Rattle.arc.specs.Zones.{half, quarter}
+use Rattle.arc.specs.declared.Verdict.{Verdict}
+use Rattle.arc.specs.Spacing.{Grids}
+use Rattle.arc.proofs.Answered.{answered-grids}
 use Rattle.arc.proofs.TownScales.{written-from}
 use Rattle.card.specs.declared.Card.{Card}
+use Rattle.card.specs.declared.Fill.{Fill}
+use Rattle.card.specs.declared.Reading.{Reading}
 use Rattle.text.specs.Text.{all, isDigit, isFlag, angleLaid, angleValid, angleOf, digits, angleText}
 use Rattle.card.specs.Layout.{Subfield, STR, ARV, BRV, LSO, PSO, NUL, NUS, NLL, NLS, NFL, NFC, PNC, PNL, COD, ROD, POR, PCB, PVB, TIF, layout, bytesOf}
-use Rattle.card.specs.Read.{numberIn, cardOf}
-use Rattle.card.specs.Write.{valuesOf, cardText}
-use Rattle.card.specs.RoundTrips.{recordOf, WrittenBack, WritesBack, ReadIsText}
+use Rattle.card.specs.Read.{numberIn, cardOf, acceptedCard, readOf, readStrict}
+use Rattle.card.specs.Write.{valuesOf, cardText, writeOf, outOf}
+use Rattle.card.specs.RoundTrips.{recordOf, WritesBack, ReadIsText, TextIsRead}
 use Rattle.text.proofs.Bytes.{length-part, drop-next}
 use Rattle.text.proofs.Numbers.{digits-number}
 use Rattle.text.proofs.Angles.{text-of-angle}
 use Rattle.round_trip.proofs.Table.{Along, done, _then_, Text, written-back}
 use Rattle.round_trip.proofs.Records.{Good, Writes, is-written, text-out}
+use Rattle.round_trip.proofs.ReadBack.{long, read-with}
 use Rattle.card.proofs.Walked.{between, RightIn, right-in}
 use Rattle.card.proofs.Acceptance.{ReadTo, read-to}
+use Rattle.card.proofs.Strict.{tolerant-accepts}
 
 -- a flag's byte is that of its value
 flag-byte : (x : ℕ) (t : Bool) → eqb x 89 ≡ t → isFlag x ≡ true → x ≡ cond t 89 78
 flag-byte x true q e = eqb-true x 89 q
 flag-byte x false q e = eqb-true x 78 (rw q at e)
 
-module _ (series : Series) (s : List ℕ) (k : Card) (d : ReadTo series s k) where
+-- a card as 01 reads it
+module _ (series : Series) (s : List ℕ) (k : Card) (n : ℕ) (d : ReadTo Fill.Zeros series s k n) where
   -- the card's value, as it is read
   abbrev c : Card
   c = cardOf series (d .a) (d .b) (d .n) (d .m) s
 
   -- what passed
-  right : (i : ℕ) → i < 20 → RightIn s (getD layout i STR)
-  right = right-in s (d .judged)
+  right : (i : ℕ) → i < 20 → RightIn Fill.Zeros s (getD layout i STR)
+  right = right-in Fill.Zeros s (d .judged)
 
   -- ---- a subfield's bytes are the text of its value
 
@@ -88,40 +96,79 @@ module _ (series : Series) (s : List ℕ) (k : Card) (d : ReadTo series s k) whe
       then flag-text (right 19 (omega arith) .1)
       then done
 
-  -- ---- the bytes, and the tests of writing
-
-  text-same : cardText (d .a) (d .b) (recordOf c) ≡ s
+  pub text-same : cardText (d .a) (d .b) (recordOf c) ≡ s
   unfolding cardText layout
   text-same = written-back s 0 refl (d .long) all-texts
 
-  good : Good (d .a) (d .b) (recordOf c)
+strict-text : (series : Series) (s : List ℕ) (k : Card) → readStrict series s ≡ acceptedCard k 0 → cardText (k .a) (k .b) (recordOf k) ≡ s
+unfolding cardOf
+strict-text series s k e = let d = read-to Fill.Zeros series s k 0 e in rw (← d .card) (text-same series s k 0 d)
+
+-- a card as it is read, with blanks or without
+module _ (series : Series) (s : List ℕ) (k : Card) (n : ℕ) (d : ReadTo Fill.Blanks series s k n) where
+  abbrev value : Card
+  value = cardOf series (d .a) (d .b) (d .n) (d .m) s
+
+  passed : (i : ℕ) → i < 20 → RightIn Fill.Blanks s (getD layout i STR)
+  passed = right-in Fill.Blanks s (d .judged)
+
+  good : Good (d .a) (d .b) (recordOf value)
   unfolding layout cardOf
   good =
       record {
-        nfl-in = right 9 (omega arith) .1;
-        nfc-in = right 10 (omega arith) .1;
-        name-laid = right 18 (omega arith) .0;
+        nfl-in = passed 9 (omega arith) .1;
+        nfc-in = passed 10 (omega arith) .1;
+        name-laid = passed 18 (omega arith) .0;
         on-grid = rw (d .n-stored .on-grid, d .m-stored .on-grid);
         extents-hold = d .extents;
       }
 
-  pub back : (out : List ℕ) → 10000 ≤ series .scale → 98 ≤ length out → WrittenBack series c s out
-  back out g h =
-      let w : Writes series (recordOf c) out (d .a) (d .b) =
-      record { spacing = written-from series g ∙ d .spacing; no-pole = d .not-polar; room = h; is-good = good } in
-      let l : length (cardText (d .a) (d .b) (recordOf c)) ≡ 98 = ap length text-same ∙ d .long in
-      record {
-        written = is-written series (recordOf c) out (d .a) (d .b) w;
-        same = text-out series (recordOf c) out (d .a) (d .b) w l ∙ text-same;
-      }
+  grids : Grids (d .a) (d .b)
+  grids = answered-grids series (d .a) (d .b) (d .spacing)
 
-pub writes-back : WritesBack
-writes-back series s k out e g h =
-    let d = read-to series s k e in
-    rw (← d .card) (back series s k d out g h)
+  twelve : length (recordOf value .bad) ≡ 12
+  unfolding cardOf
+  twelve = length-part 85 12 s (omega (arith, d .long))
+
+  -- its text is read to the same card, with no blanks
+  again : readOf series (cardText (d .a) (d .b) (recordOf value)) ≡ acceptedCard value 0
+  unfolding cardOf
+  again = read-with (d .a) (d .b) (recordOf value) grids good twelve series (d .spacing) (d .not-polar)
+
+  writes : (out : List ℕ) → 10000 ≤ series .scale → 98 ≤ length out → Writes series (recordOf value) out (d .a) (d .b)
+  writes out g h = record { spacing = written-from series g ∙ d .spacing; no-pole = d .not-polar; room = h; is-good = good }
+
+  -- what is written is its text
+  output : (out : List ℕ) → 10000 ≤ series .scale → 98 ≤ length out
+      → (writeOf series (recordOf value) out ≡ Verdict.Accepted) × (take 98 (outOf series (recordOf value) out) ≡ cardText (d .a) (d .b) (recordOf value))
+  output out g h =
+      let w = writes out g h in (
+        is-written series (recordOf value) out (d .a) (d .b) w,
+        text-out series (recordOf value) out (d .a) (d .b) w (long (d .a) (d .b) (recordOf value) grids good twelve),
+      )
+
+pub text-is-read : TextIsRead
+unfolding cardOf
+text-is-read series s k n e = let d = read-to Fill.Blanks series s k n e in rw (← d .card) (again series s k n d)
 
 pub read-is-text : ReadIsText
+read-is-text series s k n e = (only, same)
+  where
+    only : cardText (k .a) (k .b) (recordOf k) ≡ s → n ≡ 0
+    only q = sym (ap (λ (x : Reading). x .blanks) (sym (rw q at (text-is-read series s k n e)) ∙ e))
+
+    same : n ≡ 0 → cardText (k .a) (k .b) (recordOf k) ≡ s
+    same z = strict-text series s k (tolerant-accepts series s k (e ∙ ap (acceptedCard k) z))
+
+pub writes-back : WritesBack
 unfolding cardOf
-read-is-text series s k e =
-    let d = read-to series s k e in
-    rw (← d .card) (text-same series s k d)
+writes-back series s k n out e g h =
+    let d = read-to Fill.Blanks series s k n e in
+    let o : (writeOf series (recordOf k) out ≡ Verdict.Accepted) × (take 98 (outOf series (recordOf k) out) ≡ cardText (k .a) (k .b) (recordOf k)) =
+    rw (← d .card) (output series s k n d out g h) in
+    let t = read-is-text series s k n e in
+    record {
+      written = o .0;
+      same = (λ q. t .0 (sym (o .1) ∙ q), λ z. o .1 ∙ t .1 z);
+      again = rw (o .1) (text-is-read series s k n e);
+    }

@@ -3,7 +3,9 @@
 --     part o w s         the w bytes of s from offset o
 --     isDigit, isCapital 0 to 9, A to Z
 --     all f s            f holds of each byte
---     number s           the number that digits stand for
+--     number s           the number that digits stand for; a blank counts as a zero
+--     blanks s           how many blanks s starts with
+--     filled s           blanks or none, then digits to the end, one at least (02, E2)
 --     angleLaid d s      ±DDDMMSS.SS or ±DDMMSS.SS, d being the count of degree digits
 --     angleSize d s      its size in hundredths of an arc-second
 --     angleOf d s        the angle
@@ -17,7 +19,7 @@ use Prim.Native.Char.{code}
 use Prim.Native.String.{String, [] as []ᵗ, _∷_ as _∷ᵗ_}
 use mathlib.Core.List.{List, [], _∷_, _++_}
 use mathlib.Core.Bool.{Bool, true, cond, not, _&&_, _||_}
-use lib.ListN.{getD, take, drop}
+use lib.ListN.{length, getD, take, drop}
 use lib.Dec.{leb, ltb, eqb}
 use lib.IntN.{ℤ, pos, negℤ, natAbs}
 use lib.Signed.{ltZ}
@@ -46,6 +48,15 @@ onward v (b ∷ bs) = onward (v * 10 + (b - 48)) bs
 
 unfoldable pub number : List ℕ → ℕ
 number s = onward 0 s
+
+-- 32 is the blank
+abbrev pub blanks : List ℕ → ℕ
+blanks [] = zero
+blanks (b ∷ bs) = cond (eqb b 32) (suc (blanks bs)) zero
+
+-- of blanks alone no digit is left
+abbrev pub filled : List ℕ → Bool
+filled s = ltb (blanks s) (length s) && all isDigit (drop (blanks s) s)
 
 -- 43 is +, 45 is −, 46 is the dot
 abbrev pub isSign : ℕ → Bool

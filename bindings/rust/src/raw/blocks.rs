@@ -8,6 +8,15 @@ pub struct Refusal {
     pub at: u64,
 }
 
+/// What is answered on a card beside the buffers.
+#[repr(C)]
+#[derive(Clone, Copy, Debug, PartialEq)]
+pub struct Verdict {
+    pub number: u32,
+    pub at: u64,
+    pub blanks: u64,
+}
+
 /// A and B, pixels in the circle.
 #[repr(C)]
 #[derive(Clone, Copy, Debug, PartialEq)]
@@ -77,6 +86,7 @@ pub struct Card {
     pub nfc: u64,
     pub bad: [u8; 12],
     pub tif: u8,
+    pub blanks: u64,
 }
 
 /// A record to be written; `tif` 0 is N, any other number is Y.
@@ -103,6 +113,7 @@ pub struct Place {
     pub at: u64,
     pub row: i64,
     pub column: i64,
+    pub blanks: u64,
 }
 
 /// A position.
@@ -113,6 +124,7 @@ pub struct Position {
     pub at: u64,
     pub lat: i64,
     pub lon: i64,
+    pub blanks: u64,
 }
 
 /// A pixel.
@@ -123,6 +135,19 @@ pub struct Pixel {
     pub at: u64,
     pub row: i64,
     pub column: i64,
+    pub blanks: u64,
+}
+
+/// A pixel of an overview, with the blanks of the chart's card and of the overview's.
+#[repr(C)]
+#[derive(Clone, Copy, Debug, PartialEq)]
+pub struct OverviewPixel {
+    pub number: u32,
+    pub at: u64,
+    pub row: i64,
+    pub column: i64,
+    pub blanks: u64,
+    pub overview_blanks: u64,
 }
 
 /// An offset from a centre.
@@ -144,6 +169,7 @@ pub struct Tile {
     pub stored: u64,
     pub offset: u64,
     pub length: u64,
+    pub blanks: u64,
 }
 
 /// The three band values of a pixel.
@@ -155,6 +181,7 @@ pub struct Bands {
     pub red: u8,
     pub green: u8,
     pub blue: u8,
+    pub blanks: u64,
 }
 
 /// The first missing tile of a window, where `missing` is 1.
@@ -165,4 +192,5 @@ pub struct Window {
     pub at: u64,
     pub missing: u64,
     pub tile: u64,
+    pub blanks: u64,
 }

@@ -1,8 +1,8 @@
-//! (01, "Origins and the zone grid"; 02, E4, E8 and E13)
+//! (01, "Origins and the zone grid"; 02, E2, E4, E8 and E13)
 
-use super::{floor_div, in_range, modulo, nearest, non_polar, printed, refuse};
+use super::{floor_div, in_range, modulo, nearest, non_polar, on_card, printed, refuse};
 use super::{Answer, H, LON_END, TILE};
-use fordcask::{Card, Offset, Origin, Pair, Pixel, Place, Position, Series};
+use fordcask::{Card, Offset, OnCard, Origin, OverviewPixel, Pair, Pixel, Place, Position, Series};
 
 /// The angle a card stores for k tiles from the Equator or the zero meridian.
 pub fn stored_angle(k: i128, spacing: i128) -> i128 {
@@ -60,14 +60,16 @@ pub fn in_chart(card: &Card, row: i128, column: i128) -> Answer<()> {
 }
 
 /// Pixel (r, c) has place (128n − r, (128m + c) modulo A): 12.
-pub fn place(card: &Card, pixel: Pixel) -> Answer<Place> {
+pub fn place(read: &OnCard<Card>, pixel: Pixel) -> Answer<OnCard<Place>> {
+    let card = &read.value;
     let (row, column) = (pixel.row as i128, pixel.column as i128);
     in_tiles(card, row, column)?;
     let east = TILE * card.record.m as i128 + column;
-    Ok(Place {
+    let place = Place {
         row: (TILE * card.record.n as i128 - row) as i64,
         column: modulo(east, card.spacing.a as i128) as i64,
-    })
+    };
+    on_card(read, place)
 }
 
 /// The pixel of the card's tiles that has a place, found by trying every row and every column.
@@ -94,7 +96,8 @@ fn by_whole_circles(lon: i128) -> i128 {
 }
 
 /// Pixel to position in one pair: 12, 13.
-pub fn position(pair: Pair, card: &Card, pixel: Pixel) -> Answer<Position> {
+pub fn position(pair: Pair, read: &OnCard<Card>, pixel: Pixel) -> Answer<OnCard<Position>> {
+    let card = &read.value;
     let (row, column) = (pixel.row as i128, pixel.column as i128);
     in_chart(card, row, column)?;
     let (a, b) = (card.spacing.a as i128, card.spacing.b as i128);
@@ -106,11 +109,12 @@ pub fn position(pair: Pair, card: &Card, pixel: Pixel) -> Answer<Position> {
         // the centre, half a pixel south and east of the corner (02, E8)
         Pair::Centre => (nearest((2 * up - 1) * H, 2 * b), nearest((2 * east + 1) * H, 2 * a)),
     };
-    Ok(Position { lat: lat as i64, lon: by_whole_circles(lon) as i64 })
+    on_card(read, Position { lat: lat as i64, lon: by_whole_circles(lon) as i64 })
 }
 
 /// Position to pixel in one pair: 4, 5, then 12, 13.
-pub fn pixel(pair: Pair, card: &Card, position: Position) -> Answer<Pixel> {
+pub fn pixel(pair: Pair, read: &OnCard<Card>, position: Position) -> Answer<OnCard<Pixel>> {
+    let card = &read.value;
     in_range(position.lat, position.lon)?;
     let (a, b) = (card.spacing.a as i128, card.spacing.b as i128);
     let (lat, lon) = (position.lat as i128, position.lon as i128);
@@ -122,14 +126,19 @@ pub fn pixel(pair: Pair, card: &Card, position: Position) -> Answer<Pixel> {
         Pair::Centre => (floor_div(down, H), floor_div(east, H)),
     };
     in_chart(card, row, column)?;
-    Ok(Pixel { row: row as i64, column: column as i64 })
+    on_card(read, Pixel { row: row as i64, column: column as i64 })
 }
 
 /// The overview pixel of a chart's pixel, in the corner pair (02, E4 and E8): the chart's 12, 13,
-/// then the overview's 12, 13.
-pub fn overview_pixel(chart: &Card, overview: &Card, asked: Pixel) -> Answer<Pixel> {
+/// then the overview's 12, 13. It tells the total of each of the two cards (02, E2).
+pub fn overview_pixel(
+    chart: &OnCard<Card>,
+    overview: &OnCard<Card>,
+    asked: Pixel,
+) -> Answer<OverviewPixel> {
     let there = position(Pair::Corner, chart, asked)?;
-    pixel(Pair::Corner, overview, there)
+    let found = pixel(Pair::Corner, overview, there.value)?;
+    Ok(OverviewPixel { pixel: found.value, blanks: there.blanks, overview_blanks: found.blanks })
 }
 
 /// Offset from a centre: 4, 5 for the position, then 4, 5 for the centre.

@@ -1,4 +1,4 @@
-//! Document 01, with E3, E4, E5, E8 and E13 of 02, written out a second time in plain loops, in
+//! Document 01, with E2, E3, E4, E5, E8 and E13 of 02, written out a second time in plain loops, in
 //! i128 arithmetic; in i64, u64 or usize only where the numbers have been checked and are small.
 //! It knows nothing of the library but the types that carry the answers.
 // each test file uses a part of it
@@ -10,11 +10,11 @@ mod tiles;
 mod write;
 mod zone;
 
-use fordcask::Refusal;
+use fordcask::{Card, OnCard, Refusal};
 
 pub use grid::{align, has_place, offset, origin_storing, overview_pixel};
 pub use grid::{pixel, place, position, stored_angle};
-pub use read::{extents_hold, read};
+pub use read::{extents_hold, read, read_strict};
 pub use tiles::{bands, index_check, lookup, window};
 pub use write::{lay_out, write};
 pub use zone::{basic_zone, constant_at, cover, non_polar, printed, rectangle, spacing};
@@ -29,6 +29,11 @@ pub const LON_END: i128 = 64_800_000;
 pub const CARD: usize = 98;
 pub const TILE: i128 = 128;
 pub const TILE_BYTES: i128 = 49_152;
+
+/// An answer on a card, with the total of blanks met in reading the card (02, E2).
+fn on_card<T>(card: &OnCard<Card>, value: T) -> Answer<OnCard<T>> {
+    Ok(OnCard { value, blanks: card.blanks })
+}
 
 pub fn refuse<T>(number: u32, at: u64) -> Answer<T> {
     Err(Refusal { number, at })

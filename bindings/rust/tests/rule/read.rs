@@ -1,7 +1,7 @@
-//! (01, "The image card, 98 bytes"; 02, E4): reading.
+//! (01, "The image card, 98 bytes"; 02, E2 and E4): reading.
 
 use super::{non_polar, origin_storing, refuse, Answer, CARD, LAT_END, LON_END, TILE};
-use fordcask::{Card, Record, Series, Spacing};
+use fordcask::{Card, OnCard, Record, Refusal, Series, Spacing};
 
 /// All digits, else 7.
 fn number(card: &[u8], at: usize, width: usize) -> Answer<i128> {
@@ -15,21 +15,67 @@ fn number(card: &[u8], at: usize, width: usize) -> Answer<i128> {
     Ok(value)
 }
 
-/// All digits, else 7; this value, else 8.
-fn constant(card: &[u8], at: usize, width: usize, value: i128) -> Answer<()> {
-    if number(card, at, width)? != value {
+/// How a number of more than one digit is read: its value, and how many blanks were met.
+type Numbers = fn(&[u8], usize, usize) -> Answer<(i128, u64)>;
+
+/// All digits, zero-filled, else 7 (01).
+fn zero_filled(card: &[u8], at: usize, width: usize) -> Answer<(i128, u64)> {
+    Ok((number(card, at, width)?, 0))
+}
+
+/// Blanks before the first digit, then all digits, else 7; 7 where all are blanks (02, E2).
+fn blank_filled(card: &[u8], at: usize, width: usize) -> Answer<(i128, u64)> {
+    let mut blanks = 0;
+    while blanks < width && card[at + blanks] == 0x20 {
+        blanks += 1;
+    }
+    if blanks == width {
+        return refuse(7, at as u64);
+    }
+    let wrong_kind = |_| Refusal { number: 7, at: at as u64 };
+    let value = number(card, at + blanks, width - blanks).map_err(wrong_kind)?;
+    Ok((value, blanks as u64))
+}
+
+/// A one-digit subfield: a digit, else 7; this value, else 8. No blank (02, E2).
+fn one_digit(card: &[u8], at: usize, value: i128) -> Answer<()> {
+    if number(card, at, 1)? != value {
         return refuse(8, at as u64);
     }
     Ok(())
 }
 
-/// NFL and NFC: 1 to 999, else 8.
-fn tile_number(card: &[u8], at: usize) -> Answer<i128> {
-    let value = number(card, at, 3)?;
-    if !(1..=999).contains(&value) {
-        return refuse(8, at as u64);
+/// The numbers of more than one digit, left to right, and the total of their blanks (02, E2).
+struct Count<'a> {
+    card: &'a [u8],
+    numbers: Numbers,
+    blanks: u64,
+}
+
+impl Count<'_> {
+    /// A number, else 7.
+    fn number(&mut self, at: usize, width: usize) -> Answer<i128> {
+        let (value, blanks) = (self.numbers)(self.card, at, width)?;
+        self.blanks += blanks;
+        Ok(value)
     }
-    Ok(value)
+
+    /// NFL and NFC: 1 to 999, else 8.
+    fn tile_number(&mut self, at: usize) -> Answer<i128> {
+        let value = self.number(at, 3)?;
+        if !(1..=999).contains(&value) {
+            return refuse(8, at as u64);
+        }
+        Ok(value)
+    }
+
+    /// PNC and PNL: 128, else 8.
+    fn tile_side(&mut self, at: usize) -> Answer<()> {
+        if self.number(at, 6)? != TILE {
+            return refuse(8, at as u64);
+        }
+        Ok(())
+    }
 }
 
 /// A sign, degrees, MMSS, a dot, two digits, else 7; then the value, else 8.
@@ -40,7 +86,7 @@ fn angle(card: &[u8], at: usize, degree_digits: usize, end: i128) -> Answer<i128
     if sign != b'+' && sign != b'-' {
         return refuse(7, place);
     }
-    let wrong_kind = |_| fordcask::Refusal { number: 7, at: place };
+    let wrong_kind = |_| Refusal { number: 7, at: place };
     let degrees = number(card, at + 1, degree_digits).map_err(wrong_kind)?;
     let minutes = number(card, minute_at, 2).map_err(wrong_kind)?;
     let seconds = number(card, minute_at + 2, 2).map_err(wrong_kind)?;
@@ -79,25 +125,27 @@ struct Said {
     nfc: i128,
     bad: [u8; 12],
     tif: bool,
+    blanks: u64,
 }
 
 /// The subfields left to right, with 7 before 8 in each.
-fn said(card: &[u8]) -> Answer<Said> {
-    constant(card, 0, 1, 3)?;
-    let arv = number(card, 1, 8)?;
-    let brv = number(card, 9, 8)?;
+fn said(card: &[u8], numbers: Numbers) -> Answer<Said> {
+    let mut count = Count { card, numbers, blanks: 0 };
+    one_digit(card, 0, 3)?;
+    let arv = count.number(1, 8)?;
+    let brv = count.number(9, 8)?;
     let lso = angle(card, 17, 3, LON_END)?;
     let pso = angle(card, 28, 2, LAT_END)?;
     let mut edges = [0; 4];
     for (i, edge) in edges.iter_mut().enumerate() {
-        *edge = number(card, 38 + 6 * i, 6)?;
+        *edge = count.number(38 + 6 * i, 6)?;
     }
-    let nfl = tile_number(card, 62)?;
-    let nfc = tile_number(card, 65)?;
-    constant(card, 68, 6, 128)?;
-    constant(card, 74, 6, 128)?;
+    let nfl = count.tile_number(62)?;
+    let nfc = count.tile_number(65)?;
+    count.tile_side(68)?;
+    count.tile_side(74)?;
     for (i, value) in [0, 1, 0, 0, 8].into_iter().enumerate() {
-        constant(card, 80 + i, 1, value)?;
+        one_digit(card, 80 + i, value)?;
     }
     let mut bad = [0; 12];
     bad.copy_from_slice(&card[85..97]);
@@ -109,7 +157,7 @@ fn said(card: &[u8]) -> Answer<Said> {
         b'N' => false,
         _ => return refuse(8, 97),
     };
-    Ok(Said { arv, brv, lso, pso, edges, nfl, nfc, bad, tif })
+    Ok(Said { arv, brv, lso, pso, edges, nfl, nfc, bad, tif, blanks: count.blanks })
 }
 
 /// NFC ≤ A/128; n − NFL ≥ −B/512; NUL ≤ NLL < 128 × NFL; NLS ≤ NUS < 128 × NFC.
@@ -128,14 +176,24 @@ pub fn origin_accepted(a: i128, b: i128, n: i128, m: i128) -> bool {
     (-b / 512..=b / 512).contains(&n) && (-a / 256..=a / 256).contains(&m)
 }
 
-/// Reading: 1, 17, 1 (02, E4), 2, 3, 6, then subfields left to right with 7 before 8 in each, then
-/// 9, 10, 11.
-pub fn read(series: Series, card: &[u8]) -> Answer<Card> {
+/// Reading: blanks may stand before the first digit of a number, and their total is told (02, E2).
+pub fn read(series: Series, card: &[u8]) -> Answer<OnCard<Card>> {
+    accept(series, card, blank_filled)
+}
+
+/// Reading as 01 has it: numbers are all digits, zero-filled.
+pub fn read_strict(series: Series, card: &[u8]) -> Answer<Card> {
+    accept(series, card, zero_filled).map(|read| read.value)
+}
+
+/// 1, 17, 1 (02, E4), 2, 3, 6, then subfields left to right with 7 before 8 in each, then 9, 10,
+/// 11.
+fn accept(series: Series, card: &[u8], numbers: Numbers) -> Answer<OnCard<Card>> {
     let (a, b) = non_polar(series)?;
     if card.len() != CARD {
         return refuse(6, 0);
     }
-    let said = said(card)?;
+    let said = said(card, numbers)?;
     if said.arv != a || said.brv != b {
         return refuse(9, 0);
     }
@@ -162,5 +220,5 @@ pub fn read(series: Series, card: &[u8]) -> Answer<Card> {
         return refuse(11, 0);
     }
     let spacing = Spacing { a: a as u64, b: b as u64 };
-    Ok(Card { spacing, record })
+    Ok(OnCard { value: Card { spacing, record }, blanks: said.blanks })
 }

@@ -1,8 +1,8 @@
-//! (01, "Tiles")
+//! (01, "Tiles"; 02, E2)
 
 use super::grid::in_chart;
-use super::{refuse, Answer, TILE, TILE_BYTES};
-use fordcask::{Bands, Card, Pixel, Window};
+use super::{on_card, refuse, Answer, TILE, TILE_BYTES};
+use fordcask::{Bands, Card, OnCard, Pixel, Window};
 
 fn tile_total(card: &Card) -> i128 {
     card.record.nfl as i128 * card.record.nfc as i128
@@ -26,14 +26,20 @@ fn lengths(card: &Card, index: &[u32], count: u64) -> Answer<()> {
 }
 
 /// Index check: 6, then 15 at the first bad entry. The marks become what 01 says.
-pub fn index_check(card: &Card, index: &[u32], count: u64, marks: &mut [u8]) -> Answer<()> {
+pub fn index_check(
+    read: &OnCard<Card>,
+    index: &[u32],
+    count: u64,
+    marks: &mut [u8],
+) -> Answer<OnCard<()>> {
+    let card = &read.value;
     lengths(card, index, count)?;
     if (marks.len() as i128) < count as i128 {
         return refuse(6, 0);
     }
     if !card.record.tif {
         marks[..count as usize].fill(1);
-        return Ok(());
+        return on_card(read, ());
     }
     // how often each number 1..count occurs among the entries before the refused one
     let mut occurs = vec![0u32; count as usize + 1];
@@ -57,11 +63,18 @@ pub fn index_check(card: &Card, index: &[u32], count: u64, marks: &mut [u8]) -> 
     if (1..=count as usize).any(|k| occurs[k] == 0) {
         return refuse(15, index.len() as u64);
     }
-    Ok(())
+    on_card(read, ())
 }
 
 /// The number of a pixel's tile among the stored ones, from 1. Tile look-up: 6, 12, 13, 14, 15.
-pub fn lookup(card: &Card, index: &[u32], count: u64, store: &[u8], pixel: Pixel) -> Answer<u64> {
+pub fn lookup(
+    read: &OnCard<Card>,
+    index: &[u32],
+    count: u64,
+    store: &[u8],
+    pixel: Pixel,
+) -> Answer<OnCard<u64>> {
+    let card = &read.value;
     lengths(card, index, count)?;
     if store.len() as i128 != count as i128 * TILE_BYTES {
         return refuse(6, 0);
@@ -70,7 +83,7 @@ pub fn lookup(card: &Card, index: &[u32], count: u64, store: &[u8], pixel: Pixel
     in_chart(card, row, column)?;
     let tile = row / TILE * card.record.nfc as i128 + column / TILE;
     if !card.record.tif {
-        return Ok(tile as u64 + 1);
+        return on_card(read, tile as u64 + 1);
     }
     let entry = index[tile as usize] as u64;
     if entry == 0 {
@@ -79,21 +92,33 @@ pub fn lookup(card: &Card, index: &[u32], count: u64, store: &[u8], pixel: Pixel
     if entry > count {
         return refuse(15, tile as u64);
     }
-    Ok(entry)
+    on_card(read, entry)
 }
 
 /// Red, green, blue, each 128 rows of 128.
-pub fn bands(card: &Card, index: &[u32], count: u64, store: &[u8], pixel: Pixel) -> Answer<Bands> {
-    let stored = lookup(card, index, count, store, pixel)?;
-    let start = (stored as usize - 1) * TILE_BYTES as usize;
+pub fn bands(
+    read: &OnCard<Card>,
+    index: &[u32],
+    count: u64,
+    store: &[u8],
+    pixel: Pixel,
+) -> Answer<OnCard<Bands>> {
+    let stored = lookup(read, index, count, store, pixel)?;
+    let start = (stored.value as usize - 1) * TILE_BYTES as usize;
     let tile = &store[start..start + TILE_BYTES as usize];
     let (row, column) = (pixel.row as usize % 128, pixel.column as usize % 128);
     let byte = |band: usize| tile[band * 128 * 128 + row * 128 + column];
-    Ok(Bands { red: byte(0), green: byte(1), blue: byte(2) })
+    on_card(read, Bands { red: byte(0), green: byte(1), blue: byte(2) })
 }
 
 /// Window: 6, 12, then 15 where an entry above the count comes before any missing tile.
-pub fn window(card: &Card, index: &[u32], count: u64, window: Window) -> Answer<Option<u64>> {
+pub fn window(
+    read: &OnCard<Card>,
+    index: &[u32],
+    count: u64,
+    window: Window,
+) -> Answer<OnCard<Option<u64>>> {
+    let card = &read.value;
     lengths(card, index, count)?;
     let record = &card.record;
     let outside_down = window.top as i128 + window.height as i128 > record.nfl as i128;
@@ -102,19 +127,19 @@ pub fn window(card: &Card, index: &[u32], count: u64, window: Window) -> Answer<
         return refuse(12, 0);
     }
     if !record.tif {
-        return Ok(None);
+        return on_card(read, None);
     }
     for row in window.top..window.top + window.height {
         for column in window.left..window.left + window.width {
             let tile = row * record.nfc + column;
             let entry = index[tile as usize] as u64;
             if entry == 0 {
-                return Ok(Some(tile));
+                return on_card(read, Some(tile));
             }
             if entry > count {
                 return refuse(15, tile);
             }
         }
     }
-    Ok(None)
+    on_card(read, None)
 }

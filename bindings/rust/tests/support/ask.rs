@@ -2,20 +2,24 @@
 
 use std::collections::{BTreeMap, BTreeSet};
 use std::fmt::Debug;
+use std::ops::RangeInclusive;
 
+use super::blanks::{no_blanks, with_zeros};
 use crate::rule;
-use fordcask::{Card, Offset, Origin, Pair, Position, Record, Refusal, Series, Spacing};
+use fordcask::{Card, Offset, OnCard, Origin, Pair, Position, Record, Refusal, Series, Spacing};
 
 pub type Answer<T> = Result<T, Refusal>;
 
 /// The refusal of writing and alignment at a town scale (02, E13).
 pub const RETIRED: Refusal = Refusal { number: 24, at: 0 };
 
-/// The cases of one question: how often each number was met (0 is an answer), and where.
+/// The cases of one question: how often each number was met (0 is an answer), and where; and how
+/// often each total of blanks was told (02, E2).
 #[derive(Default)]
 struct Tally {
     numbers: BTreeMap<u32, u64>,
     places: BTreeSet<(u32, u64)>,
+    totals: BTreeMap<u64, u64>,
 }
 
 /// What cases are counted by: a question, and the pair it was put in where it has pairs.
@@ -69,6 +73,28 @@ impl Ask {
         library
     }
 
+    /// The same of two answers on a card, with the totals of blanks they tell (02, E2).
+    pub fn on_card<T: PartialEq + Debug>(
+        &mut self,
+        question: impl Into<Question>,
+        call: impl FnOnce() -> String,
+        library: Answer<OnCard<T>>,
+        rule: Answer<OnCard<T>>,
+    ) -> Answer<OnCard<T>> {
+        let question = question.into();
+        let answer = self.same(question, call, library, rule);
+        if let Ok(told) = &answer {
+            self.count_total(question, told.blanks);
+        }
+        answer
+    }
+
+    /// Counts a total of blanks that an answer tells.
+    pub fn count_total(&mut self, question: impl Into<Question>, blanks: u64) {
+        let tally = self.tallies.entry(question.into()).or_default();
+        *tally.totals.entry(blanks).or_default() += 1;
+    }
+
     /// Counts a case; number 0 is an answer.
     pub fn count(&mut self, question: impl Into<Question>, number: u32, at: u64) {
         let tally = self.tallies.entry(question.into()).or_default();
@@ -104,6 +130,18 @@ impl Ask {
             let all = tally.places.iter();
             let met: Vec<u64> = all.filter(|p| p.0 == number).map(|p| p.1).collect();
             assert_eq!(met, places, "places met by {pair} {question} with {number}");
+        }
+    }
+
+    /// Each of these totals of blanks must have been told, in each pair alone, and none above 37
+    /// (02, E2).
+    pub fn met_totals(&self, question: &'static str, totals: RangeInclusive<u64>) {
+        for (pair, tally) in self.tallied(question) {
+            let mut wanted = totals.clone();
+            let missed = wanted.find(|total| !tally.totals.contains_key(total));
+            assert_eq!(missed, None, "a total not met by {pair} {question}: {:?}", tally.totals);
+            let most = tally.totals.keys().next_back().copied();
+            assert!(most <= Some(37), "the greatest total of {pair} {question}: {most:?}");
         }
     }
 
@@ -153,10 +191,18 @@ impl Ask {
         self.same("offset", call, library, rule)
     }
 
-    pub fn read(&mut self, series: Series, card: &[u8]) -> Answer<Card> {
+    /// Reading, and beside it reading as 01 has it; both are compared (02, E2).
+    pub fn read(&mut self, series: Series, card: &[u8]) -> Answer<OnCard<Card>> {
+        let _ = self.read_strict(series, card);
         let call = || format!("read_card({series:?}, b\"{}\")", card.escape_ascii());
         let library = fordcask::read_card(series, card);
-        self.same("read", call, library, rule::read(series, card))
+        self.on_card("read", call, library, rule::read(series, card))
+    }
+
+    pub fn read_strict(&mut self, series: Series, card: &[u8]) -> Answer<Card> {
+        let call = || format!("read_strict({series:?}, b\"{}\")", card.escape_ascii());
+        let library = fordcask::read_strict(series, card);
+        self.same("read_strict", call, library, rule::read_strict(series, card))
     }
 
     /// The whole output, filled with 7 before: 98 bytes written, or nothing.
@@ -179,10 +225,20 @@ impl Ask {
         Ok(out[..rule::CARD].to_vec())
     }
 
-    /// Writing what was read gives the bytes back from 10,000 up, below it 24 (02, E13).
-    pub fn write_back(&mut self, series: Series, read: &Card, card: &[u8], out_len: usize) {
-        let written = self.write(series, &read.record, out_len);
-        let right = if series.scale >= 10_000 { Ok(card.to_vec()) } else { Err(RETIRED) };
-        assert_eq!(written, right, "writing what was read at {series:?}");
+    /// Writing what was read gives the bytes back where no blanks were met, else zeros for them,
+    /// and reading these gives the record with total 0 (02, E2); below 10,000 it is 24 (02, E13).
+    pub fn write_back(&mut self, series: Series, read: &OnCard<Card>, card: &[u8], out_len: usize) {
+        let written = self.write(series, &read.value.record, out_len);
+        if series.scale < 10_000 {
+            assert_eq!(written, Err(RETIRED), "writing what was read at {series:?}");
+            return;
+        }
+        let written = written.expect("what was read is written");
+        assert_eq!(written, with_zeros(card), "writing what was read at {series:?}");
+        assert_eq!(written == card, read.blanks == 0, "the bytes back at {series:?}");
+        if read.blanks > 0 {
+            let again = self.read(series, &written);
+            assert_eq!(again, Ok(no_blanks(read.value)), "reading it again at {series:?}");
+        }
     }
 }

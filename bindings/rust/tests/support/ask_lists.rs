@@ -4,7 +4,7 @@ use super::ask::Ask;
 use super::ask_sheet::shown;
 use super::PAIRS;
 use crate::rule;
-use fordcask::{Pair, Pixel, Position, Refusal, Sheet};
+use fordcask::{Card, OnCard, Pair, Pixel, Position, Refusal, Sheet};
 
 const SIX: Refusal = Refusal { number: 6, at: 0 };
 pub const OLD_POSITION: Position = Position { lat: 7, lon: 7 };
@@ -13,30 +13,35 @@ const OLD_PIXEL: Pixel = Pixel { row: 7, column: 7 };
 /// The lengths of the output and of its numbers.
 type Lengths = (usize, usize);
 
-/// A list's answer for one of its items: the number and the value, both 0 in a refusal.
-fn item<T: Default>(answer: Result<T, Refusal>) -> (u32, T) {
+/// A list's answer for one of its items: the number, and the value, 0 in a refusal. An item that
+/// is answered alone tells the list's total of blanks (02, E2).
+fn item<T: Default>(answer: Result<OnCard<T>, Refusal>, blanks: u64) -> (u32, T) {
     match answer {
-        Ok(value) => (0, value),
+        Ok(told) => {
+            assert_eq!(told.blanks, blanks, "the total of the list");
+            (0, told.value)
+        }
         Err(refusal) => (refusal.number, T::default()),
     }
 }
 
-/// What the list call should answer and leave, from the rule for each item.
+/// What the list call should answer and leave, from the rule for each item; the total is told
+/// where items are refused too (02, E2).
 fn expected<F, T: Copy + Default>(
     sheet: &Sheet,
     from: &[F],
     to: &mut [T],
     numbers: &mut [u32],
-    single: impl Fn(&fordcask::Card, &F) -> Result<T, Refusal>,
-) -> Result<(), Refusal> {
+    single: impl Fn(&OnCard<Card>, &F) -> Result<OnCard<T>, Refusal>,
+) -> Result<OnCard<()>, Refusal> {
     let card = rule::read(sheet.series, sheet.card)?;
     if to.len() < from.len() || numbers.len() < from.len() {
         return Err(SIX);
     }
     for (i, asked) in from.iter().enumerate() {
-        (numbers[i], to[i]) = item(single(&card, asked));
+        (numbers[i], to[i]) = item(single(&card, asked), card.blanks);
     }
-    Ok(())
+    Ok(OnCard { value: (), blanks: card.blanks })
 }
 
 /// Asks for positions with these lengths of output in one pair; every buffer is compared whole.
@@ -55,9 +60,9 @@ fn positions_in(ask: &mut Ask, pair: Pair, sheet: &Sheet, pixels: &[Pixel], leng
         let given = sheet.positions(pixels, &mut unnamed.0, &mut unnamed.1);
         assert_eq!((given, unnamed), (rule, right), "no pair named: {}", call());
     }
-    if ask.same(("positions", pair), call, library, rule).is_ok() {
+    if let Ok(told) = ask.on_card(("positions", pair), call, library, rule) {
         for (i, pixel) in pixels.iter().enumerate() {
-            let single = item(sheet.position_in(pair, *pixel));
+            let single = item(sheet.position_in(pair, *pixel), told.blanks);
             assert_eq!((found.1[i], found.0[i]), single, "single call, {}", call());
             ask.count(("listed positions", pair), found.1[i], 0);
         }
@@ -80,9 +85,9 @@ fn pixels_in(ask: &mut Ask, pair: Pair, sheet: &Sheet, positions: &[Position], l
         let given = sheet.pixels(positions, &mut unnamed.0, &mut unnamed.1);
         assert_eq!((given, unnamed), (rule, right), "no pair named: {}", call());
     }
-    if ask.same(("pixels", pair), call, library, rule).is_ok() {
+    if let Ok(told) = ask.on_card(("pixels", pair), call, library, rule) {
         for (i, position) in positions.iter().enumerate() {
-            let single = item(sheet.pixel_in(pair, *position));
+            let single = item(sheet.pixel_in(pair, *position), told.blanks);
             assert_eq!((found.1[i], found.0[i]), single, "single call, {}", call());
             ask.count(("listed pixels", pair), found.1[i], 0);
         }

@@ -2,7 +2,7 @@
 
 use super::ask::{Answer, Ask};
 use crate::rule;
-use fordcask::{Bands, Card, Pixel, Place, Sheet, Tiles, Window};
+use fordcask::{Bands, Card, OnCard, OverviewPixel, Pixel, Place, Sheet, Tiles, Window};
 
 /// A sheet as it is shown in a message.
 pub fn shown(sheet: &Sheet) -> String {
@@ -11,35 +11,45 @@ pub fn shown(sheet: &Sheet) -> String {
     format!("{} times {} zone {} b\"{card}\"", series.scale, series.factor, series.zone)
 }
 
-/// The card as the rule reads it.
-pub fn read(sheet: &Sheet) -> Answer<Card> {
+/// The card as the rule reads it, with its total of blanks (02, E2).
+pub fn read(sheet: &Sheet) -> Answer<OnCard<Card>> {
     rule::read(sheet.series, sheet.card)
 }
 
 impl Ask {
-    pub fn place(&mut self, sheet: &Sheet, pixel: Pixel) -> Answer<Place> {
+    pub fn place(&mut self, sheet: &Sheet, pixel: Pixel) -> Answer<OnCard<Place>> {
         let call = || format!("{} place({pixel:?})", shown(sheet));
         let rule = read(sheet).and_then(|card| rule::place(&card, pixel));
-        self.same("place", call, sheet.place(pixel), rule)
+        self.on_card("place", call, sheet.place(pixel), rule)
     }
 
-    /// Both cards are read before the pixel is looked at, the chart's first (02, E4).
+    /// Both cards are read before the pixel is looked at, the chart's first (02, E4); the totals of
+    /// both are told (02, E2).
     pub fn overview_pixel(
         &mut self,
         chart: &Sheet,
         overview: &Sheet,
         pixel: Pixel,
-    ) -> Answer<Pixel> {
+    ) -> Answer<OverviewPixel> {
         let call = || format!("{} overview_pixel({}, {pixel:?})", shown(chart), shown(overview));
         let rule = read(chart).and_then(|card| {
             let overview = read(overview)?;
             rule::overview_pixel(&card, &overview, pixel)
         });
-        self.same("overview_pixel", call, chart.overview_pixel(overview, pixel), rule)
+        let library = chart.overview_pixel(overview, pixel);
+        let answer = self.same("overview_pixel", call, library, rule)?;
+        self.count_total("overview_pixel", answer.blanks);
+        self.count_total("overview of a chart", answer.overview_blanks);
+        Ok(answer)
     }
 
     /// The marks, filled with 7 before, are compared whole.
-    pub fn index_check(&mut self, sheet: &Sheet, tiles: Tiles, marks_len: usize) -> Answer<()> {
+    pub fn index_check(
+        &mut self,
+        sheet: &Sheet,
+        tiles: Tiles,
+        marks_len: usize,
+    ) -> Answer<OnCard<()>> {
         let call = || format!("{} index_check({tiles:?}, {marks_len})", shown(sheet));
         let mut marks = vec![7; marks_len];
         let library = sheet.index_check(tiles, &mut marks);
@@ -51,30 +61,34 @@ impl Ask {
             "marks of {}\n  library {marks:?}\n  rule    {expected:?}",
             call()
         );
-        self.same("index_check", call, library, rule)
+        self.on_card("index_check", call, library, rule)
     }
 
-    /// The stored number and the part of the store, as offset and length.
+    /// The stored number and the part of the store, as offset and length; each tells the total.
     pub fn tile(
         &mut self,
         sheet: &Sheet,
         tiles: Tiles,
         store: &[u8],
         pixel: Pixel,
-    ) -> Answer<(u64, usize, usize)> {
+    ) -> Answer<OnCard<(u64, usize, usize)>> {
         let call = || {
             let bytes = store.len();
             format!("{} tile({tiles:?}, {bytes}, {pixel:?})", shown(sheet))
         };
-        let stored = sheet.stored(tiles, store, pixel);
-        let library = sheet.tile(tiles, store, pixel).and_then(|part| {
+        let library = sheet.tile(tiles, store, pixel).map(|OnCard { value: part, blanks }| {
             let offset = part.as_ptr() as usize - store.as_ptr() as usize;
-            Ok((stored?, offset, part.len()))
+            OnCard { value: (offset, part.len()), blanks }
         });
         let rule = read(sheet)
-            .and_then(|card| rule::lookup(&card, tiles.index, tiles.count, store, pixel))
-            .map(|stored| (stored, (stored as usize - 1) * 49_152, 49_152));
-        self.same("tile", call, library, rule)
+            .and_then(|card| rule::lookup(&card, tiles.index, tiles.count, store, pixel));
+        let stored = self.on_card("stored", call, sheet.stored(tiles, store, pixel), rule);
+        let rule = rule.map(|OnCard { value: stored, blanks }| {
+            let part = ((stored as usize - 1) * 49_152, 49_152);
+            OnCard { value: part, blanks }
+        });
+        let OnCard { value: (offset, length), .. } = self.on_card("tile", call, library, rule)?;
+        stored.map(|OnCard { value, blanks }| OnCard { value: (value, offset, length), blanks })
     }
 
     pub fn bands(
@@ -83,20 +97,25 @@ impl Ask {
         tiles: Tiles,
         store: &[u8],
         pixel: Pixel,
-    ) -> Answer<Bands> {
+    ) -> Answer<OnCard<Bands>> {
         let call = || {
             let bytes = store.len();
             format!("{} bands({tiles:?}, {bytes}, {pixel:?})", shown(sheet))
         };
         let rule =
             read(sheet).and_then(|card| rule::bands(&card, tiles.index, tiles.count, store, pixel));
-        self.same("bands", call, sheet.bands(tiles, store, pixel), rule)
+        self.on_card("bands", call, sheet.bands(tiles, store, pixel), rule)
     }
 
-    pub fn window(&mut self, sheet: &Sheet, tiles: Tiles, window: Window) -> Answer<Option<u64>> {
+    pub fn window(
+        &mut self,
+        sheet: &Sheet,
+        tiles: Tiles,
+        window: Window,
+    ) -> Answer<OnCard<Option<u64>>> {
         let call = || format!("{} window({tiles:?}, {window:?})", shown(sheet));
         let rule =
             read(sheet).and_then(|card| rule::window(&card, tiles.index, tiles.count, window));
-        self.same("window", call, sheet.window(tiles, window), rule)
+        self.on_card("window", call, sheet.window(tiles, window), rule)
     }
 }

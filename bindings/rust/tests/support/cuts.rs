@@ -3,19 +3,21 @@
 //! The place is the rule's, worked out from the first pixel alone and never rounded.
 
 use super::ask_sheet::shown;
+use super::blanks::pad_some;
 use super::make::{all_chart, card, pixel, record, with_edges};
 use super::random::Random;
 use super::PAIRS;
 use crate::rule;
-use fordcask::{Card, Pair, Pixel, Place, Position, Refusal, Series, Sheet};
+use fordcask::{Card, OnCard, Pair, Pixel, Place, Position, Refusal, Series, Sheet};
 
-/// How the calls of the later cards ended.
+/// How the calls of the later cards ended, and how many were answered on a card with blanks.
 #[derive(Default, Debug, PartialEq)]
 pub struct Ends {
     pub lists: u64,
     pub answered: u64,
     pub outside: u64,
     pub padding: u64,
+    pub with_blanks: u64,
 }
 
 impl Ends {
@@ -24,6 +26,7 @@ impl Ends {
         self.answered += other.answered;
         self.outside += other.outside;
         self.padding += other.padding;
+        self.with_blanks += other.with_blanks;
     }
 }
 
@@ -96,10 +99,11 @@ pub fn walk(pair: Pair, series: Series, cards: &[Vec<u8>], first: Pixel) -> Ends
     let sheets = || cards.iter().map(|card| Sheet { series, card });
     let head = sheets().next().expect("a first card");
     let head_card = rule::read(series, head.card).expect("an accepted card");
-    let place = rule::place(&head_card, first).expect("a pixel of the tiles");
-    let Ok(start) = head.position_in(pair, first) else {
+    let place = rule::place(&head_card, first).expect("a pixel of the tiles").value;
+    let Ok(OnCard { value: start, blanks }) = head.position_in(pair, first) else {
         return ends;
     };
+    assert_eq!(blanks, head_card.blanks, "blanks: {}", shown(&head));
     assert!(near_place(pair, series, place, start), "{pair:?} {} {first:?}", shown(&head));
     ends.lists += 1;
     let mut last = start;
@@ -107,13 +111,17 @@ pub fn walk(pair: Pair, series: Series, cards: &[Vec<u8>], first: Pixel) -> Ends
         let call =
             || format!("{pair:?} {} from {}, {first:?}, {last:?}", shown(&sheet), shown(&head));
         let card = rule::read(series, sheet.card).expect("an accepted card");
+        let blanks = card.blanks;
         match sheet.pixel_in(pair, last) {
             Ok(found) => {
                 ends.answered += 1;
-                let found_place = rule::place(&card, found);
-                assert_eq!(found_place, Ok(place), "place: {}", call());
-                assert_eq!(sheet.position_in(pair, found), Ok(start), "position: {}", call());
-                last = sheet.position_in(pair, found).expect("a position");
+                ends.with_blanks += u64::from(blanks > 0);
+                assert_eq!(found.blanks, blanks, "blanks: {}", call());
+                let found_place = rule::place(&card, found.value);
+                assert_eq!(found_place, Ok(OnCard { value: place, blanks }), "place: {}", call());
+                let position = sheet.position_in(pair, found.value);
+                assert_eq!(position, Ok(OnCard { value: start, blanks }), "position: {}", call());
+                last = position.expect("a position").value;
             }
             Err(refusal) => refused(&card, place, refusal, &mut ends, call()),
         }
@@ -122,13 +130,13 @@ pub fn walk(pair: Pair, series: Series, cards: &[Vec<u8>], first: Pixel) -> Ends
 }
 
 /// 12 exactly where no pixel of the card's tiles has the place, else 13 and a padding pixel.
-fn refused(card: &Card, place: Place, refusal: Refusal, ends: &mut Ends, call: String) {
-    let number = match pixel_with(card, place) {
+fn refused(card: &OnCard<Card>, place: Place, refusal: Refusal, ends: &mut Ends, call: String) {
+    let number = match pixel_with(&card.value, place) {
         None => 12,
         Some(_) => 13,
     };
     assert_eq!(refusal, Refusal { number, at: 0 }, "refusal: {call}");
-    match pixel_with(card, place) {
+    match pixel_with(&card.value, place) {
         None => ends.outside += 1,
         Some(pixel) => {
             ends.padding += 1;
@@ -140,13 +148,35 @@ fn refused(card: &Card, place: Place, refusal: Refusal, ends: &mut Ends, call: S
 
 /// A list of 2 to 8 cards round a pixel of the first, in each pair alone; a card may be repeated.
 pub fn list(random: &mut Random, series: Series, ends: &mut Ends) {
+    if let Some((cards, first)) = list_round(random, series) {
+        walk_pairs(series, &cards, first, ends);
+    }
+}
+
+/// The same with blanks put into most of the cards (02, E2).
+pub fn padded_list(random: &mut Random, series: Series, ends: &mut Ends) {
+    if let Some((mut cards, first)) = list_round(random, series) {
+        for card in cards.iter_mut() {
+            pad_some(random, card);
+        }
+        walk_pairs(series, &cards, first, ends);
+    }
+}
+
+/// The calls down one list in each pair alone.
+fn walk_pairs(series: Series, cards: &[Vec<u8>], first: Pixel, ends: &mut Ends) {
+    let [corner, centre] = PAIRS.map(|pair| walk(pair, series, cards, first));
+    assert_eq!(corner, centre, "the place alone tells how each call ends");
+    ends.add(&corner);
+}
+
+/// Cards round a pixel of the first, where its tiles have it.
+fn list_round(random: &mut Random, series: Series) -> Option<(Vec<Vec<u8>>, Pixel)> {
     let record = record(random, series, 4);
     let first = pixel(random, &record);
     let mut cards = vec![card(series, &record)];
     let read = rule::read(series, &cards[0]).expect("an accepted card");
-    let Ok(place) = rule::place(&read, first) else {
-        return;
-    };
+    let place = rule::place(&read, first).ok()?.value;
     for _ in 0..random.between(1, 7) {
         let next = match random.below(8) {
             0 => random.pick(&cards.iter().collect::<Vec<_>>()).clone(),
@@ -158,27 +188,32 @@ pub fn list(random: &mut Random, series: Series, ends: &mut Ends) {
         };
         cards.push(next);
     }
-    let [corner, centre] = PAIRS.map(|pair| walk(pair, series, &cards, first));
-    assert_eq!(corner, centre, "the place alone tells how each call ends");
-    ends.add(&corner);
+    Some((cards, first))
 }
 
-/// Every pixel of 4 by 5 tiles asked of 4 by 4, one down and two across; 12 outside these.
+/// Every pixel of 4 by 5 tiles asked of 4 by 4, one down and two across; 12 outside these. Each
+/// card tells its own total of blanks (02, E2).
 pub fn common_pixels(pair: Pair, head: &Sheet, other: &Sheet) -> u64 {
+    let [head_total, total] = [head, other].map(|sheet| {
+        let read = rule::read(sheet.series, sheet.card);
+        read.expect("an accepted card").blanks
+    });
     let mut common = 0;
-    for row in 0..512 {
-        for column in 0..640 {
-            let position = head.position_in(pair, Pixel { row, column }).expect("a pixel");
-            let expected = Pixel { row: row - 128, column: column - 256 };
-            let inside = expected.row >= 0 && expected.column >= 0;
-            let found = other.pixel_in(pair, position);
-            let right = if inside { Ok(expected) } else { Err(Refusal { number: 12, at: 0 }) };
-            assert_eq!(found, right, "{pair:?} {row} {column}");
-            if inside {
-                common += 1;
-                let again = other.position_in(pair, expected);
-                assert_eq!(again, Ok(position), "{pair:?} {row} {column}");
-            }
+    for (row, column) in (0..512).flat_map(|row| (0..640).map(move |column| (row, column))) {
+        let there = head.position_in(pair, Pixel { row, column }).expect("a pixel");
+        let position = there.value;
+        assert_eq!(there.blanks, head_total, "{pair:?} {row} {column}");
+        let expected = Pixel { row: row - 128, column: column - 256 };
+        let inside = expected.row >= 0 && expected.column >= 0;
+        let found = other.pixel_in(pair, position);
+        let right = OnCard { value: expected, blanks: total };
+        let right = if inside { Ok(right) } else { Err(Refusal { number: 12, at: 0 }) };
+        assert_eq!(found, right, "{pair:?} {row} {column}");
+        if inside {
+            common += 1;
+            let again = other.position_in(pair, expected);
+            let right = OnCard { value: position, blanks: total };
+            assert_eq!(again, Ok(right), "{pair:?} {row} {column}");
         }
     }
     common

@@ -1,5 +1,6 @@
 //! Damage to the bytes of a card.
 
+use super::blanks::{leading_blanks, BLANK, NUMBERS};
 use super::random::Random;
 
 /// Offset and width of each subfield (01, "The image card, 98 bytes").
@@ -66,4 +67,23 @@ pub fn change_some(random: &mut Random, card: &mut [u8]) {
         let subfield = random.pick(&SUBFIELDS);
         change_subfield(random, card, subfield);
     }
+}
+
+/// One byte of a number subfield: a blank mostly, else a zero, another digit or any byte (02, E2).
+pub fn blank_damage(random: &mut Random, card: &mut [u8]) {
+    let (at, width) = random.pick(&NUMBERS);
+    let leading = leading_blanks(card, (at, width));
+    // at the end of the blanks that lead it, in many cases
+    let place = match random.below(3) {
+        0 => leading.min(width - 1),
+        1 => leading.saturating_sub(1),
+        _ => random.below(width),
+    };
+    card[at + place] = match random.below(8) {
+        0..=3 => BLANK,
+        4 => b'0',
+        5 => random.pick(b"123456789"),
+        6 => random.pick(b"\t\n\x00\x1F!/:\xA0x+-."),
+        _ => random.byte(),
+    };
 }

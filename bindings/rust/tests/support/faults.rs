@@ -37,7 +37,9 @@ fn spoil_bytes(random: &mut Random, fault: usize, card: &mut Vec<u8>) {
         5 if random.once_in(2) => card.push(b'N'),
         5 => card.truncate(random.pick(&[0, 1, 97])),
         6 => card[0] = b'4',
-        7 => card[44 + random.below(6)] = random.pick(b"x -\x00\xFF"),
+        // a blank is wrong behind the first digit (02, E2)
+        7 if random.once_in(4) => card[45 + random.below(5)] = b' ',
+        7 => card[44 + random.below(6)] = random.pick(b"x-\x00\xFF"),
         8 => card[97] = b'X',
         9 if random.once_in(2) => card[8] = if card[8] == b'1' { b'3' } else { b'1' },
         9 => card[16] = if card[16] == b'1' { b'3' } else { b'1' },

@@ -8,6 +8,8 @@ pub mod ask_all;
 pub mod ask_lists;
 pub mod ask_pairs;
 pub mod ask_sheet;
+pub mod blank_faults;
+pub mod blanks;
 pub mod contain;
 pub mod cuts;
 pub mod damage;
@@ -16,10 +18,12 @@ pub mod faults;
 pub mod index;
 pub mod make;
 pub mod random;
+pub mod raw_blocks;
 
 use fordcask::{Pair, Series};
 
 pub use ask::{Ask, RETIRED};
+pub use blanks::{no_blanks, or_zero};
 pub use random::{seeded, Random};
 
 /// Both pairs of questions (02, E8).

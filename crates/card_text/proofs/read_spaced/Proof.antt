@@ -20,11 +20,11 @@ start c = c .before .before .before .before .before
 not-polar : (c : tie.Else1) → isPolar (c .before .before .before .args .series .zone) ≡ false
 not-polar c = sym (c .before .is-polar .ensures) ∙ c .if1 .left
 
-walked : (c : tie.After-fields-in) {v : Verdict} → c .fields-in .result .verdict ≡ v → walk layout (start c .args .bytes .now) ≡ v
+walked : (c : tie.After-fields-in) {v : Verdict} → c .fields-in .result .verdict ≡ v → walk (start c .args .fill) layout (start c .args .bytes .now) ≡ v
 walked c e = sym (c .fields-in .ensures .walks) ∙ e
 
 past : (c : tie.After-fields-in) {v : Verdict} → c .fields-in .result .verdict ≡ v
-    → readIn (start c .args .series) (SpacingAnswer.Constants (start c .args .a) (start c .args .b)) (start c .args .bytes .now)
+    → readIn (start c .args .fill) (start c .args .series) (SpacingAnswer.Constants (start c .args .a) (start c .args .b)) (start c .args .bytes .now)
     ≡ onVerdict v refusedCard (withValues (start c .args .series) (start c .args .a) (start c .args .b) (start c .args .bytes .now))
 unfolding readIn
 past c e = rw (not-polar (c .before .before), eq-eqb (length (start c .args .bytes .now)) 98 (c .before .if2 .left), walked c e)
@@ -47,7 +47,7 @@ read-values-requires c κs =
     let x = c .before .before .before in
     let s = start x in
     let walks = walked x (c .enum-told .given .1) in
-    (s .pre .0, (s .pre .1, record { long = x .before .if2 .left; walks = walks; kept = x .fields-in .ensures .kept walks }))
+    (s .pre .0, (s .pre .1, record { fill = s .args .fill; long = x .before .if2 .left; walks = walks; kept = x .fields-in .ensures .kept walks }))
 
 returns-3 : tie.Need-returns-3
 returns-3 c = rw (past (c .before .before .before .before) (c .before .enum-told .given .1)) (c .read-values .ensures)

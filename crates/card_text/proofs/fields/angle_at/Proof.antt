@@ -33,9 +33,12 @@ returns c =
     let em = rw same at (t .before .digits-at .ensures) in
     let et = rw same at (t .digits-at2 .ensures) in
     let eh = rw same at (h .digits-at3 .ensures) in
-    field-at (sub (a .o) (a .w + 8) (Kind.Angle (a .w) (a .limit))) s (a .before .verdict) _ _ _ _ (c .joined .ensures)
-    (rw same (angle-laid (a .w) (a .limit) (part (a .o) (a .w + 8) s) ed em et eh))
-    (λ e. let r = angle-right (a .w) (a .limit) (part (a .o) (a .w + 8) s) ed em et eh e in (rw same (r .0), rw (c .before .shifted-by .ensures, same) (r .1)))
+    record {
+      either = λ fill. field-at fill (sub (a .o) (a .w + 8) (Kind.Angle (a .w) (a .limit))) s (a .before .verdict) _ _ _ _ (c .joined .ensures)
+          (rw same (angle-laid (a .w) (a .limit) (part (a .o) (a .w + 8) s) ed em et eh))
+          (λ e. let r = angle-right (a .w) (a .limit) (part (a .o) (a .w + 8) s) ed em et eh e in
+          (rw same (r .0), rw (c .before .shifted-by .ensures, same) (r .1)));
+    }
 
 pub angle-at-spec : {M : Type 1} → statement M
 angle-at-spec =

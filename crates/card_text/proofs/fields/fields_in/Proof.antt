@@ -78,13 +78,14 @@ returns c =
     let brv = lso .before .before in
     let arv = brv .before in
     let str = arv .before in
-    let passed : Passed (str .before .before .args .s .now) layout Verdict.Accepted _ _ =
+    let fill = str .before .before .args .fill in
+    let passed : Passed fill (str .before .before .args .s .now) layout Verdict.Accepted _ _ =
     str .number-at .ensures ▸ arv .number-at2 .ensures ▸ brv .number-at3 .ensures ▸
-    lso .angle-at .ensures ▸ pso .angle-at2 .ensures ▸
+    lso .angle-at .ensures .either fill ▸ pso .angle-at2 .ensures .either fill ▸
     nul .number-at4 .ensures ▸ nus .number-at5 .ensures ▸ nll .number-at6 .ensures ▸ nls .number-at7 .ensures ▸
     nfl .number-at8 .ensures ▸ nfc .number-at9 .ensures ▸ pnc .number-at10 .ensures ▸ pnl .number-at11 .ensures ▸
     cod .number-at12 .ensures ▸ rod .number-at13 .ensures ▸ por .number-at14 .ensures ▸ pcb .number-at15 .ensures ▸ pvb .number-at16 .ensures ▸
-    bad .name-at .ensures ▸ c .flag-at .ensures ▸ end in
+    bad .name-at .ensures .either fill ▸ c .flag-at .ensures .either fill ▸ end in
     record { walks = passed-walk passed; kept = passed-values passed }
 
 pub fields-in-spec : {M : Type 1} → statement M

@@ -24,8 +24,10 @@ returns : tie.Need-returns
 returns c =
     let a = c .before .before .before .args in
     let b : getD (part (a .o) 1 (a .s .now)) 0 0 ≡ getD (a .s .now) (a .o) 0 = byte-in (a .o) 0 1 (a .s .now) (omega arith) ∙ rw add-zero in
-    field-at (sub (a .o) 1 Kind.Flag) (a .s .now) (a .before .verdict) _ _ _ _ (c .joined .ensures) refl
-    (λ e. (rw b, rw b (one-or-none (eqb (getD (a .s .now) (a .o) 0) 89))))
+    record {
+      either = λ fill. field-at fill (sub (a .o) 1 Kind.Flag) (a .s .now) (a .before .verdict) _ _ _ _ (c .joined .ensures) refl
+          (λ e. (rw b, rw b (one-or-none (eqb (getD (a .s .now) (a .o) 0) 89))));
+    }
 
 pub flag-at-spec : {M : Type 1} → statement M
 flag-at-spec = tie.close (tie.spec (λ c. search needs) (λ c. search needs) (λ c κs. search needs) returns)

@@ -11,8 +11,10 @@ use Rattle.card_text.proofs.fields.name_at.Tie as tie
 returns : tie.Need-returns
 returns c =
     let a = c .before .before .before .before .args in
-    field-at (sub (a .o) 12 Kind.Name) (a .s .now) (a .before .verdict) _ _ _ _ (c .joined .ensures)
-    (c .before .name-laid .ensures ∙ ap nameLaid (c .before .before .bytes-at .ensures .0)) (λ e. (refl, refl))
+    record {
+      either = λ fill. field-at fill (sub (a .o) 12 Kind.Name) (a .s .now) (a .before .verdict) _ _ _ _ (c .joined .ensures)
+          (c .before .name-laid .ensures ∙ ap nameLaid (c .before .before .bytes-at .ensures .0)) (λ e. (refl, refl));
+    }
 
 pub name-at-spec : {M : Type 1} → statement M
 name-at-spec = tie.close (tie.spec (λ c κs. search needs) (λ c κs. search needs) (λ c κs. search needs) returns)

@@ -1,4 +1,4 @@
--- Where each byte is a digit, the value and its test are those of the number. Assumes nothing.
+-- Where the bytes are laid out as a number, the value and its test are those of the number. Assumes nothing.
 use mathlib.Core.Path.{ap}
 use mathlib.Core.Bool.{_&&_}
 use Prim.Native.Nat.{ℕ}
@@ -12,10 +12,11 @@ use Rattle.card_text.proofs.fields.number_at.Tie as tie
 
 returns : tie.Need-returns
 returns c =
-    let a = c .before .before .before .before .before .args in
-    let n = c .before .before .before .digits-at .ensures in
-    field-at (sub (a .o) (a .w) (Kind.Number (a .low) (a .high))) (a .s .now) (a .before .verdict) _ _ _ _ (c .joined .ensures) (n .tested)
+    let x = c .before .before .before in
+    let a = x .before .before .before .args in
+    let n = rw (x .before .bytes-at .ensures .0) at (x .number-of .ensures) in
+    field-at (a .fill) (sub (a .o) (a .w) (Kind.Number (a .low) (a .high))) (a .s .now) (a .before .verdict) _ _ _ _ (c .joined .ensures) (n .tested)
     (λ e. (ap (λ (v : ℕ). leb (a .low) v && leb v (a .high)) (n .read e), n .read e))
 
 pub number-at-spec : {M : Type 1} → statement M
-number-at-spec = tie.close (tie.spec (λ c κs. search needs) (λ c κs. search needs) returns)
+number-at-spec = tie.close (tie.spec (λ c κs. search needs) (λ c κs. search needs) (λ c κs. search needs) returns)

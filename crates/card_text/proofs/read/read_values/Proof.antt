@@ -11,9 +11,12 @@ use Rattle.whole.proofs.Machine.{result-is}
 use Rattle.whole.specs.declared.Counted.{Counted}
 use Rattle.arc.specs.Refusals.{refusal}
 use Rattle.card.specs.declared.Reading.{Reading}
+use Rattle.card.specs.Layout.{layout}
+use Rattle.card.specs.Blanks.{totalBlanks}
 use Rattle.card.specs.Read.{acceptedCard, refusedCard, withOrigin, withValues}
 use Rattle.card_text.specs.StepsRead.{foundAt, tileAt, recordIn, cardFrom}
 use Rattle.card_text.proofs.Values.{pso-kept, lso-kept, north-high, east-high, values-are, extents-are}
+use Rattle.card_text.proofs.Blanks.{lead-total}
 use borrow.Author.Needs.{needs}
 use Rattle.card_text.proofs.read.read_values.Statement.{statement}
 use Rattle.card_text.proofs.read.read_values.Tie as tie
@@ -68,6 +71,7 @@ made c =
     acceptedCard
     (cardFrom (s .args .series) (s .args .a) (s .args .b)
     (northward (eastward c) .before .north .given .0 .0) (eastward c .before .east .given .0 .0) (c .before .record-in .result))
+    (totalBlanks layout (s .args .s .now))
 
 answer : (c : tie.After-extents-hold) {ok : Bool} → c .extents-hold .result ≡ ok
     → asked (start (northward (eastward c))) ≡ cond ok (made c) (refusedCard (refusal 11))
@@ -127,8 +131,16 @@ card-of-requires c κs =
     let s = start (northward east) in
     (omega (arith, rows (northward east), s .pre .1 .0 .most), omega (arith, columns east, s .pre .0 .most))
 
+blanks-in-requires : tie.Need-blanks-in-requires
+blanks-in-requires c κs = start (northward (eastward (c .before .before))) .pre .1 .1 .long
+
 returns-5 : tie.Need-returns-5
-returns-5 c = let x = c .before .before in rw (answer x (not-false (x .extents-hold .result) (c .before .if2 .left))) (ap acceptedCard (c .card-of .ensures))
+returns-5 c =
+    let x = c .before .before .before in
+    let s = start (northward (eastward x)) in
+    let w = s .pre .1 .1 in
+    rw (answer x (not-false (x .extents-hold .result) (c .before .before .if2 .left)))
+    (ap₂ acceptedCard (c .before .card-of .ensures) (c .blanks-in .ensures ∙ lead-total (w .fill) (s .args .s .now) (w .long) (w .walks)))
 
 pub read-values-spec : {M : Type 1} → statement M
 read-values-spec =
@@ -137,4 +149,4 @@ read-values-spec =
     (λ c. search needs) (λ c. search needs) (λ c κs. search needs) (λ c κs. search needs) returns-2 (λ c. search needs) tile-of-requires-2
     (λ c. search needs) (λ c. search needs) (λ c κs. search needs) (λ c κs. search needs) returns-3 cast-difference (λ c. search needs)
     (λ c κs. search needs) cast-difference-3 (λ c. search needs) (λ c κs. search needs) (λ c κs. search needs) (λ c κs. search needs)
-    (λ c κs. search needs) (λ c κs. search needs) returns-4 card-of-requires returns-5)
+    (λ c κs. search needs) (λ c κs. search needs) returns-4 card-of-requires blanks-in-requires returns-5)

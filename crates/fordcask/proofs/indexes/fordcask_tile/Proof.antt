@@ -1,7 +1,8 @@
 -- A stored number's bytes begin that many tiles into the store, and lie in it. Assumes nothing.
-use mathlib.Core.Path.{_≡_, sym, ap, _∙_}
+use mathlib.Core.Path.{_≡_, sym, ap, ap₂, _∙_}
 use native.Mathlib.Omega.{arith}
 use Rattle.card.specs.declared.Card.{Card}
+use Rattle.card.specs.declared.Reading.{Reading}
 use Rattle.card.specs.Read.{readOf, onCard}
 use Rattle.tiles.specs.declared.NumberAnswer.{NumberAnswer}
 use Rattle.tiles.specs.LookUp.{numberOf}
@@ -50,11 +51,14 @@ mul-t18 c =
 returns : tie.Need-returns
 returns c =
     let s = c .before .before .before .before .before .before .before .before .before .before .before in
-    ap tileParts (sym (c .before .n .given .1) ∙ told (c .before .before .before))
+    ap₂ tileParts (ap (λ (x : Reading). x .blanks) (c .before .before .before .before .before .before .before .read-card .ensures))
+    (sym (c .before .n .given .1) ∙ told (c .before .before .before))
 
 returns-2 : tie.Need-returns-2
 returns-2 c =
-    c .no-tile .ensures ∙ ap tileParts (sym (c .before .before .e .given .1) ∙ told (c .before .before .before .before))
+    c .no-tile .ensures
+    ∙ ap₂ tileParts (ap (λ (x : Reading). x .blanks) (c .before .before .before .before .before .before .before .before .read-card .ensures))
+    (sym (c .before .before .e .given .1) ∙ told (c .before .before .before .before))
 
 returns-3 : tie.Need-returns-3
 returns-3 c = rw (← c .before .before .before .before .before .read-card .ensures, c .before .before .verdict .given .1) (c .no-tile2 .ensures)

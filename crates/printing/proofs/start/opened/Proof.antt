@@ -9,7 +9,7 @@ use Rattle.printing.proofs.start.opened.Tie as tie
 returns : tie.Need-returns
 returns c = let t = c .before .before in
     let a = t .before .before .before .before .before .before .args in
-    rw (t .before .before .before .enum-told .given .1) (follows (put-if (t .put-bytes .ensures) (omega arith)) (a .card) (a .next))
+    rw (t .before .before .before .enum-told .given .1) (follows (put-if (t .put-bytes .ensures) (omega arith)) (a .card) (a .blanks) (a .next))
 
 returns-2 : tie.Need-returns-2
 returns-2 c = let p = c .before .before .before in
