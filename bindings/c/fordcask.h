@@ -32,8 +32,9 @@
    NUS, NLL, NLS, NFL, NFC, PNC and PNL; one of blanks alone is refused with 7,
    and so is a blank after a digit or in any other subfield but TIF, where it
    is 8. Each answer on a card has the total of such blanks in `blanks`, 0..37;
-   like every value it is 0 in a refusal, the card's own or the question's.
-   Writing uses zeros.
+   like every value it is 0 in a refusal, the card's own or the question's. A
+   list that is answered has it also where single entries are refused. Writing
+   uses zeros.
 
    This header breaks callers of earlier ones, in three ways:
    - The four functions fordcask_position, fordcask_pixel, fordcask_positions
@@ -46,12 +47,14 @@
      were handed in, that is a struct fordcask_series by value; fordcask_cover
      and fordcask_rectangle take the factor right after the scale. With the
      factor 1 each answers as before the factor.
-   - Each block answered on a card ends with `blanks`, so it has grown. The five
-     functions that answered a struct fordcask_refusal on a card
-     (fordcask_index_check and those on lists) answer a struct
-     fordcask_verdict, and fordcask_overview_pixel a struct
-     fordcask_overview_pixel. Cards that were refused with 7 for such blanks
-     alone are read; fordcask_read_strict still refuses them.
+   - Each block answered on a card ends with `blanks`, so it has grown: what
+     was compiled with an older header still links and goes wrong, and must be
+     compiled again. The five functions that answered a struct
+     fordcask_refusal on a card (fordcask_index_check and those on lists)
+     answer a struct fordcask_verdict, and fordcask_overview_pixel a struct
+     fordcask_overview_pixel, with the totals of both cards. Cards that were
+     refused with 7 for such blanks alone are read; fordcask_read_strict still
+     refuses them.
 
    A and B are the pixels in the circle along a parallel and along a meridian.
    A tile is 128 by 128 pixels. The chart is a rectangle of the tiles' pixels;
@@ -322,8 +325,8 @@ struct fordcask_card fordcask_read_card(struct fordcask_series series,
                                         const uint8_t *card, size_t card_len);
 
 /* The same with no blank before a digit: such a blank is 7 at its subfield,
-   in its place among the refusals, so 8 of a later subfield, 9, 10 and 11 do
-   not come before it. A card in which none stands is answered as by
+   which comes before that subfield's 8, before 7 and 8 of every later one and
+   before 9, 10 and 11. A card in which none stands is answered as by
    fordcask_read_card; blanks is 0. */
 struct fordcask_card fordcask_read_strict(struct fordcask_series series,
                                           const uint8_t *card,

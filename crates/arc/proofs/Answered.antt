@@ -23,7 +23,7 @@ unitsIn [] = true
 unitsIn (r ∷ rs) = (leb 161 (r .unit) && leb (r .unit) 782) && unitsIn rs
 
 abbrev UnitOf : Option Row → Type 0
-UnitOf (some r) = SpacingUnit (r .unit)
+UnitOf (some r) = (161 ≤ r .unit) × (r .unit ≤ 782)
 UnitOf none = Unit {0}
 
 unit-in : (rs : List Row) (zone : ℕ) → unitsIn rs ≡ true → UnitOf (rowIn rs zone)
@@ -33,7 +33,7 @@ unit-in (r ∷ rs) zone e =
   where
     go : (x y t : Bool) → (x ≡ true → 161 ≤ r .unit) → (y ≡ true → r .unit ≤ 782) → (x && y) && unitsIn rs ≡ true
         → (unitsIn rs ≡ true → UnitOf (rowIn rs zone)) → UnitOf (cond t (some r) (rowIn rs zone))
-    go true true true f g p k = record { least = f refl; most = g refl }
+    go true true true f g p k = (f refl, g refl)
     go true true false f g p k = k p
     go true false t f g p k = let z : _≡_ {A = ℕ} 0 1 = cc in absurd (omega arith)
     go false y t f g p k = let z : _≡_ {A = ℕ} 0 1 = cc in absurd (omega arith)
@@ -60,21 +60,22 @@ answered-from series a b e = go (overviewScale (series .scale) (series .factor))
     go (ScaleAnswer.Refused r) o p q k = let z : _≡_ {A = ℕ} 0 1 = cc in absurd (omega arith)
 
 -- its unit is one of the table's
-unit-of : {series : Series} {a b : ℕ} (f : From series a b) → SpacingUnit (f .of-row .unit)
+unit-of : {series : Series} {a b : ℕ} (f : From series a b) → (161 ≤ f .of-row .unit) × (f .of-row .unit ≤ 782)
 unit-of {series} f = let u : UnitOf (some (f .of-row)) = rw (f .is-row) at (unit-in table (series .zone) refl) in u
 
 pub answered-grids : GridsIs
 answered-grids series a b e =
     let f = answered-from series a b e in
+    let u = unit-of f in
     record {
-      columns = rw (f .is-a) (grid (f .of-row .unit) (f .t) (f .of .served) (unit-of f));
+      columns = rw (f .is-a) (grid (f .of-row .unit) (f .t) (f .of .served) (record { least = omega arith; most = u .1 }));
       rows = rw (f .is-b) (grid rowUnit (f .t) (f .of .served) (record { least = omega arith; most = omega arith }));
     }
 
 pub answered-least : (series : Series) (a b : ℕ) → spacingOf series ≡ SpacingAnswer.Constants a b → (4608 ≤ a) × (20480 ≤ b)
 answered-least series a b e =
     let f = answered-from series a b e in
-    (rw (f .is-a) (columns-least (f .of-row .unit) (f .t) (unit-of f) (f .of .served)), rw (f .is-b) (rows-least (f .t) (f .of .served)))
+    (rw (f .is-a) (columns-least (f .of-row .unit) (f .t) (unit-of f .0) (f .of .served)), rw (f .is-b) (rows-least (f .t) (f .of .served)))
 
 -- B alone
 pub rows-from : (s factor b : ℕ) → rowsOf s factor ≡ ConstantAnswer.Pixels b → (t : ℕ) × OverviewOf s factor t × (b ≡ spacingAt rowUnit t)

@@ -101,7 +101,7 @@ falls u s t w g k h =
 pub columns-least : ColumnsAtLeast
 unfolding q
 columns-least u s w g =
-    let l : 9 ≤ q u s g = at-least u s g 9 (omega (arith, w .least, scale-most s g)) in
+    let l : 9 ≤ q u s g = at-least u s g 9 (omega (arith, w, scale-most s g)) in
     let e = is-q u s g in
     omega arith
 

@@ -84,7 +84,7 @@ spacingTold p = record { number = p .number; place = p .at; values = pos (p .a) 
 -- ---- what a spacing is held to, for every unit and scale: proved in proofs/Spaced.antt, and `GridsIs` in proofs/Answered.antt
 
 pub record SpacingUnit (u : ℕ) : Type 0 where
-  pub least : 161 ≤ u
+  pub least : 1 ≤ u
   pub most : u ≤ 782
 
 -- a multiple of 512, below H, not below the exact value u × 512 × 1,000,000 / S and less than 512 above it
@@ -116,9 +116,9 @@ SpacingIs = (u s : ℕ) → SpacingUnit u → isScale s ≡ true → Spaced u s 
 abbrev pub SpacingFalls : Type 0
 SpacingFalls = (u s t : ℕ) → SpacingUnit u → isScale s ≡ true → isScale t ≡ true → s ≤ t → spacingAt u t ≤ spacingAt u s
 
--- A is at least 4,608
+-- A is at least 4,608: no unit of the table is below 161
 abbrev pub ColumnsAtLeast : Type 0
-ColumnsAtLeast = (u s : ℕ) → SpacingUnit u → isScale s ≡ true → 4608 ≤ spacingAt u s
+ColumnsAtLeast = (u s : ℕ) → 161 ≤ u → isScale s ≡ true → 4608 ≤ spacingAt u s
 
 -- B is at least 20,480
 abbrev pub RowsAtLeast : Type 0

@@ -1,5 +1,5 @@
 -- The total of blanks before the digits of a card's numbers, and how a question on a card passes it on (02, E2). Definitions only.
---     totalBlanks layout s       the total of blanks
+--     totalBlanks layout s       the total of blanks that the numbers start with; an accepted card has none in a subfield of one digit
 --     withTotal total r          a report of a question on a card as it was read: the total is one value more
 use Prim.Native.Nat.{ℕ, _+_}
 use mathlib.Core.List.{List, [], _∷_, _++_}

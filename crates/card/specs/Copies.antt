@@ -66,7 +66,7 @@ SameIn (f ∷ fs) s t = (bytesOf f s ≡ bytesOf f t) × SameIn fs s t
 
 abbrev pub BytesAlike : Type 0
 BytesAlike =
-    (series : Series) (s t : List ℕ) (j k : Card) (x y : ℕ) → readOf series s ≡ acceptedCard j x → readOf series t ≡ acceptedCard k y
+    (series : Series) (s t : List ℕ) (j k : Card) (total total′ : ℕ) → readOf series s ≡ acceptedCard j total → readOf series t ≡ acceptedCard k total′
     → SameIn (LSO ∷ PSO ∷ NUL ∷ NUS ∷ NLL ∷ NLS ∷ NFL ∷ NFC ∷ []) s t → Copies j k
 
 -- ---- stored angles rounded again
@@ -94,6 +94,6 @@ PSOMoved s t = Moved (angleOf 2 (bytesOf PSO s)) (angleOf 2 (bytesOf PSO t))
 -- its LSO or PSO is not of the right kind or value
 abbrev pub MovedRefused : Type 0
 MovedRefused =
-    (series : Series) (s t : List ℕ) (k : Card) (blanks : ℕ) → readOf series s ≡ acceptedCard k blanks
+    (series : Series) (s t : List ℕ) (k : Card) (total : ℕ) → readOf series s ≡ acceptedCard k total
     → length t ≡ length s → SameIn others s t → LSOMoved s t ⊎ PSOMoved s t
     → readOf series t ≡ onVerdict (orElse (judgeField Fill.Blanks LSO t) (judgeField Fill.Blanks PSO t)) refusedCard (refusedCard (refusal 10))

@@ -91,15 +91,15 @@ noCard =
 
 -- and so many blanks were met
 abbrev pub acceptedCard : Card → ℕ → Reading
-acceptedCard k blanks = record { verdict = Verdict.Accepted; card = k; blanks = blanks }
+acceptedCard k total = record { verdict = Verdict.Accepted; card = k; blanks = total }
 
 abbrev pub refusedCard : Refusal → Reading
 refusedCard r = record { verdict = Verdict.Refused r; card = noCard; blanks = 0 }
 
 -- 11
 abbrev pub withExtents : Card → ℕ → Reading
-withExtents k blanks =
-    cond (extentsHold (k .a) (k .b) (k .n) (k .nul) (k .nus) (k .nll) (k .nls) (k .nfl) (k .nfc)) (acceptedCard k blanks) (refusedCard (refusal 11))
+withExtents k total =
+    cond (extentsHold (k .a) (k .b) (k .n) (k .nul) (k .nus) (k .nll) (k .nls) (k .nfl) (k .nfc)) (acceptedCard k total) (refusedCard (refusal 11))
 
 -- 10, 11
 abbrev pub withOrigin : Series → ℕ → ℕ → List ℕ → Option ℤ → Option ℤ → Reading

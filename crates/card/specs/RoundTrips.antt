@@ -2,7 +2,8 @@
 -- WriteBack.antt and Town.antt.
 --     recordOf k         the record that a card's value holds
 --     ReadsBack          reading what was written gives the record back, and meets no blanks
---     WritesBack         writing what was read gives the bytes back exactly where no blanks were met, and reading them the card; from 10,000 up
+--     WritesBack         writing what was read gives the bytes back exactly where no blanks were met, and what was written is read to the same card
+--                        with total 0; from 10,000 up
 --     WrittenScale       what was written has a scale from 10,000 up
 --     TownNotWritten     from 5,000 to 9,999 writing is refused with 24
 --     HeldNotWritten     so it is for what was read there
@@ -55,16 +56,16 @@ ReadsBack =
     → ReadBack series r (take 98 (outOf series r out))
 
 -- written into any output of 98 bytes or more, the total of blanks being 0 or not (02, E2)
-pub record WrittenBack (series : Series) (k : Card) (blanks : ℕ) (s out : List ℕ) : Type 0 where
+pub record WrittenBack (series : Series) (k : Card) (total : ℕ) (s out : List ℕ) : Type 0 where
   pub written : writeOf series (recordOf k) out ≡ Verdict.Accepted
-  pub same : take 98 (outOf series (recordOf k) out) ≡ s ↔ blanks ≡ 0
+  pub same : take 98 (outOf series (recordOf k) out) ≡ s ↔ total ≡ 0
   pub again : readOf series (take 98 (outOf series (recordOf k) out)) ≡ acceptedCard k 0
 
 -- from 10,000 up (02, E13)
 abbrev pub WritesBack : Type 0
 WritesBack =
-    (series : Series) (s : List ℕ) (k : Card) (blanks : ℕ) (out : List ℕ) → readOf series s ≡ acceptedCard k blanks → 10000 ≤ series .scale
-    → 98 ≤ length out → WrittenBack series k blanks s out
+    (series : Series) (s : List ℕ) (k : Card) (total : ℕ) (out : List ℕ) → readOf series s ≡ acceptedCard k total → 10000 ≤ series .scale
+    → 98 ≤ length out → WrittenBack series k total s out
 
 -- ---- the scales that are written (02, E13)
 
@@ -83,7 +84,7 @@ TownNotWritten = (series : Series) (r : Record) (out : List ℕ) → 5000 ≤ se
 -- what was read
 abbrev pub HeldNotWritten : Type 0
 HeldNotWritten =
-    (series : Series) (s : List ℕ) (k : Card) (blanks : ℕ) (out : List ℕ) → readOf series s ≡ acceptedCard k blanks → series .scale < 10000
+    (series : Series) (s : List ℕ) (k : Card) (total : ℕ) (out : List ℕ) → readOf series s ≡ acceptedCard k total → series .scale < 10000
     → NotWritten series (recordOf k) out
 
 -- ---- at every scale that is read, the town scales too: a card's text and its record (02, E13)
@@ -95,10 +96,10 @@ TextReadBack =
 
 abbrev pub ReadIsText : Type 0
 ReadIsText =
-    (series : Series) (s : List ℕ) (k : Card) (blanks : ℕ) → readOf series s ≡ acceptedCard k blanks
-    → cardText (k .a) (k .b) (recordOf k) ≡ s ↔ blanks ≡ 0
+    (series : Series) (s : List ℕ) (k : Card) (total : ℕ) → readOf series s ≡ acceptedCard k total
+    → cardText (k .a) (k .b) (recordOf k) ≡ s ↔ total ≡ 0
 
 abbrev pub TextIsRead : Type 0
 TextIsRead =
-    (series : Series) (s : List ℕ) (k : Card) (blanks : ℕ) → readOf series s ≡ acceptedCard k blanks
+    (series : Series) (s : List ℕ) (k : Card) (total : ℕ) → readOf series s ≡ acceptedCard k total
     → readOf series (cardText (k .a) (k .b) (recordOf k)) ≡ acceptedCard k 0

@@ -1,7 +1,7 @@
 -- Blanks before the digits of a card's numbers (02, E2), and 01's reading, which has none: what is claimed, proved in proofs/Strict.antt.
 --     OneDigit           one-digit subfields don't change
 --     DigitsAlone        a number's blanks count nothing: it is that of the digits after them
---     SameWithout        a card without blanks is read as 01 reads it, with total 0, accepted or refused
+--     SameWithout        a card none of whose numbers starts with a blank is read as 01 reads it, with total 0, accepted or refused
 --     StrictAccepts      what 01's reading accepts has no blanks, and is read to the same card
 --     TolerantAccepts    what is read with no blanks 01's reading accepts, to the same card
 --     RefusedNone        in a refusal the total is 0
@@ -26,14 +26,14 @@ OneDigit = (s : List ℕ) → length s ≡ 1 → numberLaid Fill.Blanks s ≡ nu
 abbrev pub DigitsAlone : Type 0
 DigitsAlone = (s : List ℕ) → number s ≡ number (drop (blanks s) s)
 
--- no blank before the first digit of any number; one elsewhere is refused by both
+-- no number, of one digit or more, starts with a blank; a blank elsewhere is refused by both
 abbrev pub SameWithout : Type 0
 SameWithout = (series : Series) (s : List ℕ) → totalBlanks layout s ≡ 0 → (readOf series s ≡ readStrict series s) × (readOf series s .blanks ≡ 0)
 
 abbrev pub StrictAccepts : Type 0
 StrictAccepts =
-    (series : Series) (s : List ℕ) (k : Card) (blanks : ℕ) → readStrict series s ≡ acceptedCard k blanks
-    → (blanks ≡ 0) × (readOf series s ≡ acceptedCard k 0)
+    (series : Series) (s : List ℕ) (k : Card) (total : ℕ) → readStrict series s ≡ acceptedCard k total
+    → (total ≡ 0) × (readOf series s ≡ acceptedCard k 0)
 
 abbrev pub TolerantAccepts : Type 0
 TolerantAccepts = (series : Series) (s : List ℕ) (k : Card) → readOf series s ≡ acceptedCard k 0 → readStrict series s ≡ acceptedCard k 0
@@ -43,4 +43,4 @@ RefusedNone = (fill : Fill) (series : Series) (s : List ℕ) (e : Refusal) → r
 
 -- ARV and BRV have 4 digits and 5 at least, PNC and PNL 3, the others 1: 4 + 3 + 2 × 3 + 4 × 5 + 2 × 2
 abbrev pub AtMost37 : Type 0
-AtMost37 = (series : Series) (s : List ℕ) (k : Card) (blanks : ℕ) → readOf series s ≡ acceptedCard k blanks → blanks ≤ 37
+AtMost37 = (series : Series) (s : List ℕ) (k : Card) (total : ℕ) → readOf series s ≡ acceptedCard k total → total ≤ 37

@@ -5,7 +5,7 @@
 --     extentsAt ..       the extents, n being counted from −B/512
 --     recordIn n m s     the record that a card's bytes hold
 --     cardFrom ..        the value of a card, of its record
---     Walked s values    the layout refuses nothing, whatever may fill its numbers, and these are its values
+--     Walked s values    the layout refuses nothing, for some fill of its numbers, and these are its values
 use mathlib.Core.Path.{_≡_}
 use Prim.Native.Nat.{ℕ, _*_, _/_}
 use mathlib.Core.List.{List}

@@ -66,7 +66,7 @@ fn skipped(fill: Fill, s: &[u8]) -> usize
 }
 
 // A number that starts with a blank.
-fn padded_of(fill: Fill, s: &[u8]) -> Digits
+fn past_blanks(fill: Fill, s: &[u8]) -> Digits
     requires { ⌜ 0 < length (now s) ⌝ ∗ ⌜ length (now s) ≤ 8 ⌝ }
     ensures { λ r. ⌜ NumberOf fill (now (s .entry)) r ⌝ }
 {
@@ -79,7 +79,7 @@ pub fn number_of(fill: Fill, s: &[u8]) -> Digits
     ensures { λ r. ⌜ NumberOf fill (now (s .entry)) r ⌝ }
 {
     if s[0] == 32 {
-        return padded_of(fill, s);
+        return past_blanks(fill, s);
     }
     text::digits_of(s)
 }

@@ -54,7 +54,7 @@ pub fn read_card(series: Series, bytes: &[u8]) -> Reading
     read_as(Fill::Blanks, series, bytes)
 }
 
-// Reads a card, in which none may, as in 01. Refuses the same.
+// Reads a card as 01 has it: no blank may stand before a number's digits. Refuses as `read_card`.
 pub fn read_strict(series: Series, bytes: &[u8]) -> Reading
     ensures { λ r. ⌜ r ≡ readStrict series (now (bytes .entry)) ⌝ }
 {

@@ -18,6 +18,7 @@ use Rattle.card.specs.Read.{readIn, readAs}
 use Rattle.card.specs.Write.{writeIn, writeOf, textFor, outAfter, outOf}
 
 -- 1, 2; cover 1, 4; rectangles 1, 4, 4, 16 (02, E3); alignment 1, 24, 2, 3, 4, 5; reading 1, 2, 3, 6, ..; writing 1, 24, 2, 3, 6, .. (24: 02, E13)
+-- reading is 01's with the fill of zeros, and E2's with blanks: in both the factor adds no condition
 pub record AsInDocument01 (s zone : ℕ) : Type 0 where
   pub rows : rowsOf s 1 ≡ rowsFor (chartScale s)
   pub spacing : spacingOf (chartSeries s zone) ≡ spacingFor (chartScale s) zone

@@ -36,7 +36,7 @@ pub extern "C" fn fordcask_read_card(series: Series, card: &[u8]) -> CardParts
     on_card::card_parts(card_text::read_card(series, card))
 }
 
-// Reads a card, in which none may, as in 01. Refuses the same.
+// Reads a card as 01 has it: no blank may stand before a number's digits. Refuses as `fordcask_read_card`.
 #[no_mangle]
 pub extern "C" fn fordcask_read_strict(series: Series, card: &[u8]) -> CardParts
     ensures { λ r. ⌜ r ≡ cardParts (readStrict series (now (card .entry))) ⌝ }

@@ -3,7 +3,7 @@
 --     part o w s         the w bytes of s from offset o
 --     isDigit, isCapital 0 to 9, A to Z
 --     all f s            f holds of each byte
---     number s           the number that digits stand for; a blank counts as a zero
+--     number s           the number that digits stand for; a byte below 0, as the blank is, counts as a 0
 --     blanks s           how many blanks s starts with
 --     filled s           blanks or none, then digits to the end, one at least (02, E2)
 --     angleLaid d s      ±DDDMMSS.SS or ±DDMMSS.SS, d being the count of degree digits

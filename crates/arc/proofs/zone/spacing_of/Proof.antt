@@ -27,7 +27,7 @@ mul-result-2 : tie.Need-mul-result-2
 mul-result-2 c = omega (arith, div-le-self (c .before .args .unit * 1000000 - 1) (c .before .args .scale), c .before .pre .most)
 
 returns-2 : tie.Need-returns-2
-returns-2 c = sym (divides-less (c .before .args .unit) (c .before .args .scale) (omega (arith, c .before .pre .least)) (omega (arith, c .if1 .left)))
+returns-2 c = sym (divides-less (c .before .args .unit) (c .before .args .scale) (c .before .pre .least) (omega (arith, c .if1 .left)))
 
 pub spacing-of-spec : {M : Type 1} → statement M
 spacing-of-spec =
