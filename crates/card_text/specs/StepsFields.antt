@@ -7,8 +7,9 @@
 --     leadTotal s        the blanks that the numbers of a card start with, their last bytes not among them
 --     valueOf kind s     what a subfield holds, as a natural: an angle is counted from its limit below zero
 --     valueIn f s        the value of the subfield f of a card
---     fieldOf ..         a value and its tests for 7 and 8, after what was refused before
---     FieldAt fill f s before r    a subfield as it was read: the first refusal up to it, and its value where it is right
+--     fieldOf ..         a value and its tests for 7 and 8
+--     unreadAfter r      a subfield after a refusal
+--     FieldAt fill f s before r    a subfield as it was read: the first refusal up to it, and its value where there is none
 --     PlainAt f s before r         the same of an angle, BAD or TIF, whatever may fill numbers
 --     FieldsOf fill s r  the card as it was read: the first refusal of the layout, and every value where there is none
 use mathlib.Core.Path.{_≡_}
@@ -17,6 +18,7 @@ use mathlib.Core.List.{List, [], _∷_}
 use mathlib.Core.Bool.{Bool, true, cond}
 use lib.Dec.{eqb}
 use lib.ListN.{getD}
+use Rattle.arc.specs.declared.Refusal.{Refusal}
 use Rattle.arc.specs.declared.Verdict.{Verdict}
 use Rattle.card.specs.Layout.{Kind}
 use Rattle.card.specs.Layout.{Number, Angle, Name, Flag}
@@ -69,12 +71,15 @@ abbrev pub valuesIn : List Subfield → List ℕ → List ℕ
 valuesIn [] s = []
 valuesIn (f ∷ fs) s = valueIn f s ∷ valuesIn fs s
 
-unfoldable pub fieldOf : Verdict → ℕ → Bool → Bool → ℕ → Field
-fieldOf before at laid valid v = record { value = v; verdict = orElse before (judge laid valid at) }
+unfoldable pub fieldOf : ℕ → Bool → Bool → ℕ → Field
+fieldOf at laid valid v = record { value = v; verdict = judge laid valid at }
+
+abbrev pub unreadAfter : Refusal → Field
+unreadAfter r = record { value = 0; verdict = Verdict.Refused r }
 
 pub record FieldAt (fill : Fill) (f : Subfield) (s : List ℕ) (before : Verdict) (r : Field) : Type 0 where
   pub joins : r .verdict ≡ orElse before (judgeField fill f s)
-  pub kept : judgeField fill f s ≡ Verdict.Accepted → r .value ≡ valueIn f s
+  pub kept : r .verdict ≡ Verdict.Accepted → r .value ≡ valueIn f s
 
 pub record PlainAt (f : Subfield) (s : List ℕ) (before : Verdict) (r : Field) : Type 0 where
   pub either : (fill : Fill) → FieldAt fill f s before r

@@ -11,7 +11,7 @@ ghost use lib.ListN.{length};
 ghost use Rattle.card.specs.Layout.{Kind};
 ghost use Rattle.text.specs.Text.{part};
 ghost use Rattle.card.specs.Layout.{sub, judge, orElse};
-ghost use Rattle.card_text.specs.StepsFields.{shifted, DigitsOf, fieldOf, FieldAt, PlainAt, FieldsOf};
+ghost use Rattle.card_text.specs.StepsFields.{shifted, DigitsOf, fieldOf, unreadAfter, FieldAt, PlainAt, FieldsOf};
 
 // Any number of at most eight digits.
 const ANY: u64 = 99_999_999;
@@ -51,14 +51,23 @@ fn judged(laid: bool, valid: bool, at: u64) -> Verdict
     Verdict::Accepted
 }
 
-// A value, its bytes being of the right kind (7) and the value right (8), after the subfields before it.
-fn joined(before: Field, at: usize, laid: bool, valid: bool, value: u64) -> Field
-    ensures { λ r. ⌜ r ≡ fieldOf (before .verdict) at laid valid value ⌝ }
+// A value, its bytes being of the right kind (7) and the value right (8).
+fn field_of(at: usize, laid: bool, valid: bool, value: u64) -> Field
+    ensures { λ r. ⌜ r ≡ fieldOf at laid valid value ⌝ }
 {
-    let first = before.verdict;
     Field {
         value,
-        verdict: or_else(first, judged(laid, valid, at as u64)),
+        verdict: judged(laid, valid, at as u64),
+    }
+}
+
+// A subfield after a refusal: it is not read.
+fn unread(r: Refusal) -> Field
+    ensures { λ f. ⌜ f ≡ unreadAfter r ⌝ }
+{
+    Field {
+        value: 0,
+        verdict: Verdict::Refused(r),
     }
 }
 
@@ -81,14 +90,12 @@ fn number_at(fill: Fill, s: &[u8], o: usize, w: usize, low: u64, high: u64, befo
     requires { ⌜ o + w ≤ length (now s) ⌝ ∗ ⌜ 0 < w ⌝ ∗ ⌜ w ≤ 8 ⌝ }
     ensures { λ r. ⌜ FieldAt fill (sub o w (Kind.Number low high)) (now (s .entry)) (before .verdict) r ⌝ }
 {
+    let first = before.verdict;
+    if let Verdict::Refused(r) = first {
+        return unread(r);
+    }
     let n = digits::number_of(fill, digits::bytes_at(s, o, w));
-    joined(
-        before,
-        o,
-        n.ok,
-        (low <= n.value) & (n.value <= high),
-        n.value,
-    )
+    field_of(o, n.ok, (low <= n.value) & (n.value <= high), n.value)
 }
 
 // ±DDDMMSS.SS or ±DDMMSS.SS, its degrees being read: 43 is +, 45 is −, 46 is the dot.
@@ -96,6 +103,10 @@ fn angle_at(s: &[u8], o: usize, w: usize, d: Digits, limit: u64, before: Field) 
     requires { ⌜ o + (w + 8) ≤ length (now s) ⌝ ∗ ⌜ w ≤ 3 ⌝ ∗ ⌜ limit ≤ 64800000 ⌝ ∗ ⌜ DigitsOf (part (o + 1) w (now s)) d ⌝ }
     ensures { λ r. ⌜ PlainAt (sub o (w + 8) (Kind.Angle w limit)) (now (s .entry)) (before .verdict) r ⌝ }
 {
+    let first = before.verdict;
+    if let Verdict::Refused(r) = first {
+        return unread(r);
+    }
     let p = digits::bytes_at(s, o, w + 8);
     let sign = p[0];
     let m = digits::digits_at(p, w + 1, 2);
@@ -105,7 +116,7 @@ fn angle_at(s: &[u8], o: usize, w: usize, d: Digits, limit: u64, before: Field) 
     let size = d.value * 360_000 + m.value * 6_000 + t.value * 100 + h.value;
     let laid = ((sign == 43) | (sign == 45)) & (d.ok & m.ok & t.ok) & (dot == 46) & h.ok;
     let valid = (m.value < 60) & (t.value < 60) & (size <= limit) & !((sign == 45) & (size == 0));
-    joined(before, o, laid, valid, shifted_by(limit, sign == 45, size))
+    field_of(o, laid, valid, shifted_by(limit, sign == 45, size))
 }
 
 // BAD.
@@ -113,13 +124,11 @@ fn name_at(s: &[u8], o: usize, before: Field) -> Field
     requires { ⌜ o + 12 ≤ length (now s) ⌝ }
     ensures { λ r. ⌜ PlainAt (sub o 12 Kind.Name) (now (s .entry)) (before .verdict) r ⌝ }
 {
-    joined(
-        before,
-        o,
-        digits::name_laid(digits::bytes_at(s, o, 12)),
-        true,
-        0,
-    )
+    let first = before.verdict;
+    if let Verdict::Refused(r) = first {
+        return unread(r);
+    }
+    field_of(o, digits::name_laid(digits::bytes_at(s, o, 12)), true, 0)
 }
 
 // 89 is Y, 78 is N.
@@ -127,8 +136,12 @@ fn flag_at(s: &[u8], o: usize, before: Field) -> Field
     requires { ⌜ o + 1 ≤ length (now s) ⌝ }
     ensures { λ r. ⌜ PlainAt (sub o 1 Kind.Flag) (now (s .entry)) (before .verdict) r ⌝ }
 {
+    let first = before.verdict;
+    if let Verdict::Refused(r) = first {
+        return unread(r);
+    }
     let b = s[o];
-    joined(before, o, true, (b == 89) | (b == 78), (b == 89) as u64)
+    field_of(o, true, (b == 89) | (b == 78), (b == 89) as u64)
 }
 
 // Every subfield, left to right: STR ARV BRV LSO PSO NUL NUS NLL NLS NFL NFC PNC PNL COD ROD POR PCB PVB BAD TIF.

@@ -1,4 +1,5 @@
 -- Each subfield was read after the one before it, so that they are the whole walk, with its values. Assumes nothing.
+use mathlib.Core.Path.{_∙_}
 use native.Mathlib.Omega.{arith}
 use Rattle.arc.specs.declared.Verdict.{Verdict}
 use Rattle.card.specs.Layout.{layout}
@@ -86,7 +87,7 @@ returns c =
     nfl .number-at8 .ensures ▸ nfc .number-at9 .ensures ▸ pnc .number-at10 .ensures ▸ pnl .number-at11 .ensures ▸
     cod .number-at12 .ensures ▸ rod .number-at13 .ensures ▸ por .number-at14 .ensures ▸ pcb .number-at15 .ensures ▸ pvb .number-at16 .ensures ▸
     bad .name-at .ensures .either fill ▸ c .flag-at .ensures .either fill ▸ end in
-    record { walks = passed-walk passed; kept = passed-values passed }
+    record { walks = passed-walk passed; kept = λ e. passed-values passed (passed-walk passed ∙ e) }
 
 pub fields-in-spec : {M : Type 1} → statement M
 fields-in-spec =
