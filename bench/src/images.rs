@@ -10,7 +10,7 @@ use crate::timing::{both, differ, measure, Form};
 use fordcask::raw;
 
 pub const SCALE: u64 = 1_000_000;
-const GRIDS: [(u64, &str); 2] = [(20, "20 x 20"), (100, "100 x 100")];
+pub const GRIDS: [(u64, &str); 2] = [(20, "20 x 20"), (100, "100 x 100")];
 
 /// A card with its index and count.
 pub struct Image {
@@ -102,29 +102,38 @@ fn our_index_check(image: &Image, marks: &mut [u8]) -> (u32, u64) {
 pub fn window(random: &mut Random) {
     for (side, name) in GRIDS {
         let image = image(random, side, side, 0);
-        let full = Window {
-            top: 0,
-            left: 0,
-            height: side,
-            width: side,
-        };
-        let part = |_| {
-            let (top, left) = (random.below(side), random.below(side));
-            Window {
-                top,
-                left,
-                height: 1 + random.below(side - top),
-                width: 1 + random.below(side - left),
-            }
-        };
-        let parts: Vec<Window> = (0..256).map(part).collect();
-        windows(&format!("g window, {name}, full"), &image, &[full]);
+        let parts = partial(random, side);
+        windows(&format!("g window, {name}, full"), &image, &[whole(side)]);
         windows(&format!("g window, {name}, partial"), &image, &parts);
     }
 }
 
+/// The window over the whole image.
+pub fn whole(side: u64) -> Window {
+    Window {
+        top: 0,
+        left: 0,
+        height: side,
+        width: side,
+    }
+}
+
+/// Random windows.
+pub fn partial(random: &mut Random, side: u64) -> Vec<Window> {
+    let part = |_| {
+        let (top, left) = (random.below(side), random.below(side));
+        Window {
+            top,
+            left,
+            height: 1 + random.below(side - top),
+            width: 1 + random.below(side - left),
+        }
+    };
+    (0..256).map(part).collect()
+}
+
 /// Number, place, missing, tile.
-type Missing = (u32, u64, u64, u64);
+pub type Missing = (u32, u64, u64, u64);
 
 fn windows(question: &str, image: &Image, windows: &[Window]) {
     let card = &image.card;

@@ -8,18 +8,18 @@ use crate::random::Random;
 use crate::timing::both;
 use fordcask::raw;
 
-const SET: usize = 4096;
+pub const SET: usize = 4096;
 
 /// 64 tiles stored of 8 x 10.
-const NFL: u64 = 8;
-const NFC: u64 = 10;
-const MISSING: u64 = 16;
+pub const NFL: u64 = 8;
+pub const NFC: u64 = 10;
+pub const MISSING: u64 = 16;
 
 /// Number, place, stored number, offset and length of the part.
 type Part = (u32, u64, u64, u64, u64);
 
 /// Number, place, red, green, blue.
-type Bands = (u32, u64, u8, u8, u8);
+pub type Bands = (u32, u64, u8, u8, u8);
 
 pub fn lookup(random: &mut Random) {
     let image = image(random, NFL, NFC, MISSING);
@@ -59,7 +59,7 @@ pub fn lookup(random: &mut Random) {
 }
 
 /// The chart edges, for random pixels.
-fn record(image: &Image) -> Record {
+pub fn record(image: &Image) -> Record {
     let card = read_card(image.card.series, &image.card.bytes).expect("a valid card");
     Record {
         n: card.n,

@@ -1,6 +1,7 @@
 //! Benchmarks of libfordcask.a against the plain rule in Rust.
 
 mod cards;
+mod corrections;
 mod doubles;
 mod exact;
 mod images;
@@ -21,7 +22,7 @@ const SEED: u64 = 0x0046_4F52_4443_4153;
 /// A question's letter and its benchmarks.
 type Question = (&'static str, fn(&mut Random));
 
-const QUESTIONS: [Question; 9] = [
+const QUESTIONS: [Question; 11] = [
     ("a", lists::positions),
     ("b", lists::pixels),
     ("c", single::position_calls),
@@ -31,6 +32,8 @@ const QUESTIONS: [Question; 9] = [
     ("f", images::index_check),
     ("g", images::window),
     ("h", lookup::lookup),
+    ("i", corrections::lookup),
+    ("i", corrections::window),
 ];
 
 /// Runs the questions named by letter, or all.

@@ -1,7 +1,8 @@
-//! The plain rule: document 01, with E2, E4, E8 and E13 of 02, in straightforward Rust with division.
+//! The plain rule: document 01, with E1, E2, E4, E8 and E13 of 02, in straightforward Rust with division.
 
 use fordcask::Series;
 
+pub mod corrections;
 pub mod grid;
 pub mod read;
 pub mod tiles;

@@ -45,6 +45,10 @@ static uint8_t padded_card[CARD];
 static const uint32_t stored_index[6] = {2, 0, 4, 1, 3, 0};
 static uint8_t store[4 * TILE];
 
+/* Two corrected tiles, the second of them listed twice. */
+static const uint32_t corrections[6] = {0, 2, 0, 0, 2, 1};
+static uint8_t corrections_store[2 * TILE];
+
 static void start(const char *name, uint32_t number, uint64_t at)
 {
     printf("%s: %" PRIu32 " %" PRIu64, name, number, at);
@@ -293,6 +297,62 @@ static void window(const uint8_t *bytes, const uint32_t *index, size_t length,
     end(w.blanks);
 }
 
+/* fordcask_corrected_tile, then fordcask_corrected_bands, of one pixel. */
+static void corrected(const uint8_t *bytes, const uint32_t *index,
+                      size_t length, uint64_t count, const uint32_t *list,
+                      size_t list_length, uint64_t number, int64_t row,
+                      int64_t column)
+{
+    struct fordcask_corrected_tile t = fordcask_corrected_tile(
+        charts, bytes, CARD, index, length, count, store,
+        (size_t)count * TILE, list, list_length, number, corrections_store,
+        (size_t)number * TILE, row, column);
+    struct fordcask_bands b = fordcask_corrected_bands(
+        charts, bytes, CARD, index, length, count, store,
+        (size_t)count * TILE, list, list_length, number, corrections_store,
+        (size_t)number * TILE, row, column);
+
+    start("corrected_tile", t.number, t.at);
+    printf(" %" PRIu64 " %" PRIu64 " %" PRIu64 " %" PRIu64, t.source,
+           t.stored, t.offset, t.length);
+    end(t.blanks);
+    start("corrected_bands", b.number, b.at);
+    printf(" %u %u %u", (unsigned)b.red, (unsigned)b.green,
+           (unsigned)b.blue);
+    end(b.blanks);
+}
+
+static void corrected_window(const uint8_t *bytes, const uint32_t *index,
+                             size_t length, uint64_t count,
+                             const uint32_t *list, size_t list_length,
+                             uint64_t height, uint64_t width)
+{
+    struct fordcask_window w =
+        fordcask_corrected_window(charts, bytes, CARD, index, length, count,
+                                  list, list_length, 2, 0, 0, height, width);
+
+    start("corrected_window", w.number, w.at);
+    printf(" %" PRIu64 " %" PRIu64, w.missing, w.tile);
+    end(w.blanks);
+}
+
+/* A copy of the corrections is set, and printed afterwards. */
+static void set_correction(const uint8_t *bytes, size_t length, uint64_t tile,
+                           uint64_t number)
+{
+    uint32_t list[6];
+    size_t i;
+    struct fordcask_verdict r;
+
+    memcpy(list, corrections, sizeof list);
+    r = fordcask_set_correction(charts, bytes, CARD, list, length, 2, tile,
+                                number);
+    start("set_correction", r.number, r.at);
+    for (i = 0; i < 6; i++)
+        printf(" %" PRIu32, list[i]);
+    end(r.blanks);
+}
+
 /* Both outputs are filled with 7 before; length is that of the list. */
 static void positions(int corner, size_t length)
 {
@@ -471,6 +531,37 @@ static void tiles(void)
     window(card, stored_index, 0, 2, 0, 0, 2, 1);
 }
 
+static void corrected_tiles(void)
+{
+    static const uint32_t above[6] = {0, 3, 0, 0, 3, 0};
+    size_t i;
+
+    /* 120 more than the store has in its first two tiles */
+    for (i = 0; i < sizeof corrections_store; i++)
+        corrections_store[i] = (uint8_t)(store[i] + 120);
+
+    corrected(padded_card, stored_index, 6, 4, corrections, 6, 2, 6, 259);
+    corrected(padded_card, stored_index, 6, 4, corrections, 6, 2, 5, 128);
+    corrected(padded_card, stored_index, 6, 4, corrections, 6, 2, 250, 129);
+    corrected(padded_card, stored_index, 6, 4, corrections, 6, 2, 250, 370);
+    corrected(padded_card, stored_index, 6, 4, above, 6, 2, 5, 128);
+    corrected(padded_card, stored_index, 6, 4, above, 6, 2, 250, 370);
+    corrected(padded_card, stored_index, 6, 4, above, 6, 2, 4, 128);
+    corrected(padded_card, stored_index, 6, 4, corrections, 5, 2, 5, 128);
+    corrected(card, stored_index, 0, 2, corrections, 2, 2, 255, 127);
+    corrected(card, stored_index, 0, 2, corrections, 0, 2, 255, 127);
+    corrected_window(padded_card, stored_index, 6, 4, corrections, 6, 2, 3);
+    corrected_window(padded_card, stored_index, 6, 4, above, 6, 2, 3);
+    corrected_window(padded_card, stored_index, 6, 4, corrections, 6, 3, 3);
+    corrected_window(padded_card, stored_index, 6, 4, corrections, 5, 2, 3);
+    corrected_window(card, stored_index, 0, 2, above, 2, 2, 1);
+    set_correction(padded_card, 6, 0, 2);
+    set_correction(padded_card, 6, 5, 0);
+    set_correction(padded_card, 6, 5, 3);
+    set_correction(padded_card, 6, 6, 1);
+    set_correction(padded_card, 5, 0, 1);
+}
+
 /* Blanks for the leading zeros of each number. */
 static void fill(uint8_t *bytes)
 {
@@ -523,6 +614,12 @@ static void blanks(void)
     tile(padded_card, stored_index, 6, 4, 5, 128);
     window(padded_card, stored_index, 6, 4, 1, 0, 1, 2);
     window(padded_card, stored_index, 6, 4, 1, 1, 1, 3);
+    corrected(padded_card, stored_index, 6, 4, corrections, 6, 2, 5, 128);
+    corrected(padded_card, stored_index, 6, 4, corrections, 6, 2, 4, 128);
+    corrected_window(padded_card, stored_index, 6, 4, corrections, 6, 2, 3);
+    corrected_window(padded_card, stored_index, 6, 4, corrections, 6, 3, 3);
+    set_correction(padded_card, 6, 0, 2);
+    set_correction(padded_card, 6, 6, 1);
 }
 
 int main(void)
@@ -531,6 +628,7 @@ int main(void)
     cards();
     grid();
     tiles();
+    corrected_tiles();
     blanks();
     return 0;
 }

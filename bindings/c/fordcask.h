@@ -2,7 +2,8 @@
 
    The library gives the zones and their pixel spacing, reads and writes image
    cards of 98 bytes, turns pixels of an image into positions and back, and
-   looks up stored tiles. The archive is for x86-64 Linux.
+   looks up stored tiles and corrections beside them. The archive is for x86-64
+   Linux.
 
    Each function answers or refuses, whatever numbers and bytes it is handed,
    in buffers as below. Nothing is kept between calls and no memory is
@@ -90,14 +91,15 @@
           left + width above NFC
      13   pixel in padding
      14   tile not stored
-     15   index entry above the count, repeated, or a stored tile never named
+     15   index entry above the count, repeated, or a stored tile never named;
+          correction above its count
      16   south edge not below north edge
      17   factor not 1..64
      24   scale 5000..9999, a town scale, in writing and alignment alone
 
    The place is the subfield's offset in the card for 7 and 8. For 15 it is
-   the entry, counted from 0, or the index length where a stored tile is never
-   named. Else it is 0.
+   the entry, of the index or of the corrections, counted from 0, or the index
+   length where a stored tile is never named. Else it is 0.
 
    To link: `rt staticlib fordcask` makes target/staticlib/libfordcask.a; then
    cc program.c -Ibindings/c target/staticlib/libfordcask.a */
@@ -266,6 +268,19 @@ struct fordcask_tile {
     uint32_t number;
     uint64_t at;
     uint64_t stored; /* its number among the stored tiles, 1..count */
+    uint64_t offset; /* 49152 x (stored - 1) */
+    uint64_t length; /* 49152 */
+    uint64_t blanks; /* the total of blanks of the card, 0..37 */
+};
+
+/* A tile from whichever of two stores holds it. Its bytes are length bytes
+   from offset on: of the base store where source is 0, of the corrections
+   store where it is 1. In a refusal source is 0, like every value. */
+struct fordcask_corrected_tile {
+    uint32_t number;
+    uint64_t at;
+    uint64_t source; /* 0 the base store, 1 the corrections store */
+    uint64_t stored; /* its number in that store, 1..count or 1..corrected */
     uint64_t offset; /* 49152 x (stored - 1) */
     uint64_t length; /* 49152 */
     uint64_t blanks; /* the total of blanks of the card, 0..37 */
@@ -453,6 +468,62 @@ struct fordcask_window fordcask_window(struct fordcask_series series,
                                        size_t index_len, uint64_t count,
                                        uint64_t top, uint64_t left,
                                        uint64_t height, uint64_t width);
+
+/* Corrections beside the stored tiles: the list `corrections` has NFL x NFC
+   entries in reading order, with TIF N too, 0 for a tile that is not
+   corrected, k for the k-th corrected tile; corrected is how many corrected
+   tiles there are, 0..NFL x NFC. The list is not checked for numbers that
+   occur twice or never. Where a correction stands, the index's entry is not
+   consulted. */
+
+/* The tile of a pixel of the chart, corrected first, and which store holds it.
+   index, count and store as for fordcask_tile: index is not NULL, also for the
+   empty index of a card with TIF N. The corrections store has exactly
+   corrected x 49152 bytes. Refuses 6 (index, count or store), 6 (corrections,
+   corrected or the corrections store), 12, 13, 15 for a correction above
+   corrected, then, where the tile is not corrected, 14, 15 of the index. */
+struct fordcask_corrected_tile fordcask_corrected_tile(
+    struct fordcask_series series, const uint8_t *card, size_t card_len,
+    const uint32_t *index, size_t index_len, uint64_t count,
+    const uint8_t *store, size_t store_len, const uint32_t *corrections,
+    size_t corrections_len, uint64_t corrected,
+    const uint8_t *corrections_store, size_t corrections_store_len,
+    int64_t row, int64_t column);
+
+/* The band values of a pixel of the chart, corrected first. Takes and refuses
+   what fordcask_corrected_tile does. */
+struct fordcask_bands fordcask_corrected_bands(
+    struct fordcask_series series, const uint8_t *card, size_t card_len,
+    const uint32_t *index, size_t index_len, uint64_t count,
+    const uint8_t *store, size_t store_len, const uint32_t *corrections,
+    size_t corrections_len, uint64_t corrected,
+    const uint8_t *corrections_store, size_t corrections_store_len,
+    int64_t row, int64_t column);
+
+/* The first tile in a window, in reading order, that is neither corrected nor
+   stored. The window as for fordcask_window. Refuses 6 (index or count), 6
+   (corrections or corrected), 12, then 15 where an entry above its count comes
+   before any missing tile: a correction, or the index's entry of a tile that
+   is not corrected. A card with TIF N can be refused with 15 too. */
+struct fordcask_window fordcask_corrected_window(
+    struct fordcask_series series, const uint8_t *card, size_t card_len,
+    const uint32_t *index, size_t index_len, uint64_t count,
+    const uint32_t *corrections, size_t corrections_len, uint64_t corrected,
+    uint64_t top, uint64_t left, uint64_t height, uint64_t width);
+
+/* Sets the entry of one tile in the corrections, by the tile's number from 0
+   in the image, to number: 1..corrected, or 0 to take a correction back. No
+   other entry is touched; on a refusal, the card's too, the list stays.
+   Refuses 6 (corrections or corrected), 12 for a tile not 0..NFL x NFC - 1,
+   then 15, its place the tile, for a number above corrected. */
+struct fordcask_verdict fordcask_set_correction(struct fordcask_series series,
+                                                const uint8_t *card,
+                                                size_t card_len,
+                                                uint32_t *corrections,
+                                                size_t corrections_len,
+                                                uint64_t corrected,
+                                                uint64_t tile,
+                                                uint64_t number);
 
 /* The positions of the centres of many pixels. pixels: row, column, row,
    column, ..., rows NUL..NLL and columns NLS..NUS; positions: lat, lon, lat,

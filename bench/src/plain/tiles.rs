@@ -12,12 +12,12 @@ pub struct Found {
 }
 
 impl Card {
-    fn tiles(&self) -> usize {
+    pub fn tiles(&self) -> usize {
         (self.nfl * self.nfc) as usize
     }
 
     /// 6: index and count against the tile grid.
-    fn lengths(&self, index: &[u32], count: u64) -> Result<(), Refusal> {
+    pub fn lengths(&self, index: &[u32], count: u64) -> Result<(), Refusal> {
         let tiles = self.tiles();
         let good = if self.tif {
             index.len() == tiles && count <= tiles as u64
@@ -31,22 +31,25 @@ impl Card {
         }
     }
 
-    fn tile(
-        &self,
-        index: &[u32],
-        count: u64,
-        store: &[u8],
-        row: i64,
-        column: i64,
-    ) -> Result<Found, Refusal> {
+    /// 6: index, count and store.
+    pub fn base_lengths(&self, index: &[u32], count: u64, store: &[u8]) -> Result<(), Refusal> {
         self.lengths(index, count)?;
         if store.len() as u64 != count * TILE as u64 {
             return refuse(6, 0);
         }
+        Ok(())
+    }
+
+    /// 12, 13: the tile of a pixel.
+    pub fn tile_at(&self, row: i64, column: i64) -> Result<usize, Refusal> {
         if let Err(number) = self.bounds(row, column) {
             return refuse(number, 0);
         }
-        let tile = (row / 128 * self.nfc + column / 128) as usize;
+        Ok((row / 128 * self.nfc + column / 128) as usize)
+    }
+
+    /// 14, 15: the stored tile.
+    pub fn stored(&self, index: &[u32], count: u64, tile: usize) -> Result<Found, Refusal> {
         let stored = if self.tif {
             u64::from(index[tile])
         } else {
@@ -60,6 +63,31 @@ impl Card {
         }
         let offset = (stored - 1) as usize * TILE;
         Ok(Found { stored, offset })
+    }
+
+    fn tile(
+        &self,
+        index: &[u32],
+        count: u64,
+        store: &[u8],
+        row: i64,
+        column: i64,
+    ) -> Result<Found, Refusal> {
+        self.base_lengths(index, count, store)?;
+        let tile = self.tile_at(row, column)?;
+        self.stored(index, count, tile)
+    }
+
+    /// 12: a window against the tile grid.
+    pub fn window_fits(&self, window: &Window) -> Result<(), Refusal> {
+        let fits = |start: u64, length: u64, limit: i64| {
+            start <= limit as u64 && length <= limit as u64 - start
+        };
+        if fits(window.top, window.height, self.nfl) && fits(window.left, window.width, self.nfc) {
+            Ok(())
+        } else {
+            refuse(12, 0)
+        }
     }
 }
 
@@ -119,14 +147,11 @@ pub fn window(
 ) -> Result<Option<u64>, Refusal> {
     let card = read_card(series, card)?;
     card.lengths(index, count)?;
-    let (nfl, nfc) = (card.nfl as u64, card.nfc as u64);
-    let fits = |start: u64, length: u64, limit: u64| start <= limit && length <= limit - start;
-    if !fits(window.top, window.height, nfl) || !fits(window.left, window.width, nfc) {
-        return refuse(12, 0);
-    }
+    card.window_fits(window)?;
     if !card.tif {
         return Ok(None);
     }
+    let nfc = card.nfc as u64;
     for row in window.top..window.top + window.height {
         for column in window.left..window.left + window.width {
             let tile = row * nfc + column;
@@ -168,6 +193,11 @@ pub fn bands(series: Series, card: &[u8], look: &Look) -> Result<[u8; 3], Refusa
     let card = read_card(series, card)?;
     let found = card.tile(look.index, look.count, look.store, look.row, look.column)?;
     let part = &look.store[found.offset..found.offset + TILE];
-    let at = (look.row % 128 * 128 + look.column % 128) as usize;
-    Ok([part[at], part[at + 16_384], part[at + 32_768]])
+    Ok(values(part, look.row, look.column))
+}
+
+/// Red, green and blue of a pixel in its tile.
+pub fn values(part: &[u8], row: i64, column: i64) -> [u8; 3] {
+    let at = (row % 128 * 128 + column % 128) as usize;
+    [part[at], part[at + 16_384], part[at + 32_768]]
 }

@@ -1,5 +1,5 @@
 //! Scanned charts in the ARC raster system: zones and their spacing, image cards, positions of
-//! pixels, and stored tiles.
+//! pixels, stored tiles and corrections beside them.
 //!
 //! Angles are whole hundredths of an arc-second: latitude -32,400,000 to 32,400,000, longitude
 //! -64,800,000 to 64,800,000. Each function answers or refuses for every number, byte and length
@@ -31,6 +31,7 @@
 #![warn(missing_docs)]
 
 mod card;
+mod corrections;
 mod pair;
 mod position;
 pub mod raw;
@@ -41,6 +42,7 @@ mod tiles;
 mod zone;
 
 pub use card::{read_card, read_strict, write_card, Card, OnCard, Record, CARD_LENGTH};
+pub use corrections::{CorrectedTile, Corrections, Source};
 pub use pair::Pair;
 pub use position::{offset, Offset, Pixel, Place, Position};
 pub use refusal::Refusal;

@@ -123,6 +123,66 @@ unsafe extern "C" {
         width: u64,
     ) -> Window;
 
+    pub fn fordcask_corrected_tile(
+        series: Series,
+        card: *const u8,
+        card_len: usize,
+        index: *const u32,
+        index_len: usize,
+        count: u64,
+        store: *const u8,
+        store_len: usize,
+        corrections: *const u32,
+        corrections_len: usize,
+        corrected: u64,
+        corrections_store: *const u8,
+        corrections_store_len: usize,
+        row: i64,
+        column: i64,
+    ) -> CorrectedTile;
+    pub fn fordcask_corrected_bands(
+        series: Series,
+        card: *const u8,
+        card_len: usize,
+        index: *const u32,
+        index_len: usize,
+        count: u64,
+        store: *const u8,
+        store_len: usize,
+        corrections: *const u32,
+        corrections_len: usize,
+        corrected: u64,
+        corrections_store: *const u8,
+        corrections_store_len: usize,
+        row: i64,
+        column: i64,
+    ) -> Bands;
+    pub fn fordcask_corrected_window(
+        series: Series,
+        card: *const u8,
+        card_len: usize,
+        index: *const u32,
+        index_len: usize,
+        count: u64,
+        corrections: *const u32,
+        corrections_len: usize,
+        corrected: u64,
+        top: u64,
+        left: u64,
+        height: u64,
+        width: u64,
+    ) -> Window;
+    pub fn fordcask_set_correction(
+        series: Series,
+        card: *const u8,
+        card_len: usize,
+        corrections: *mut u32,
+        corrections_len: usize,
+        corrected: u64,
+        tile: u64,
+        number: u64,
+    ) -> Verdict;
+
     pub fn fordcask_positions(
         series: Series,
         card: *const u8,

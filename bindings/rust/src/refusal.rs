@@ -2,8 +2,8 @@ use std::fmt;
 
 /// A refusal: its number, 1 to 16 of document 01 or 17 or 24 of document 02, and its place.
 ///
-/// The place is the subfield's offset for 7 and 8, the entry of the index for 15 (the index
-/// length where a stored tile is never named), else 0.
+/// The place is the subfield's offset for 7 and 8, the entry of the index or of the corrections for
+/// 15 (the index length where a stored tile is never named), else 0.
 #[derive(Clone, Copy, Debug, PartialEq, Eq, Hash)]
 pub struct Refusal {
     /// The number, 1 to 17 or 24.
@@ -30,7 +30,7 @@ impl Refusal {
             12 => "the pixel or window is outside the tiles",
             13 => "the pixel is in the padding",
             14 => "the tile is not stored",
-            15 => "an index entry is above the count or repeated, or a stored tile is never named",
+            15 => "an entry is above its count or repeated, or a stored tile is never named",
             16 => "the south edge is not below the north edge",
             17 => "the factor is not from 1 to 64",
             24 => "at a town scale, 5,000 to 9,999, no card is written and no origin aligned",

@@ -1,5 +1,6 @@
 // Questions on a card and its tile index (01, "Tiles").
 use crate::buffer;
+use crate::corrections;
 use crate::lent;
 use crate::list;
 use crate::look_up;
@@ -30,13 +31,42 @@ pub fn asked(name: &[u8], line: &[u8], at: usize, store: &[u8]) -> bool {
         series,
         count: count.value,
     };
+    answered(
+        name,
+        line,
+        count.next,
+        s,
+        &bytes[..n],
+        &mut entries[..i],
+        store,
+    )
+}
+
+fn answered(
+    name: &[u8],
+    line: &[u8],
+    at: usize,
+    s: Stated,
+    card: &[u8],
+    entries: &mut [u32],
+    store: &[u8],
+) -> bool {
+    if check::same(name, b"set_correction") {
+        return corrections::set(line, at, s, card, entries);
+    }
     if check::same(name, b"index_check") {
-        return index_check(line, count.next, s, &bytes[..n], &entries[..i]);
+        return index_check(line, at, s, card, entries);
     }
     if check::same(name, b"window") {
-        return window(line, count.next, s, &bytes[..n], &entries[..i]);
+        return window(line, at, s, card, entries);
     }
-    look_up::asked(name, line, count.next, s, &bytes[..n], &entries[..i], store)
+    if check::same(name, b"corrected_window") {
+        return corrections::window(line, at, s, card, entries);
+    }
+    if look_up::asked(name, line, at, s, card, entries, store) {
+        return true;
+    }
+    corrections::asked(name, line, at, s, card, entries, store)
 }
 
 // Marks that are lent, and what they then hold.

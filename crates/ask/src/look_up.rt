@@ -6,7 +6,7 @@ use arc::Verdict;
 use tiles::NumberAnswer;
 
 // The longest store that is lent.
-const STORE: u64 = 1_048_576;
+pub const STORE: u64 = 1_048_576;
 
 // Whether the line is one of these questions, well formed; then it is answered.
 pub fn asked(

@@ -8,6 +8,7 @@ ghost use lib.ListN.{length};
 
 mod buffer;
 mod cards;
+mod corrections;
 mod indexes;
 mod lent;
 mod list;

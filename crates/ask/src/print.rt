@@ -130,8 +130,8 @@ fn number(n: u32) {
     size(n as u64);
 }
 
-// A lent list of refusals' numbers.
-fn numbers(s: &[u32]) {
+// A lent list of refusals' numbers, or of entries.
+pub fn numbers(s: &[u32]) {
     text(b" [");
     for i in 0..s.len() {
         comma(i);

@@ -5,6 +5,7 @@
 --     verdictParts           number, place, and the total of blanks of the card
 --     placeBlock, .., windowBlock    number, place and values of a block, the total of blanks of the card last
 --     tileParts              number, place, the stored number, where its bytes stand in the store, and the total of blanks of the card
+--     correctedTile          the same with the store that holds the tile, 0 for the base or 1 for the corrections (02, E1)
 use mathlib.Core.Path.{_≡_}
 use Prim.Native.Nat.{ℕ, _-_, _*_}
 use mathlib.Core.List.{List, [], _∷_}
@@ -21,7 +22,9 @@ use Rattle.card.specs.declared.Reading.{Reading}
 use Rattle.card.specs.declared.Record.{Record}
 use Rattle.card.specs.Blanks.{passed}
 use Rattle.tiles.specs.declared.NumberAnswer.{NumberAnswer}
+use Rattle.tiles.specs.declared.SourceAnswer.{SourceAnswer}
 use Rattle.tiles.specs.LookUp.{tileBytes, numberOf, partOf}
+use Rattle.tiles.specs.Corrections.{sourceOf, eitherPartOf}
 use Rattle.fordcask.specs.declared.parts.CoverParts.{CoverParts}
 use Rattle.fordcask.specs.declared.parts.RectangleParts.{RectangleParts}
 use Rattle.fordcask.specs.declared.parts.CardParts.{CardParts}
@@ -34,6 +37,7 @@ use Rattle.fordcask.specs.declared.parts.OverviewOnCards.{OverviewOnCard
 use Rattle.fordcask.specs.declared.parts.BandsOnCard.{BandsOnCard}
 use Rattle.fordcask.specs.declared.parts.WindowOnCard.{WindowOnCard}
 use Rattle.fordcask.specs.declared.parts.TileParts.{TileParts}
+use Rattle.fordcask.specs.declared.parts.CorrectedTile.{CorrectedTile}
 
 abbrev pub coverParts : CoverAnswer → CoverParts
 coverParts c =
@@ -109,8 +113,25 @@ tileParts total (NumberAnswer.Stored n) =
 tileParts total (NumberAnswer.Refused e) =
     record { number = e .number; at = e .at; stored = 0; offset = 0; length = 0; blanks = passed total (e .number) }
 
+abbrev pub heldTile : ℕ → ℕ → ℕ → CorrectedTile
+heldTile source n total =
+    record { number = 0; at = 0; source = source; stored = n; offset = (n - 1) * tileBytes; length = tileBytes; blanks = total }
+
+abbrev pub correctedTile : ℕ → SourceAnswer → CorrectedTile
+correctedTile total (SourceAnswer.Base n) = heldTile 0 n total
+correctedTile total (SourceAnswer.Corrections n) = heldTile 1 n total
+correctedTile total (SourceAnswer.Refused e) =
+    record { number = e .number; at = e .at; source = 0; stored = 0; offset = 0; length = 0; blanks = passed total (e .number) }
+
 -- ---- the bytes so named are the part of the store that look-up hands back, none in a refusal: proved in proofs/Questions.antt
 abbrev pub TileIsPart : Type 0
 TileIsPart =
     (k : Card) (index : List ℕ) (count : ℕ) (store : List ℕ) (r c : ℤ) (total : ℕ) → let t = tileParts total (numberOf k index count store r c) in
     take (t .length) (drop (t .offset) store) ≡ partOf k index count store r c
+
+-- and of whichever store is named
+abbrev pub CorrectedTileIsPart : Type 0
+CorrectedTileIsPart =
+    (k : Card) (index : List ℕ) (count : ℕ) (store corrections : List ℕ) (corrected : ℕ) (second : List ℕ) (r c : ℤ) (total : ℕ)
+    → let t = correctedTile total (sourceOf k index count store corrections corrected second r c) in
+    take (t .length) (drop (t .offset) (cond (eqb (t .source) 0) store second)) ≡ eitherPartOf k index count store corrections corrected second r c

@@ -1,6 +1,7 @@
 // The library for C: numbers and slices in, a block of numbers out (bindings/c/fordcask.h).
 mod card_lists;
 mod cards;
+mod corrections;
 mod indexes;
 mod on_card;
 mod parts;
@@ -19,12 +20,17 @@ pub use cards::fordcask_position;
 pub use cards::fordcask_read_card;
 pub use cards::fordcask_read_strict;
 pub use cards::fordcask_write_card;
+pub use corrections::fordcask_corrected_bands;
+pub use corrections::fordcask_corrected_tile;
+pub use corrections::fordcask_corrected_window;
+pub use corrections::fordcask_set_correction;
 pub use indexes::fordcask_bands;
 pub use indexes::fordcask_index_check;
 pub use indexes::fordcask_tile;
 pub use indexes::fordcask_window;
 pub use parts::BandsOnCard;
 pub use parts::CardParts;
+pub use parts::CorrectedTile;
 pub use parts::CoverParts;
 pub use parts::OverviewOnCards;
 pub use parts::PixelOnCard;

@@ -133,3 +133,15 @@ pub struct TileParts {
     pub length: u64,
     pub blanks: u64,
 }
+
+// Number, place, the store of a tile (0 for the base, 1 for the corrections), its stored number and its bytes there, and the total of blanks of the card.
+#[repr(C)]
+pub struct CorrectedTile {
+    pub number: u32,
+    pub at: u64,
+    pub source: u64,
+    pub stored: u64,
+    pub offset: u64,
+    pub length: u64,
+    pub blanks: u64,
+}

@@ -63,7 +63,7 @@ EntryIs count e (Said.Stored n) = (e ≡ n) × (1 ≤ n) × (n ≤ count)
 EntryIs count e Said.Missing = e ≡ 0
 EntryIs count e Said.Above = count < e
 
-entry-is : (count e : ℕ) (v : Said) → said count e ≡ v → EntryIs count e v
+pub entry-is : (count e : ℕ) (v : Said) → said count e ≡ v → EntryIs count e v
 entry-is count e v h = subst (EntryIs count e) h (go (eqb e 0) (ltb count e) refl refl)
   where
     go : (a b : Bool) → eqb e 0 ≡ a → ltb count e ≡ b → EntryIs count e (cond a Said.Missing (cond b Said.Above (Said.Stored e)))

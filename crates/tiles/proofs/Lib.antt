@@ -4,6 +4,7 @@ pub mod Counted
 pub mod Pass
 pub mod Entry
 pub mod Pixel
+pub mod Sources
 pub mod Ahead
 pub mod Once
 pub mod Accepts
@@ -11,3 +12,5 @@ pub mod Alike
 pub mod PartOf
 pub mod Apart
 pub mod Image
+pub mod Corrected
+pub mod Setting

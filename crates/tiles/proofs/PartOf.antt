@@ -8,7 +8,7 @@ use lib.Seq.{length-take-le}
 use Rattle.tiles.specs.LookUp.{tileBytes, partAt, partOf, InPlace, PartIs}
 use Rattle.tiles.proofs.Pixel.{InStore, number-held, part-ends, part-length}
 
-in-place : (n count : ℕ) (store : List ℕ) → InStore n count store → InPlace count n (partAt n store) store
+pub in-place : (n count : ℕ) (store : List ℕ) → InStore n count store → InPlace count n (partAt n store) store
 in-place n count store h =
     let rest = drop ((n - 1) * tileBytes) store in
     record {

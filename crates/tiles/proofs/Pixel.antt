@@ -67,6 +67,9 @@ pub record InStore (n count : ℕ) (store : List ℕ) : Type 0 where
   pub most : n ≤ count
   pub long : length store ≡ count * tileBytes
 
+pub in-store : (n count : ℕ) (store : List ℕ) → 1 ≤ n → n ≤ count → not (eqb (length store) (count * tileBytes)) ≡ false → InStore n count store
+in-store n count store p q e = record { some = p; most = q; long = eqb-true (length store) (count * tileBytes) (not-false _ e) }
+
 pub number-held : (k : Card) (index : List ℕ) (count : ℕ) (store : List ℕ) (r c : ℤ) (n : ℕ)
     → numberOf k index count store r c ≡ NumberAnswer.Stored n → InStore n count store
 unfolding numberOf
@@ -80,7 +83,7 @@ number-held k index count store r c n = go (storeWrong k index count store) refl
         let w = neither (indexWrong k index count) (not (eqb (length store) (count * tileBytes))) p in
         let f = found k (saidOf k index count) r c n h in
         let s = stored-most k index count _ n (w .0) (f .inside) (f .said-is) in
-        record { some = s .0; most = s .1; long = eqb-true (length store) (count * tileBytes) (not-false _ (w .1)) }
+        in-store n count store (s .0) (s .1) (w .1)
 
 -- its bytes are a tile's
 module _ (n count : ℕ) (store : List ℕ) (h : InStore n count store) where

@@ -64,9 +64,11 @@ partOf k index count store r c = partIn (numberOf k index count store r c) store
 abbrev pub inBand : ℤ → ℤ → ℕ
 inBand r c = natAbs r % 128 * 128 + natAbs c % 128
 
+abbrev pub bandsAt : List ℕ → ℕ → BandsAnswer
+bandsAt tile i = BandsAnswer.Bands (getD tile i 0) (getD tile (i + bandBytes) 0) (getD tile (i + 2 * bandBytes) 0)
+
 abbrev pub bandsIn : NumberAnswer → List ℕ → ℕ → BandsAnswer
-bandsIn (NumberAnswer.Stored n) tile i =
-    BandsAnswer.Bands (getD tile i 0) (getD tile (i + bandBytes) 0) (getD tile (i + 2 * bandBytes) 0)
+bandsIn (NumberAnswer.Stored n) tile i = bandsAt tile i
 bandsIn (NumberAnswer.Refused e) tile i = BandsAnswer.Refused e
 
 unfoldable pub bandsOf : Card → List ℕ → ℕ → List ℕ → ℤ → ℤ → BandsAnswer

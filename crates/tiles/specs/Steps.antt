@@ -3,16 +3,14 @@
 use mathlib.Core.Path.{_≡_}
 use Prim.Native.Nat.{ℕ, _+_, _≤_}
 use mathlib.Core.List.{List}
-use mathlib.Core.Bool.{true}
-use lib.ListN.{length}
+use mathlib.Core.Bool.{false}
 use Rattle.card.specs.declared.Card.{Card}
 use Rattle.card.specs.Read.{Known}
-use Rattle.tiles.specs.Index.{tiles}
+use Rattle.tiles.specs.Index.{indexWrong}
 
--- a window of an image with TIF Y, the lengths being right
-pub record Window (k : Card) (index : List ℕ) (top left height width : ℕ) : Type 0 where
+-- a window of an image, the lengths being right
+pub record Window (k : Card) (index : List ℕ) (count top left height width : ℕ) : Type 0 where
   pub known : Known k
-  pub indexed : k .tif ≡ true
-  pub long : length index ≡ tiles k
+  pub right : indexWrong k index count ≡ false
   pub down : top + height ≤ k .nfl
   pub across : left + width ≤ k .nfc

@@ -1,4 +1,4 @@
-// The tile index: check, look-up, window (002, 3.8.5; 01, "Tiles").
+// The tile index: check, look-up, window (002, 3.8.5; 01, "Tiles"); corrections beside it (02, E1).
 use arc::Refusal;
 use card::Card;
 ghost use mathlib.Core.Path.{_≡_};
@@ -10,16 +10,24 @@ ghost use Rattle.card.specs.Read.{Known};
 ghost use Rattle.tiles.specs.Index.{tiles, indexWrong, said, saidOf};
 
 mod check;
+mod corrections;
+mod either;
 mod look_up;
 mod parts;
 mod scan;
 
 pub use check::index_check;
+pub use corrections::corrected_bands;
+pub use corrections::corrected_number;
+pub use corrections::corrected_tile;
+pub use corrections::corrected_window;
+pub use corrections::set_correction;
 pub use look_up::bands;
 pub use look_up::stored_number;
 pub use look_up::tile;
 pub use parts::BandsParts;
 pub use parts::NumberParts;
+pub use parts::SourceParts;
 pub use parts::WindowParts;
 pub use scan::window;
 
@@ -33,6 +41,19 @@ enum Said {
 // The stored number of a tile, from 1.
 pub enum NumberAnswer {
     Stored(u64),
+    Refused(Refusal),
+}
+
+// Which of the two stores a tile is looked for in (02, E1).
+enum Source {
+    Base,
+    Corrections,
+}
+
+// The stored number of a tile, from 1, in the base store or in the corrections store (02, E1).
+pub enum SourceAnswer {
+    Base(u64),
+    Corrections(u64),
     Refused(Refusal),
 }
 

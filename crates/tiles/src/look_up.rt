@@ -2,17 +2,24 @@
 use crate::BandsAnswer;
 use crate::NumberAnswer;
 use crate::Said;
+use crate::SourceAnswer;
 use crate::bad_entry;
-use crate::index_says;
+use crate::either::number_in;
+use crate::either::source_at;
+use crate::either::tile_says;
+use crate::either::with_source;
 use crate::index_wrong;
 use arc::Tile;
 use arc::Verdict;
 use card::Card;
 ghost use mathlib.Core.Path.{_≡_};
+ghost use mathlib.Core.Bool.{false};
 ghost use Prim.Native.Nat.{_*_, _≤_};
 ghost use lib.ListN.{length};
 ghost use Rattle.card.specs.Read.{Known};
-ghost use Rattle.tiles.specs.LookUp.{tileBytes, numberSaid, numberOf, partAt, partOf, bandsOf};
+ghost use Rattle.tiles.specs.Index.{indexWrong, saidOf};
+ghost use Rattle.tiles.specs.LookUp.{tileBytes, storeWrong, numberSaid, numberOf, partAt, partOf, inBand, bandsAt, bandsOf};
+ghost use Rattle.tiles.specs.Corrections.{sourcedOf};
 
 // A band of a tile: 128 rows of 128, POR 0 (01, "Tiles").
 const BAND: usize = 16_384;
@@ -28,6 +35,40 @@ fn number_said(tile: u64, said: Said) -> NumberAnswer
     }
 }
 
+// The source and the number there of a pixel's tile, the lengths being right (02, E1). Refuses 12, 13, 14, 15.
+pub fn found(
+    k: Card,
+    index: &[u32],
+    count: u64,
+    corrections: &[u32],
+    corrected: u64,
+    row: i64,
+    column: i64,
+) -> SourceAnswer
+    requires { ⌜ Known k ⌝ ∗ ⌜ indexWrong k (now index) count ≡ false ⌝ }
+    ensures { λ r. ⌜ r ≡ sourcedOf k (now (corrections .entry)) corrected (saidOf k (now (index .entry)) count) row column ⌝ }
+{
+    match k.judge_pixel(row, column) {
+        Verdict::Accepted => {
+            let tile = whole::size(row) / Tile::SIDE * k.nfc + whole::size(column) / Tile::SIDE;
+            let said = tile_says(k, index, count, corrections, corrected, tile);
+            with_source(source_at(corrections, tile), number_said(tile, said))
+        }
+        Verdict::Refused(e) => SourceAnswer::Refused(e),
+    }
+}
+
+// Whether the index, the count or the store is of the wrong length (01, "Tiles").
+pub fn base_wrong(k: Card, index: &[u32], count: u64, store: &[u8]) -> bool
+    requires { ⌜ Known k ⌝ }
+    ensures { λ r. ⌜ r ≡ storeWrong k (now (index .entry)) count (now (store .entry)) ⌝ }
+{
+    if index_wrong(k, index, count) {
+        return true;
+    }
+    store.len() as u64 != count * Tile::BYTES
+}
+
 // The stored number of a pixel's tile (01, "Tiles"). Refuses 6, 12, 13, 14, 15.
 pub fn stored_number(
     k: Card,
@@ -40,23 +81,14 @@ pub fn stored_number(
     requires { ⌜ Known k ⌝ }
     ensures { λ r. ⌜ r ≡ numberOf k (now (index .entry)) count (now (store .entry)) row column ⌝ }
 {
-    if index_wrong(k, index, count) {
+    if base_wrong(k, index, count, store) {
         return NumberAnswer::Refused(arc::refused(6));
     }
-    if store.len() as u64 != count * Tile::BYTES {
-        return NumberAnswer::Refused(arc::refused(6));
-    }
-    match k.judge_pixel(row, column) {
-        Verdict::Accepted => {
-            let tile = whole::size(row) / Tile::SIDE * k.nfc + whole::size(column) / Tile::SIDE;
-            number_said(tile, index_says(k, index, count, tile))
-        }
-        Verdict::Refused(e) => NumberAnswer::Refused(e),
-    }
+    number_in(found(k, index, count, &index[0..0], 0, row, column))
 }
 
 // The n-th stored tile, a part of the store (01, "Tiles").
-fn part<'a>(store: &'a [u8], n: u64) -> &'a [u8]
+pub fn part<'a>(store: &'a [u8], n: u64) -> &'a [u8]
     requires { ⌜ 1 ≤ n ⌝ ∗ ⌜ n * tileBytes ≤ length (now store) ⌝ }
     ensures { λ r. ⌜ now r ≡ partAt n (now (store .entry)) ⌝ }
 {
@@ -83,22 +115,27 @@ pub fn tile<'a>(
     }
 }
 
+// The band values of a pixel in its tile (01, "Tiles").
+pub fn bands_at(tile: &[u8], row: i64, column: i64) -> BandsAnswer
+    requires { ⌜ length (now tile) ≡ tileBytes ⌝ }
+    ensures { λ r. ⌜ r ≡ bandsAt (now (tile .entry)) (inBand row column) ⌝ }
+{
+    let i = (whole::size(row) % Tile::SIDE * Tile::SIDE
+        + whole::size(column) % Tile::SIDE) as usize;
+    BandsAnswer::Bands {
+        red: tile[i],
+        green: tile[i + BAND],
+        blue: tile[i + 2 * BAND],
+    }
+}
+
 // The band values of a pixel (01, "Tiles"). Refuses 6, 12, 13, 14, 15.
 pub fn bands(k: Card, index: &[u32], count: u64, store: &[u8], row: i64, column: i64) -> BandsAnswer
     requires { ⌜ Known k ⌝ }
     ensures { λ r. ⌜ r ≡ bandsOf k (now (index .entry)) count (now (store .entry)) row column ⌝ }
 {
     match stored_number(k, index, count, store, row, column) {
-        NumberAnswer::Stored(n) => {
-            let tile = part(store, n);
-            let i = (whole::size(row) % Tile::SIDE * Tile::SIDE
-                + whole::size(column) % Tile::SIDE) as usize;
-            BandsAnswer::Bands {
-                red: tile[i],
-                green: tile[i + BAND],
-                blue: tile[i + 2 * BAND],
-            }
-        }
+        NumberAnswer::Stored(n) => bands_at(part(store, n), row, column),
         NumberAnswer::Refused(e) => BandsAnswer::Refused(e),
     }
 }

@@ -1,17 +1,28 @@
 // The answers' numbers, for callers that hand them out (01, "Numbers given in refusal").
 use crate::BandsAnswer;
 use crate::NumberAnswer;
+use crate::SourceAnswer;
 use crate::WindowAnswer;
 ghost use mathlib.Core.Path.{_≡_};
 ghost use Rattle.tiles.specs.LookUp.{numberReport, bandsReport};
 ghost use Rattle.tiles.specs.Window.{windowReport};
-ghost use Rattle.tiles.specs.Parts.{numberTold, bandsTold, windowTold};
+ghost use Rattle.tiles.specs.Corrections.{sourceReport};
+ghost use Rattle.tiles.specs.Parts.{numberTold, sourceTold, bandsTold, windowTold};
 
 // Number, place and the stored number.
 #[repr(C)]
 pub struct NumberParts {
     pub number: u32,
     pub at: u64,
+    pub stored: u64,
+}
+
+// Number, place, 0 for the base store or 1 for the corrections store, and the stored number there.
+#[repr(C)]
+pub struct SourceParts {
+    pub number: u32,
+    pub at: u64,
+    pub source: u64,
     pub stored: u64,
 }
 
@@ -48,6 +59,34 @@ impl NumberAnswer {
             NumberAnswer::Refused(r) => NumberParts {
                 number: r.number,
                 at: r.at,
+                stored: 0,
+            },
+        }
+    }
+}
+
+impl SourceAnswer {
+    // The paper's number, place and values (01, "Numbers given in refusal").
+    pub fn into_parts(self) -> SourceParts
+        ensures { λ r. ⌜ sourceTold r ≡ sourceReport self ⌝ }
+    {
+        match self {
+            SourceAnswer::Base(n) => SourceParts {
+                number: 0,
+                at: 0,
+                source: 0,
+                stored: n,
+            },
+            SourceAnswer::Corrections(n) => SourceParts {
+                number: 0,
+                at: 0,
+                source: 1,
+                stored: n,
+            },
+            SourceAnswer::Refused(r) => SourceParts {
+                number: r.number,
+                at: r.at,
+                source: 0,
                 stored: 0,
             },
         }

@@ -2,15 +2,17 @@
 use crate::Said;
 use crate::WindowAnswer;
 use crate::bad_entry;
-use crate::entry_says;
+use crate::either::tile_says;
 use crate::index_wrong;
 use card::Card;
 ghost use mathlib.Core.Path.{_≡_};
+ghost use mathlib.Core.Bool.{false};
 ghost use Prim.Native.Nat.{_+_};
 ghost use lib.Dec.{ltb};
 ghost use Rattle.card.specs.Read.{Known};
-ghost use Rattle.tiles.specs.Index.{saidOf};
-ghost use Rattle.tiles.specs.Window.{windowTiles, scan, windowOf};
+ghost use Rattle.tiles.specs.Index.{indexWrong, saidOf};
+ghost use Rattle.tiles.specs.Window.{windowTiles, scan, viewOf, windowOf};
+ghost use Rattle.tiles.specs.Corrections.{saidWith};
 ghost use Rattle.tiles.specs.Steps.{Window};
 
 // Whether from + length is above most (01, "Numbers given in refusal").
@@ -23,25 +25,27 @@ fn reaches_past(most: u64, from: u64, length: u64) -> bool
     most - from < length
 }
 
-// The first tile of a window that is not stored, with TIF Y (01, "Tiles"). Refuses 15.
+// The first tile of a window that is not stored, corrected tiles passed (01, "Tiles"; 02, E1). Refuses 15.
 fn first_missing(
     k: Card,
     index: &[u32],
     count: u64,
+    corrections: &[u32],
+    corrected: u64,
     top: u64,
     left: u64,
     height: u64,
     width: u64,
 ) -> WindowAnswer
-    requires { ⌜ Window k (now index) top left height width ⌝ }
-    ensures { λ r. ⌜ r ≡ scan (saidOf k (now (index .entry)) count) (windowTiles k top left height width) ⌝ }
+    requires { ⌜ Window k (now index) count top left height width ⌝ }
+    ensures { λ r. ⌜ r ≡ scan (saidWith (now (corrections .entry)) corrected (saidOf k (now (index .entry)) count)) (windowTiles k top left height width) ⌝ }
 {
     let mut answer = WindowAnswer::AllStored;
     'rows: for r in 0..height {
         let start = (top + r) * k.nfc + left;
         for c in 0..width {
             let tile = start + c;
-            match entry_says(index, count, tile) {
+            match tile_says(k, index, count, corrections, corrected, tile) {
                 Said::Stored(_) => {}
                 Said::Missing => {
                     answer = WindowAnswer::Missing(tile);
@@ -55,6 +59,37 @@ fn first_missing(
         }
     }
     answer
+}
+
+// The window, the lengths being right (01, "Tiles"; 02, E1). Refuses 12, 15.
+pub fn view(
+    k: Card,
+    index: &[u32],
+    count: u64,
+    corrections: &[u32],
+    corrected: u64,
+    top: u64,
+    left: u64,
+    height: u64,
+    width: u64,
+) -> WindowAnswer
+    requires { ⌜ Known k ⌝ ∗ ⌜ indexWrong k (now index) count ≡ false ⌝ }
+    ensures { λ r. ⌜ r ≡ viewOf k (saidWith (now (corrections .entry)) corrected (saidOf k (now (index .entry)) count)) top left height width ⌝ }
+{
+    if reaches_past(k.nfl, top, height) | reaches_past(k.nfc, left, width) {
+        return WindowAnswer::Refused(arc::refused(12));
+    }
+    first_missing(
+        k,
+        index,
+        count,
+        corrections,
+        corrected,
+        top,
+        left,
+        height,
+        width,
+    )
 }
 
 // The first tile of a window, in reading order, that is not stored (01, "Tiles"). Refuses 6, 12, 15.
@@ -73,11 +108,5 @@ pub fn window(
     if index_wrong(k, index, count) {
         return WindowAnswer::Refused(arc::refused(6));
     }
-    if reaches_past(k.nfl, top, height) | reaches_past(k.nfc, left, width) {
-        return WindowAnswer::Refused(arc::refused(12));
-    }
-    if !k.tif {
-        return WindowAnswer::AllStored;
-    }
-    first_missing(k, index, count, top, left, height, width)
+    view(k, index, count, &index[0..0], 0, top, left, height, width)
 }

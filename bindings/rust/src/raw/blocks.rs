@@ -172,6 +172,20 @@ pub struct Tile {
     pub blanks: u64,
 }
 
+/// A tile, numbered from 1, as a part of the base store where `source` is 0, of the corrections
+/// store where it is 1.
+#[repr(C)]
+#[derive(Clone, Copy, Debug, PartialEq)]
+pub struct CorrectedTile {
+    pub number: u32,
+    pub at: u64,
+    pub source: u64,
+    pub stored: u64,
+    pub offset: u64,
+    pub length: u64,
+    pub blanks: u64,
+}
+
 /// The three band values of a pixel.
 #[repr(C)]
 #[derive(Clone, Copy, Debug, PartialEq)]

@@ -1,0 +1,207 @@
+// Questions on a card, its tile index and the corrections beside it (02, E1).
+use crate::on_card;
+use crate::parts::BandsOnCard;
+use crate::parts::CorrectedTile;
+use crate::parts::VerdictParts;
+use crate::parts::WindowOnCard;
+use arc::Refusal;
+use arc::Series;
+use arc::Tile;
+use arc::Verdict;
+use tiles::BandsAnswer;
+use tiles::SourceAnswer;
+use tiles::WindowAnswer;
+ghost use mathlib.Core.Path.{_≡_};
+ghost use Prim.Native.Nat.{_≤_, _<_, _*_, _^_};
+ghost use Rattle.arc.specs.declared.Verdict.{Verdict};
+ghost use Rattle.arc.specs.Refusals.{refusalOf};
+ghost use Rattle.card.specs.Read.{readOf, onCard, toldOnCard};
+ghost use Rattle.tiles.specs.declared.SourceAnswer.{SourceAnswer};
+ghost use Rattle.tiles.specs.declared.BandsAnswer.{BandsAnswer};
+ghost use Rattle.tiles.specs.declared.WindowAnswer.{WindowAnswer};
+ghost use Rattle.tiles.specs.LookUp.{tileBytes, bandsReport};
+ghost use Rattle.tiles.specs.Window.{windowReport};
+ghost use Rattle.tiles.specs.Corrections.{sourceOf, eitherBandsOf, correctedWindowOf, settingOf, setOf};
+ghost use Rattle.fordcask.specs.Entry.{verdictParts, bandsBlock, windowBlock, heldTile, correctedTile};
+
+// A stored tile: its store, 0 for the base or 1 for the corrections, its number there, and where its bytes stand.
+fn held_tile(source: u64, n: u64, blanks: u64) -> CorrectedTile
+    requires { ⌜ 1 ≤ n ⌝ ∗ ⌜ n * tileBytes < 2 ^ 64 ⌝ }
+    ensures { λ r. ⌜ r ≡ heldTile source n blanks ⌝ }
+{
+    CorrectedTile {
+        number: 0,
+        at: 0,
+        source,
+        stored: n,
+        offset: (n - 1) * Tile::BYTES,
+        length: Tile::BYTES,
+        blanks,
+    }
+}
+
+// A refusal of a look-up.
+fn none_held(e: Refusal, blanks: u64) -> CorrectedTile
+    ensures { λ r. ⌜ r ≡ correctedTile blanks (SourceAnswer.Refused e) ⌝ }
+{
+    CorrectedTile {
+        number: e.number,
+        at: e.at,
+        source: 0,
+        stored: 0,
+        offset: 0,
+        length: 0,
+        blanks: on_card::passed_with(e.number, blanks),
+    }
+}
+
+// The store that holds a pixel's tile, corrected first, its number there and where its bytes stand. Refuses reading's numbers, then 6, 12, 13, 14, 15.
+#[no_mangle]
+pub extern "C" fn fordcask_corrected_tile(
+    series: Series,
+    card: &[u8],
+    index: &[u32],
+    count: u64,
+    store: &[u8],
+    corrections: &[u32],
+    corrected: u64,
+    second: &[u8],
+    row: i64,
+    column: i64,
+) -> CorrectedTile
+    ensures { λ r. ⌜ r ≡ correctedTile (readOf series (now (card .entry)) .blanks) (onCard (readOf series (now (card .entry))) SourceAnswer.Refused
+        (λ k. sourceOf k (now (index .entry)) count (now (store .entry)) (now (corrections .entry)) corrected (now (second .entry)) row column)) ⌝ }
+{
+    let reading = card_text::read_card(series, card);
+    let verdict = reading.verdict;
+    let k = reading.card;
+    match verdict {
+        Verdict::Accepted => match tiles::corrected_number(
+            k,
+            index,
+            count,
+            store,
+            corrections,
+            corrected,
+            second,
+            row,
+            column,
+        ) {
+            SourceAnswer::Base(n) => held_tile(0, n, reading.blanks),
+            SourceAnswer::Corrections(n) => held_tile(1, n, reading.blanks),
+            SourceAnswer::Refused(e) => none_held(e, reading.blanks),
+        },
+        Verdict::Refused(e) => none_held(e, reading.blanks),
+    }
+}
+
+// The band values of a pixel, corrected first. Refuses reading's numbers, then 6, 12, 13, 14, 15.
+#[no_mangle]
+pub extern "C" fn fordcask_corrected_bands(
+    series: Series,
+    card: &[u8],
+    index: &[u32],
+    count: u64,
+    store: &[u8],
+    corrections: &[u32],
+    corrected: u64,
+    second: &[u8],
+    row: i64,
+    column: i64,
+) -> BandsOnCard
+    ensures { λ r. ⌜ bandsBlock r ≡ toldOnCard bandsReport (readOf series (now (card .entry))) BandsAnswer.Refused
+        (λ k. eitherBandsOf k (now (index .entry)) count (now (store .entry)) (now (corrections .entry)) corrected (now (second .entry)) row column) ⌝ }
+{
+    let reading = card_text::read_card(series, card);
+    let verdict = reading.verdict;
+    let k = reading.card;
+    match verdict {
+        Verdict::Accepted => on_card::bands_on(
+            tiles::corrected_bands(
+                k,
+                index,
+                count,
+                store,
+                corrections,
+                corrected,
+                second,
+                row,
+                column,
+            ).into_parts(),
+            reading.blanks,
+        ),
+        Verdict::Refused(e) => on_card::bands_on(
+            BandsAnswer::Refused(e).into_parts(),
+            reading.blanks,
+        ),
+    }
+}
+
+// The first tile of a window, in reading order, that is neither corrected nor stored. Refuses reading's numbers, then 6, 12, 15.
+#[no_mangle]
+pub extern "C" fn fordcask_corrected_window(
+    series: Series,
+    card: &[u8],
+    index: &[u32],
+    count: u64,
+    corrections: &[u32],
+    corrected: u64,
+    top: u64,
+    left: u64,
+    height: u64,
+    width: u64,
+) -> WindowOnCard
+    ensures { λ r. ⌜ windowBlock r ≡ toldOnCard windowReport (readOf series (now (card .entry))) WindowAnswer.Refused
+        (λ k. correctedWindowOf k (now (index .entry)) count (now (corrections .entry)) corrected top left height width) ⌝ }
+{
+    let reading = card_text::read_card(series, card);
+    let verdict = reading.verdict;
+    let k = reading.card;
+    match verdict {
+        Verdict::Accepted => on_card::window_on(
+            tiles::corrected_window(
+                k,
+                index,
+                count,
+                corrections,
+                corrected,
+                top,
+                left,
+                height,
+                width,
+            ).into_parts(),
+            reading.blanks,
+        ),
+        Verdict::Refused(e) => on_card::window_on(
+            WindowAnswer::Refused(e).into_parts(),
+            reading.blanks,
+        ),
+    }
+}
+
+// Sets a tile's entry in the corrections, 0 to take one back. Refuses reading's numbers, then 6, 12, 15; then the list stays.
+#[no_mangle]
+pub extern "C" fn fordcask_set_correction(
+    series: Series,
+    card: &[u8],
+    corrections: &mut [u32],
+    corrected: u64,
+    tile: u64,
+    number: u64,
+) -> VerdictParts
+    ensures answer { λ r. ⌜ r ≡ verdictParts (readOf series (now (card .entry)) .blanks) (refusalOf (onCard (readOf series (now (card .entry))) Verdict.Refused
+        (λ k. settingOf k (now (corrections .entry)) corrected tile number))) ⌝ }
+    ensures left { λ _. ⌜ now (corrections .exit) ≡ onCard (readOf series (now (card .entry))) (λ e. now (corrections .entry))
+        (λ k. setOf k (now (corrections .entry)) corrected tile number) ⌝ }
+{
+    let reading = card_text::read_card(series, card);
+    let verdict = reading.verdict;
+    let k = reading.card;
+    match verdict {
+        Verdict::Accepted => on_card::verdict_on(
+            tiles::set_correction(k, corrections, corrected, tile, number).refusal(),
+            reading.blanks,
+        ),
+        Verdict::Refused(e) => on_card::verdict_on(e, reading.blanks),
+    }
+}

@@ -1,0 +1,155 @@
+-- Of the corrections, look-up asks the entry of its tile; where it is 0 the base answers. Assumes nothing.
+use mathlib.Core.Path.{_≡_, refl, sym, ap, ap₂, fun-ext, _∙_}
+use mathlib.Core.Bool.{Bool, true, false, cond, _||_}
+use mathlib.Core.List.{List, [], _∷_}
+use Prim.Native.Nat.{ℕ, _+_}
+use native.Mathlib.Omega.{arith}
+use native.Mathlib.Decide.{ℕ-discrete}
+use lib.Dec.{ltb}
+use lib.ListN.{length, getD}
+use lib.IntN.{ℤ, natAbs}
+use Rattle.arc.specs.Refusals.{refusal}
+use Rattle.card.specs.declared.Card.{Card}
+use Rattle.tiles.specs.declared.Said.{Said}
+use Rattle.tiles.specs.declared.Source.{Source}
+use Rattle.tiles.specs.declared.NumberAnswer.{NumberAnswer}
+use Rattle.tiles.specs.declared.SourceAnswer.{SourceAnswer}
+use Rattle.tiles.specs.declared.WindowAnswer.{WindowAnswer}
+use Rattle.tiles.specs.Index.{tileOf, indexWrong, said, saidOf}
+use Rattle.tiles.specs.LookUp.{storeWrong, foundOf, numberOf, partIn, partOf, inBand, bandsIn, bandsOf}
+use Rattle.tiles.specs.Window.{windowTiles, scanned, scan, viewOf, windowOf}
+use Rattle.tiles.specs.Corrections.{listWrong, correctionsWrong, saidWith, sourceAt, sourced, numberIn, sourcedOf, sourceOf, eitherPart, eitherPartOf, eitherBandsOf, correctedWindowOf}
+use Rattle.tiles.specs.Corrected.{SameAnswers, StandbyAlike, Zero, AsBase, ZeroAsBase, ZeroWindow, BaseNotConsulted, EitherPartIs, MissingInBoth}
+use Rattle.tiles.proofs.Entry.{entry-is}
+use Rattle.tiles.proofs.Alike.{one-tile}
+use Rattle.tiles.proofs.PartOf.{in-place}
+use Rattle.tiles.proofs.Sources.{with-none, with-some, source-none, number-sourced, base-held, second-held}
+
+-- ---- answers under two second lists
+
+-- part and values follow the number
+pub alike : (k : Card) (index : List ℕ) (count : ℕ) (store corrections other : List ℕ) (corrected : ℕ) (second : List ℕ) (r c : ℤ)
+    → sourceOf k index count store corrections corrected second r c ≡ sourceOf k index count store other corrected second r c
+    → SameAnswers k index count store corrections other corrected second r c
+unfolding eitherPartOf eitherBandsOf
+alike k index count store corrections other corrected second r c e =
+    record {
+      number = e;
+      part = ap (λ (a : SourceAnswer). eitherPart a store second) e;
+      values = ap (λ (a : SourceAnswer). bandsIn (numberIn a) (eitherPart a store second) (inBand r c)) e;
+    }
+
+pub standby-alike : StandbyAlike
+unfolding sourceOf sourcedOf correctionsWrong listWrong sourceAt saidWith foundOf
+standby-alike k index count store corrections other corrected second r c e f =
+    alike k index count store corrections other corrected second r c (rw (e, f))
+
+-- ---- an all-zero list
+
+part-base : (a : NumberAnswer) (store second : List ℕ) → eitherPart (sourced Source.Base a) store second ≡ partIn a store
+part-base (NumberAnswer.Stored n) store second = refl
+part-base (NumberAnswer.Refused e) store second = refl
+
+-- where the tile is not corrected, the base answers
+pub base-found : (k : Card) (corrections : List ℕ) (corrected : ℕ) (says : ℕ → Said) (r c : ℤ) → getD corrections (tileOf k (natAbs r) (natAbs c)) 0 ≡ 0
+    → sourcedOf k corrections corrected says r c ≡ sourced Source.Base (foundOf k says r c)
+unfolding sourcedOf
+base-found k corrections corrected says r c z =
+    ap₂ sourced (source-none corrections (tileOf k (natAbs r) (natAbs c)) z)
+    (one-tile k (saidWith corrections corrected says) says r c (with-none corrections (tileOf k (natAbs r) (natAbs c)) corrected says z))
+
+module _ (k : Card) (index : List ℕ) (count : ℕ) (store corrections : List ℕ) (corrected : ℕ) (second : List ℕ) (r c : ℤ)
+    (w : correctionsWrong k corrections corrected second ≡ false) (z : getD corrections (tileOf k (natAbs r) (natAbs c)) 0 ≡ 0) where
+  pub base-number : sourceOf k index count store corrections corrected second r c ≡ sourced Source.Base (numberOf k index count store r c)
+  unfolding sourceOf numberOf
+  base-number = rw w (go (storeWrong k index count store))
+    where
+      go : (b : Bool) → cond b (SourceAnswer.Refused (refusal 6)) (sourcedOf k corrections corrected (saidOf k index count) r c)
+          ≡ sourced Source.Base (cond b (NumberAnswer.Refused (refusal 6)) (foundOf k (saidOf k index count) r c))
+      go true = refl
+      go false = base-found k corrections corrected (saidOf k index count) r c z
+
+  as-base : AsBase k index count store corrections corrected second r c
+  unfolding eitherPartOf eitherBandsOf partOf bandsOf
+  as-base =
+      let a = numberOf k index count store r c in
+      let p = ap (λ (x : SourceAnswer). eitherPart x store second) base-number ∙ part-base a store second in
+      record {
+        number = base-number;
+        part = p;
+        values = ap₂ (λ (x : NumberAnswer) (y : List ℕ). bandsIn x y (inBand r c)) (ap numberIn base-number ∙ number-sourced Source.Base a) p;
+      }
+
+pub zero-as-base : ZeroAsBase
+zero-as-base k index count store corrections corrected second r c z w =
+    as-base k index count store corrections corrected second r c w (z (tileOf k (natAbs r) (natAbs c)))
+
+pub zero-window : ZeroWindow
+unfolding correctedWindowOf windowOf
+zero-window k index count corrections corrected top left height width z w =
+    let e : saidWith corrections corrected (saidOf k index count) ≡ saidOf k index count =
+    fun-ext (λ t. with-none corrections t corrected (saidOf k index count) (z t)) in
+    rw (w, e)
+
+-- ---- where a correction stands
+some-found : (k : Card) (corrections : List ℕ) (corrected : ℕ) (says other : ℕ → Said) (r c : ℤ)
+    → (getD corrections (tileOf k (natAbs r) (natAbs c)) 0 ≡ 0 → ⊥)
+    → sourcedOf k corrections corrected says r c ≡ sourcedOf k corrections corrected other r c
+unfolding sourcedOf
+some-found k corrections corrected says other r c d =
+    let t = tileOf k (natAbs r) (natAbs c) in
+    ap (sourced (sourceAt corrections t))
+    (one-tile k (saidWith corrections corrected says) (saidWith corrections corrected other) r c
+    (with-some corrections t corrected says d ∙ sym (with-some corrections t corrected other d)))
+
+pub base-not-consulted : BaseNotConsulted
+unfolding sourceOf indexWrong
+base-not-consulted k index other count store corrections corrected second r c d e =
+    rw (e, some-found k corrections corrected (saidOf k index count) (saidOf k other count) r c d)
+
+pub either-part-is : EitherPartIs
+unfolding eitherPartOf
+either-part-is k index count store corrections corrected second r c = (
+  λ n e. rw e (in-place n count store (base-held k index count store corrections corrected second r c n e)),
+  λ n e. rw e (in-place n corrected second (second-held k index count store corrections corrected second r c n e)),
+  λ x e. rw e,
+)
+
+-- ---- the window
+
+-- the tile that a scan answers is missing
+scan-missing : (says : ℕ → Said) (t : ℕ) (ts : List ℕ) → scan says ts ≡ WindowAnswer.Missing t → says t ≡ Said.Missing
+scan-missing says t [] e = let z : _≡_ {A = ℕ} 0 1 = cc in absurd (omega arith)
+scan-missing says t (x ∷ ts) e = go (says x) refl e (scan-missing says t ts)
+  where
+    go : (v : Said) → says x ≡ v → scanned x v (scan says ts) ≡ WindowAnswer.Missing t
+        → (scan says ts ≡ WindowAnswer.Missing t → says t ≡ Said.Missing) → says t ≡ Said.Missing
+    go (Said.Stored n) o h f = f h
+    go Said.Missing o h f = let s : x ≡ t = cc in ap says (sym s) ∙ o
+    go Said.Above o h f = let z : _≡_ {A = ℕ} 0 1 = cc in absurd (omega arith)
+
+-- missing in both lists
+both : (corrections : List ℕ) (corrected : ℕ) (says : ℕ → Said) (t : ℕ) → saidWith corrections corrected says t ≡ Said.Missing
+    → (getD corrections t 0 ≡ 0) × (says t ≡ Said.Missing)
+both corrections corrected says t e = go (ℕ-discrete (getD corrections t 0) 0)
+  where
+    go : Dec (getD corrections t 0 ≡ 0) → (getD corrections t 0 ≡ 0) × (says t ≡ Said.Missing)
+    go (yes z) = (z, sym (with-none corrections t corrected says z) ∙ e)
+    go (no d) = absurd (d (entry-is corrected (getD corrections t 0) Said.Missing (sym (with-some corrections t corrected says d) ∙ e)))
+
+pub missing-in-both : MissingInBoth
+unfolding correctedWindowOf viewOf
+missing-in-both k index count corrections corrected top left height width t =
+    go (indexWrong k index count) (listWrong k corrections corrected) (ltb (k .nfl) (top + height)) (ltb (k .nfc) (left + width))
+  where
+    says : ℕ → Said
+    says = saidWith corrections corrected (saidOf k index count)
+
+    go : (a b x y : Bool) → cond a (WindowAnswer.Refused (refusal 6)) (cond b (WindowAnswer.Refused (refusal 6))
+        (cond (x || y) (WindowAnswer.Refused (refusal 12)) (scan says (windowTiles k top left height width)))) ≡ WindowAnswer.Missing t
+        → (getD corrections t 0 ≡ 0) × (saidOf k index count t ≡ Said.Missing)
+    go true b x y e = let z : _≡_ {A = ℕ} 0 1 = cc in absurd (omega arith)
+    go false true x y e = let z : _≡_ {A = ℕ} 0 1 = cc in absurd (omega arith)
+    go false false true y e = let z : _≡_ {A = ℕ} 0 1 = cc in absurd (omega arith)
+    go false false false true e = let z : _≡_ {A = ℕ} 0 1 = cc in absurd (omega arith)
+    go false false false false e = both corrections corrected (saidOf k index count) t (scan-missing says t (windowTiles k top left height width) e)
