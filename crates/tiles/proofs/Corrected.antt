@@ -18,7 +18,7 @@ use Rattle.tiles.specs.declared.WindowAnswer.{WindowAnswer}
 use Rattle.tiles.specs.Index.{tileOf, indexWrong, said, saidOf}
 use Rattle.tiles.specs.LookUp.{storeWrong, foundOf, numberOf, partIn, partOf, inBand, bandsIn, bandsOf}
 use Rattle.tiles.specs.Window.{windowTiles, scanned, scan, viewOf, windowOf}
-use Rattle.tiles.specs.Corrections.{listWrong, correctionsWrong, saidWith, sourceAt, sourced, numberIn, sourcedOf, sourceOf, eitherPart, eitherPartOf, eitherBandsOf, correctedWindowOf}
+use Rattle.tiles.specs.Corrections.{listWrong, correctionsWrong, saidWith, sourceAt, sourced, numberAlone, sourcedOf, sourceOf, eitherPart, eitherPartOf, eitherBandsOf, correctedWindowOf}
 use Rattle.tiles.specs.Corrected.{SameAnswers, StandbyAlike, Zero, AsBase, ZeroAsBase, ZeroWindow, BaseNotConsulted, EitherPartIs, MissingInBoth}
 use Rattle.tiles.proofs.Entry.{entry-is}
 use Rattle.tiles.proofs.Alike.{one-tile}
@@ -36,7 +36,7 @@ alike k index count store corrections other corrected second r c e =
     record {
       number = e;
       part = ap (λ (a : SourceAnswer). eitherPart a store second) e;
-      values = ap (λ (a : SourceAnswer). bandsIn (numberIn a) (eitherPart a store second) (inBand r c)) e;
+      values = ap (λ (a : SourceAnswer). bandsIn (numberAlone a) (eitherPart a store second) (inBand r c)) e;
     }
 
 pub standby-alike : StandbyAlike
@@ -77,7 +77,7 @@ module _ (k : Card) (index : List ℕ) (count : ℕ) (store corrections : List �
       record {
         number = base-number;
         part = p;
-        values = ap₂ (λ (x : NumberAnswer) (y : List ℕ). bandsIn x y (inBand r c)) (ap numberIn base-number ∙ number-sourced Source.Base a) p;
+        values = ap₂ (λ (x : NumberAnswer) (y : List ℕ). bandsIn x y (inBand r c)) (ap numberAlone base-number ∙ number-sourced Source.Base a) p;
       }
 
 pub zero-as-base : ZeroAsBase

@@ -21,7 +21,7 @@ use Rattle.tiles.specs.declared.SourceAnswer.{SourceAnswer}
 use Rattle.tiles.specs.Index.{tiles, indexWrong, said, saidOf, tileOf}
 use Rattle.tiles.specs.LookUp.{tileBytes, storeWrong, foundOf, inBand, bandsIn}
 use Rattle.tiles.specs.Window.{viewOf}
-use Rattle.tiles.specs.Corrections.{listWrong, correctionsWrong, saidWith, sourceAt, sourced, numberIn, sourcedOf, sourceOf, eitherPart, eitherPartOf, eitherBandsOf}
+use Rattle.tiles.specs.Corrections.{listWrong, correctionsWrong, saidWith, sourceAt, sourced, numberAlone, sourcedOf, sourceOf, eitherPart, eitherPartOf, eitherBandsOf}
 use Rattle.tiles.proofs.Entry.{neither, said-above, said-stored, entry-is, stored-most}
 use Rattle.tiles.proofs.Pixel.{InStore, in-store, found}
 
@@ -54,7 +54,7 @@ module _ (corrections : List ℕ) (t : ℕ) where
   source-some d = rw (ne-eqb (getD corrections t 0) 0 d)
 
 -- the number alone
-pub number-sourced : (s : Source) (a : NumberAnswer) → numberIn (sourced s a) ≡ a
+pub number-sourced : (s : Source) (a : NumberAnswer) → numberAlone (sourced s a) ≡ a
 number-sourced Source.Base (NumberAnswer.Stored n) = refl
 number-sourced Source.Base (NumberAnswer.Refused e) = refl
 number-sourced Source.Corrections (NumberAnswer.Stored n) = refl
@@ -66,7 +66,7 @@ sourced-refused Source.Base e = refl
 sourced-refused Source.Corrections e = refl
 
 -- an empty list corrects nothing
-pub none-found : (k : Card) (corrected : ℕ) (says : ℕ → Said) (r c : ℤ) → numberIn (sourcedOf k [] corrected says r c) ≡ foundOf k says r c
+pub none-found : (k : Card) (corrected : ℕ) (says : ℕ → Said) (r c : ℤ) → numberAlone (sourcedOf k [] corrected says r c) ≡ foundOf k says r c
 unfolding sourcedOf saidWith
 none-found k corrected says r c = number-sourced (sourceAt [] (tileOf k (natAbs r) (natAbs c))) (foundOf k says r c)
 
@@ -175,9 +175,9 @@ module _ (k : Card) (index : List ℕ) (count : ℕ) (store corrections : List �
     either-part-told = ap (λ (v : SourceAnswer). eitherPart v store second) source-told
 
     pub either-bands-told : eitherBandsOf k index count store corrections corrected second r c
-        ≡ bandsIn (numberIn x) (eitherPart x store second) (inBand r c)
+        ≡ bandsIn (numberAlone x) (eitherPart x store second) (inBand r c)
     unfolding eitherBandsOf eitherPartOf
-    either-bands-told = ap (λ (v : SourceAnswer). bandsIn (numberIn v) (eitherPart v store second) (inBand r c)) source-told
+    either-bands-told = ap (λ (v : SourceAnswer). bandsIn (numberAlone v) (eitherPart v store second) (inBand r c)) source-told
 
     pub base-lies : (n : ℕ) → x ≡ SourceAnswer.Base n → InStore n count store
     base-lies n q = base-held n (source-told ∙ q)

@@ -53,10 +53,10 @@ sourced Source.Corrections (NumberAnswer.Stored n) = SourceAnswer.Corrections n
 sourced source (NumberAnswer.Refused e) = SourceAnswer.Refused e
 
 -- the number alone
-abbrev pub numberIn : SourceAnswer → NumberAnswer
-numberIn (SourceAnswer.Base n) = NumberAnswer.Stored n
-numberIn (SourceAnswer.Corrections n) = NumberAnswer.Stored n
-numberIn (SourceAnswer.Refused e) = NumberAnswer.Refused e
+abbrev pub numberAlone : SourceAnswer → NumberAnswer
+numberAlone (SourceAnswer.Base n) = NumberAnswer.Stored n
+numberAlone (SourceAnswer.Corrections n) = NumberAnswer.Stored n
+numberAlone (SourceAnswer.Refused e) = NumberAnswer.Refused e
 
 -- 12, 13, 15 of a correction, 14, 15
 unfoldable pub sourcedOf : Card → List ℕ → ℕ → (ℕ → Said) → ℤ → ℤ → SourceAnswer
@@ -83,7 +83,7 @@ eitherPartOf k index count store corrections corrected second r c =
 -- the three band values of that part
 unfoldable pub eitherBandsOf : Card → List ℕ → ℕ → List ℕ → List ℕ → ℕ → List ℕ → ℤ → ℤ → BandsAnswer
 eitherBandsOf k index count store corrections corrected second r c =
-    bandsIn (numberIn (sourceOf k index count store corrections corrected second r c))
+    bandsIn (numberAlone (sourceOf k index count store corrections corrected second r c))
     (eitherPartOf k index count store corrections corrected second r c) (inBand r c)
 
 -- 6 of the base, 6 of the corrections, then 12, 15: a corrected tile isn't missing

@@ -11,7 +11,7 @@ ghost use Prim.Native.Nat.{_<_};
 ghost use lib.ListN.{getD};
 ghost use Rattle.card.specs.Read.{Known};
 ghost use Rattle.tiles.specs.Index.{tiles, indexWrong, saidOf};
-ghost use Rattle.tiles.specs.Corrections.{saidWith, sourceAt, sourced, numberIn};
+ghost use Rattle.tiles.specs.Corrections.{saidWith, sourceAt, sourced, numberAlone};
 
 // A tile's entry in the corrections, 0 past their end (02, E1).
 pub fn correction_at(corrections: &[u32], tile: u64) -> u64
@@ -70,7 +70,7 @@ pub fn with_source(source: Source, answer: NumberAnswer) -> SourceAnswer
 
 // The number alone (02, E1).
 pub fn number_in(answer: SourceAnswer) -> NumberAnswer
-    ensures { λ r. ⌜ r ≡ numberIn answer ⌝ }
+    ensures { λ r. ⌜ r ≡ numberAlone answer ⌝ }
 {
     match answer {
         SourceAnswer::Base(n) => NumberAnswer::Stored(n),

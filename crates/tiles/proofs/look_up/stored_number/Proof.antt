@@ -5,7 +5,7 @@ use Rattle.card.proofs.Answers.{pair-asked}
 use Rattle.tiles.specs.declared.NumberAnswer.{NumberAnswer}
 use Rattle.tiles.specs.Index.{saidOf}
 use Rattle.tiles.specs.LookUp.{storeWrong, foundOf, numberOf}
-use Rattle.tiles.specs.Corrections.{numberIn}
+use Rattle.tiles.specs.Corrections.{numberAlone}
 use Rattle.tiles.proofs.Entry.{neither}
 use Rattle.tiles.proofs.Sources.{none-found}
 use borrow.Author.Needs.{needs}
@@ -29,7 +29,7 @@ returns-2 c =
     let s = c .before .before .before .before .before .before .before in
     let says = saidOf (s .args .k) (s .args .index .now) (s .args .count) in
     rw (right (c .before .before .before))
-    (c .number-in .ensures ∙ ap numberIn (c .before .found .ensures) ∙ none-found (s .args .k) 0 says _ _
+    (c .number-in .ensures ∙ ap numberAlone (c .before .found .ensures) ∙ none-found (s .args .k) 0 says _ _
     ∙ pair-asked (foundOf (s .args .k) says) (s .fits .row) (s .fits .column))
 
 pub stored-number-spec : {M : Type 1} → statement M
