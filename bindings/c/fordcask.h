@@ -87,12 +87,12 @@
       9   ARV or BRV not that of scale, factor and zone
      10   origin not on the tile grid or outside it
      11   an extent broken
-     12   pixel outside the tiles on any side; top + height above NFL or
-          left + width above NFC
+     12   pixel or tile outside the tiles on any side; top + height above NFL
+          or left + width above NFC
      13   pixel in padding
      14   tile not stored
      15   index entry above the count, repeated, or a stored tile never named;
-          correction above its count
+          correction, set or to be set, above its count
      16   south edge not below north edge
      17   factor not 1..64
      24   scale 5000..9999, a town scale, in writing and alignment alone
@@ -477,9 +477,9 @@ struct fordcask_window fordcask_window(struct fordcask_series series,
    consulted. */
 
 /* The tile of a pixel of the chart, corrected first, and which store holds it.
-   index, count and store as for fordcask_tile: index is not NULL, also for the
-   empty index of a card with TIF N. The corrections store has exactly
-   corrected x 49152 bytes. Refuses 6 (index, count or store), 6 (corrections,
+   index, count, store, row and column as for fordcask_tile: index is not NULL,
+   also for the empty index of a card with TIF N. The corrections store has
+   exactly corrected x 49152 bytes. Refuses 6 (index, count or store), 6 (corrections,
    corrected or the corrections store), 12, 13, 15 for a correction above
    corrected, then, where the tile is not corrected, 14, 15 of the index. */
 struct fordcask_corrected_tile fordcask_corrected_tile(
@@ -501,7 +501,8 @@ struct fordcask_bands fordcask_corrected_bands(
     int64_t row, int64_t column);
 
 /* The first tile in a window, in reading order, that is neither corrected nor
-   stored. The window as for fordcask_window. Refuses 6 (index or count), 6
+   stored. index, count and the window as for fordcask_window: index is not
+   NULL, also for the empty index of a card with TIF N. Refuses 6 (index or count), 6
    (corrections or corrected), 12, then 15 where an entry above its count comes
    before any missing tile: a correction, or the index's entry of a tile that
    is not corrected. A card with TIF N can be refused with 15 too. */

@@ -38,11 +38,11 @@ pub struct CorrectedTile<'s> {
 
 impl Sheet<'_> {
     /// The tile of a pixel, corrected first. `store` holds exactly `tiles.count` × 49,152 bytes,
-    /// `corrections_store` exactly `corrections.count` × 49,152. Where a correction stands, the base
-    /// entry isn't consulted.
+    /// `corrections_store` exactly `corrections.count` × 49,152. Where a correction stands, the
+    /// base entry isn't consulted.
     ///
     /// Refuses 6 (index, count or store), 6 (the corrections' list, count or store), 12, 13, 15 for
-    /// a correction above its count, then 14, 15 of the index.
+    /// a correction above its count, then, where none stands, 14, 15 of the index.
     pub fn corrected_tile<'s>(
         &self,
         tiles: Tiles,

@@ -27,7 +27,7 @@ impl Refusal {
             9 => "ARV or BRV is not that of the scale, factor and zone",
             10 => "the origin is not on the tile grid or outside it",
             11 => "an extent is broken",
-            12 => "the pixel or window is outside the tiles",
+            12 => "the pixel, window or tile is outside the tiles",
             13 => "the pixel is in the padding",
             14 => "the tile is not stored",
             15 => "an entry is above its count or repeated, or a stored tile is never named",

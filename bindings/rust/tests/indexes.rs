@@ -3,29 +3,10 @@
 mod rule;
 mod support;
 
-use fordcask::{Record, Series, Sheet, Tiles, Window};
-use support::index::{good_index, index_of, small};
+use fordcask::{Series, Sheet, Tiles, Window};
+use support::index::{any_window, good_index, index_of, small};
 use support::make::{all_chart, card, chart, overview, town_chart, Maker};
-use support::{seeded, Ask, Random};
-
-/// A window inside the tiles mostly, else with its ends outside or at the end of u64.
-fn any_window(random: &mut Random, record: &Record) -> Window {
-    let ends = [0, 1, u64::MAX, u64::MAX - 1, 1 << 63];
-    let mut side = |tiles: u64| {
-        let first = match random.below(12) {
-            0 => tiles + random.below(2) as u64,
-            _ => random.below(tiles as usize) as u64,
-        };
-        match random.below(24) {
-            0 => (random.pick(&ends), random.pick(&ends)),
-            1 => (first, random.pick(&ends)),
-            2 => (first, tiles),
-            _ => (first, random.between(0, tiles.saturating_sub(first) as i64) as u64),
-        }
-    };
-    let ((top, height), (left, width)) = (side(record.nfl), side(record.nfc));
-    Window { top, left, height, width }
-}
+use support::{seeded, Ask};
 
 /// Indexes good and wrong, with marks of every length.
 fn random_checks(test: &str, rounds: u32, maker: Maker) {

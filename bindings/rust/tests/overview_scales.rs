@@ -195,7 +195,9 @@ fn questions_on_a_card() {
     }
     for question in QUESTIONS {
         let mut numbers = vec![0, 1, 2, 3, 6, 17];
-        if ["place", "position", "tile", "bands", "overview_pixel"].contains(&question) {
+        let at_a_pixel = ["place", "position", "overview_pixel", "corrected_tile"];
+        let of_a_tile = ["tile", "bands", "corrected_bands"];
+        if at_a_pixel.contains(&question) || of_a_tile.contains(&question) {
             numbers.insert(5, 12);
         }
         ask.met(question, &numbers);

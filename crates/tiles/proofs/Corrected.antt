@@ -18,7 +18,8 @@ use Rattle.tiles.specs.declared.WindowAnswer.{WindowAnswer}
 use Rattle.tiles.specs.Index.{tileOf, indexWrong, said, saidOf}
 use Rattle.tiles.specs.LookUp.{storeWrong, foundOf, numberOf, partIn, partOf, inBand, bandsIn, bandsOf}
 use Rattle.tiles.specs.Window.{windowTiles, scanned, scan, viewOf, windowOf}
-use Rattle.tiles.specs.Corrections.{listWrong, correctionsWrong, saidWith, sourceAt, sourced, numberAlone, sourcedOf, sourceOf, eitherPart, eitherPartOf, eitherBandsOf, correctedWindowOf}
+use Rattle.tiles.specs.Corrections.{listWrong, correctionsWrong, saidWith, sourceAt, sourced, numberAlone}
+use Rattle.tiles.specs.Corrections.{sourcedOf, sourceOf, eitherPart, eitherPartOf, eitherBandsOf, correctedWindowOf}
 use Rattle.tiles.specs.Corrected.{SameAnswers, StandbyAlike, Zero, AsBase, ZeroAsBase, ZeroWindow, BaseNotConsulted, EitherPartIs, MissingInBoth}
 use Rattle.tiles.proofs.Entry.{entry-is}
 use Rattle.tiles.proofs.Alike.{one-tile}
@@ -51,7 +52,7 @@ part-base (NumberAnswer.Stored n) store second = refl
 part-base (NumberAnswer.Refused e) store second = refl
 
 -- where the tile is not corrected, the base answers
-pub base-found : (k : Card) (corrections : List ℕ) (corrected : ℕ) (says : ℕ → Said) (r c : ℤ) → getD corrections (tileOf k (natAbs r) (natAbs c)) 0 ≡ 0
+base-found : (k : Card) (corrections : List ℕ) (corrected : ℕ) (says : ℕ → Said) (r c : ℤ) → getD corrections (tileOf k (natAbs r) (natAbs c)) 0 ≡ 0
     → sourcedOf k corrections corrected says r c ≡ sourced Source.Base (foundOf k says r c)
 unfolding sourcedOf
 base-found k corrections corrected says r c z =
@@ -60,7 +61,7 @@ base-found k corrections corrected says r c z =
 
 module _ (k : Card) (index : List ℕ) (count : ℕ) (store corrections : List ℕ) (corrected : ℕ) (second : List ℕ) (r c : ℤ)
     (w : correctionsWrong k corrections corrected second ≡ false) (z : getD corrections (tileOf k (natAbs r) (natAbs c)) 0 ≡ 0) where
-  pub base-number : sourceOf k index count store corrections corrected second r c ≡ sourced Source.Base (numberOf k index count store r c)
+  base-number : sourceOf k index count store corrections corrected second r c ≡ sourced Source.Base (numberOf k index count store r c)
   unfolding sourceOf numberOf
   base-number = rw w (go (storeWrong k index count store))
     where
@@ -69,7 +70,7 @@ module _ (k : Card) (index : List ℕ) (count : ℕ) (store corrections : List �
       go true = refl
       go false = base-found k corrections corrected (saidOf k index count) r c z
 
-  as-base : AsBase k index count store corrections corrected second r c
+  pub as-base : AsBase k index count store corrections corrected second r c
   unfolding eitherPartOf eitherBandsOf partOf bandsOf
   as-base =
       let a = numberOf k index count store r c in

@@ -23,11 +23,12 @@ use Rattle.tiles.specs.declared.SourceAnswer.{SourceAnswer}
 use Rattle.tiles.specs.Index.{tiles, tileOf, saidOf}
 use Rattle.tiles.specs.LookUp.{storeWrong, numberSaid, foundOf}
 use Rattle.tiles.specs.Window.{windowTiles, scanned, scan, viewOf}
-use Rattle.tiles.specs.Corrections.{listWrong, correctionsWrong, saidWith, sourceAt, sourced, sourcedOf, sourceOf, correctedWindowOf, settingOf, setOf}
+use Rattle.tiles.specs.Corrections.{listWrong, correctionsWrong, saidWith, sourceAt, sourced, sourcedOf}
+use Rattle.tiles.specs.Corrections.{sourceOf, eitherPartOf, eitherBandsOf, correctedWindowOf, settingOf, setOf}
 use Rattle.tiles.specs.Corrected.{SameAnswers, OneSet, SetsOne, OtherPixels, OtherWindows, FromNewEntry}
 use Rattle.tiles.proofs.Entry.{neither, said-stored}
 use Rattle.tiles.proofs.Sources.{with-some, source-some, sourced-refused, list-long}
-use Rattle.tiles.proofs.Corrected.{alike, standby-alike, base-number}
+use Rattle.tiles.proofs.Corrected.{alike, standby-alike, as-base}
 
 module _ (k : Card) (corrections : List ℕ) (corrected t number : ℕ) where
   -- what was accepted
@@ -137,14 +138,16 @@ unfolding sourceOf
 past-lengths k index count store corrections corrected second r c b w = rw (b, w)
 
 pub from-new-entry : FromNewEntry
+unfolding eitherPartOf eitherBandsOf
 from-new-entry k index count store corrections corrected second t number r c e b w v s =
     let x = setOf k corrections corrected t number in
     let new : getD x (tileOf k (natAbs r) (natAbs c)) 0 ≡ number =
     ap (λ (j : ℕ). getD x j 0) s ∙ after-there k corrections corrected t number e in
     let right = after-right k corrections corrected t number second w in (
-      λ d. past-lengths k index count store x corrected second r c b right
-          ∙ corrected-found k x corrected number (saidOf k index count) r c v new d (accepted k corrections corrected t number e .most),
-      λ z. base-number k index count store x corrected second r c right (new ∙ z),
+      λ d. let a = past-lengths k index count store x corrected second r c b right
+          ∙ corrected-found k x corrected number (saidOf k index count) r c v new d (accepted k corrections corrected t number e .most) in
+          (a, rw a, rw a),
+      λ z. as-base k index count store x corrected second r c right (new ∙ z),
     )
 
 -- ---- windows

@@ -21,7 +21,8 @@ use Rattle.tiles.specs.declared.SourceAnswer.{SourceAnswer}
 use Rattle.tiles.specs.Index.{tiles, indexWrong, said, saidOf, tileOf}
 use Rattle.tiles.specs.LookUp.{tileBytes, storeWrong, foundOf, inBand, bandsIn}
 use Rattle.tiles.specs.Window.{viewOf}
-use Rattle.tiles.specs.Corrections.{listWrong, correctionsWrong, saidWith, sourceAt, sourced, numberAlone, sourcedOf, sourceOf, eitherPart, eitherPartOf, eitherBandsOf}
+use Rattle.tiles.specs.Corrections.{listWrong, correctionsWrong, saidWith, sourceAt, sourced}
+use Rattle.tiles.specs.Corrections.{numberAlone, sourcedOf, sourceOf, eitherPart, eitherPartOf, eitherBandsOf}
 use Rattle.tiles.proofs.Entry.{neither, said-above, said-stored, entry-is, stored-most}
 use Rattle.tiles.proofs.Pixel.{InStore, in-store, found}
 

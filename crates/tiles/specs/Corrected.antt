@@ -18,7 +18,7 @@ use Rattle.tiles.specs.declared.Source.{Source}
 use Rattle.tiles.specs.declared.SourceAnswer.{SourceAnswer}
 use Rattle.tiles.specs.declared.WindowAnswer.{WindowAnswer}
 use Rattle.tiles.specs.Index.{saidOf, tileOf}
-use Rattle.tiles.specs.LookUp.{storeWrong, numberOf, partOf, bandsOf, InPlace}
+use Rattle.tiles.specs.LookUp.{storeWrong, numberOf, partAt, partOf, inBand, bandsAt, bandsOf, InPlace}
 use Rattle.tiles.specs.Window.{windowTiles, windowOf}
 use Rattle.tiles.specs.Corrections.{listWrong, correctionsWrong, sourced, sourceOf, eitherPartOf, eitherBandsOf, correctedWindowOf, settingOf, setOf}
 
@@ -114,12 +114,14 @@ OtherWindows =
     → correctedWindowOf k index count (setOf k corrections corrected t number) corrected top left height width
     ≡ correctedWindowOf k index count corrections corrected top left height width
 
--- look-ups in it answer from the new entry: that number of the second store, or the base where it is 0
+-- look-ups in it answer from the new entry: that tile of the second store, or document 01's answers where it is 0
 abbrev pub FromNewEntry : Type 0
 FromNewEntry =
     (k : Card) (index : List ℕ) (count : ℕ) (store corrections : List ℕ) (corrected : ℕ) (second : List ℕ) (t number : ℕ) (r c : ℤ)
     → settingOf k corrections corrected t number ≡ Verdict.Accepted → storeWrong k index count store ≡ false
     → correctionsWrong k corrections corrected second ≡ false → verdictOf k r c ≡ Verdict.Accepted → tileOf k (natAbs r) (natAbs c) ≡ t
-    → let a = sourceOf k index count store (setOf k corrections corrected t number) corrected second r c in
-    ((number ≡ 0 → ⊥) → a ≡ SourceAnswer.Corrections number)
-    × (number ≡ 0 → a ≡ sourced Source.Base (numberOf k index count store r c))
+    → let after = setOf k corrections corrected t number in
+    ((number ≡ 0 → ⊥) → (sourceOf k index count store after corrected second r c ≡ SourceAnswer.Corrections number)
+    × (eitherPartOf k index count store after corrected second r c ≡ partAt number second)
+    × (eitherBandsOf k index count store after corrected second r c ≡ bandsAt (partAt number second) (inBand r c)))
+    × (number ≡ 0 → AsBase k index count store after corrected second r c)

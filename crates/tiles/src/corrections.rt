@@ -49,7 +49,8 @@ pub fn corrected_number(
     column: i64,
 ) -> SourceAnswer
     requires { ⌜ Known k ⌝ }
-    ensures { λ r. ⌜ r ≡ sourceOf k (now (index .entry)) count (now (store .entry)) (now (corrections .entry)) corrected (now (second .entry)) row column ⌝ }
+    ensures { λ r. ⌜ r ≡ sourceOf k (now (index .entry)) count (now (store .entry)) (now (corrections .entry)) corrected
+        (now (second .entry)) row column ⌝ }
 {
     if base_wrong(k, index, count, store) {
         return SourceAnswer::Refused(arc::refused(6));
@@ -73,7 +74,8 @@ pub fn corrected_tile<'a>(
     column: i64,
 ) -> &'a [u8]
     requires { ⌜ Known k ⌝ }
-    ensures { λ r. ⌜ now r ≡ eitherPartOf k (now (index .entry)) count (now (store .entry)) (now (corrections .entry)) corrected (now (second .entry)) row column ⌝ }
+    ensures { λ r. ⌜ now r ≡ eitherPartOf k (now (index .entry)) count (now (store .entry)) (now (corrections .entry)) corrected
+        (now (second .entry)) row column ⌝ }
 {
     match corrected_number(
         k,
@@ -105,7 +107,8 @@ pub fn corrected_bands(
     column: i64,
 ) -> BandsAnswer
     requires { ⌜ Known k ⌝ }
-    ensures { λ r. ⌜ r ≡ eitherBandsOf k (now (index .entry)) count (now (store .entry)) (now (corrections .entry)) corrected (now (second .entry)) row column ⌝ }
+    ensures { λ r. ⌜ r ≡ eitherBandsOf k (now (index .entry)) count (now (store .entry)) (now (corrections .entry)) corrected
+        (now (second .entry)) row column ⌝ }
 {
     match corrected_number(
         k,

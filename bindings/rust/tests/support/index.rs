@@ -1,8 +1,8 @@
-//! Indexes of every kind, for images of few tiles.
+//! Indexes and windows of every kind, for images of few tiles.
 
 use super::make::{all_chart, with_edges, Maker};
 use super::random::Random;
-use fordcask::{Record, Series};
+use fordcask::{Record, Series, Window};
 
 /// An index that is accepted: each of 1..count once, the rest 0, in random order.
 pub fn good_index(random: &mut Random, tiles: usize, count: usize) -> Vec<u32> {
@@ -14,7 +14,7 @@ pub fn good_index(random: &mut Random, tiles: usize, count: usize) -> Vec<u32> {
 }
 
 /// Repeats an entry, or makes one zero, above the count, or anything.
-fn spoil(random: &mut Random, index: &mut [u32], count: usize) {
+pub fn spoil(random: &mut Random, index: &mut [u32], count: usize) {
     let at = random.below(index.len());
     index[at] = match random.below(6) {
         0 => 0,
@@ -63,4 +63,23 @@ pub fn index_of(random: &mut Random, record: &Record) -> (Vec<u32>, u64) {
         _ => (),
     }
     (index, count as u64)
+}
+
+/// A window inside the tiles mostly, else with its ends outside or at the end of u64.
+pub fn any_window(random: &mut Random, record: &Record) -> Window {
+    let ends = [0, 1, u64::MAX, u64::MAX - 1, 1 << 63];
+    let mut side = |tiles: u64| {
+        let first = match random.below(12) {
+            0 => tiles + random.below(2) as u64,
+            _ => random.below(tiles as usize) as u64,
+        };
+        match random.below(24) {
+            0 => (random.pick(&ends), random.pick(&ends)),
+            1 => (first, random.pick(&ends)),
+            2 => (first, tiles),
+            _ => (first, random.between(0, tiles.saturating_sub(first) as i64) as u64),
+        }
+    };
+    let ((top, height), (left, width)) = (side(record.nfl), side(record.nfc));
+    Window { top, left, height, width }
 }

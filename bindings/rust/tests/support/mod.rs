@@ -5,12 +5,14 @@
 pub mod angles;
 pub mod ask;
 pub mod ask_all;
+pub mod ask_corrections;
 pub mod ask_lists;
 pub mod ask_pairs;
 pub mod ask_sheet;
 pub mod blank_faults;
 pub mod blanks;
 pub mod contain;
+pub mod corrections;
 pub mod cuts;
 pub mod damage;
 pub mod edges;

@@ -1,6 +1,7 @@
 //! The blocks of all C entry points on a card, with their totals of blanks (02, E2).
 
 use super::blanks::pad_all;
+use super::corrections::Image;
 use super::{WORKED, WORKED_SERIES};
 use fordcask::{raw, Pixel, Position, Sheet};
 
@@ -92,6 +93,48 @@ fn tile_blocks(sheet: &Sheet, asked: &Asked) -> Vec<Block> {
             block!(check),
         ]
     }
+}
+
+/// What is asked of an image with corrections beside a pixel: a window, and an entry to set.
+pub struct Corrected {
+    pub pixel: Pixel,
+    pub window: [u64; 4],
+    pub tile: u64,
+    pub number: u64,
+}
+
+/// The questions on corrections (02, E1), and what the list holds after the last.
+pub fn corrected_blocks(image: &Image, asked: &Corrected) -> ([Block; 4], Vec<u32>) {
+    let (s, c, n) = (image.sheet.series, image.sheet.card.as_ptr(), image.sheet.card.len());
+    let (i, count, k) = (image.tiles.index.as_ptr(), image.tiles.index.len(), image.tiles.count);
+    let (t, size) = (image.store.as_ptr(), image.store.len());
+    let (list, most) = (image.corrections.list, image.corrections.count);
+    let (l, length) = (list.as_ptr(), list.len());
+    let (u, bytes) = (image.second.as_ptr(), image.second.len());
+    let (Pixel { row, column }, [top, left, height, width]) = (asked.pixel, asked.window);
+    let mut set = list.to_vec();
+    let m = set.as_mut_ptr();
+    // SAFETY: each pointer and length are those of one slice or vector.
+    let blocks = unsafe {
+        let tile = raw::fordcask_corrected_tile(
+            s, c, n, i, count, k, t, size, l, length, most, u, bytes, row, column,
+        );
+        let bands = raw::fordcask_corrected_bands(
+            s, c, n, i, count, k, t, size, l, length, most, u, bytes, row, column,
+        );
+        let window = raw::fordcask_corrected_window(
+            s, c, n, i, count, k, l, length, most, top, left, height, width,
+        );
+        let verdict =
+            raw::fordcask_set_correction(s, c, n, m, length, most, asked.tile, asked.number);
+        [
+            block!(tile, source, stored, offset, length),
+            block!(bands, red, green, blue),
+            block!(window, missing, tile),
+            block!(verdict),
+        ]
+    };
+    (blocks, set)
 }
 
 /// The lists of one entry, which is kept with an answer.

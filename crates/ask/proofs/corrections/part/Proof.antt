@@ -10,4 +10,5 @@ corrected-tile-requires c κs = card-known _ _ (c .before .before .before .befor
 pub part-spec : {M : Type 1} → statement M
 part-spec =
     tie.close
-    (tie.spec (λ c κs. search needs) (λ c. search needs) corrected-tile-requires (λ c. search needs) (λ c. search needs) (λ c. search needs) (λ c. search needs))
+    (tie.spec (λ c κs. search needs) (λ c. search needs) corrected-tile-requires (λ c. search needs) (λ c. search needs) (λ c. search needs)
+    (λ c. search needs))

@@ -21,7 +21,8 @@ returns c =
     ∙ ap bandsReport (c .before .before .corrected-bands .ensures ∙ pair-asked (eitherBandsOf _ _ _ _ _ _ _) (s .fits .row) (s .fits .column))))
 
 returns-2 : tie.Need-returns-2
-returns-2 c = rw (← c .before .before .before .before .before .before .read-card .ensures, c .before .before .before .verdict .given .1) (c .bands-on2 .ensures ∙ ap (withTotal _) (c .before .into-parts2 .ensures))
+returns-2 c = rw (← c .before .before .before .before .before .before .read-card .ensures, c .before .before .before .verdict .given .1)
+    (c .bands-on2 .ensures ∙ ap (withTotal _) (c .before .into-parts2 .ensures))
 
 pub fordcask-corrected-bands-spec : {M : Type 1} → statement M
 fordcask-corrected-bands-spec =

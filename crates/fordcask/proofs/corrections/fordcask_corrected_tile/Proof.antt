@@ -34,29 +34,34 @@ corrected-number-requires c κs = let s = c .before .before .before .before .bef
 held-tile-requires : tie.Need-held-tile-requires
 held-tile-requires c κs =
     let s = c .before .before .before .before .before .before .before .before .before .before .before .before .before in
-    let h = base-lies _ _ _ _ _ _ _ _ _ (s .fits .row) (s .fits .column) (c .before .before .before .corrected-number .ensures) (c .before .n .given .1) _ refl in
+    let h = base-lies _ _ _ _ _ _ _ _ _ (s .fits .row) (s .fits .column) (c .before .before .before .corrected-number .ensures)
+    (c .before .n .given .1) _ refl in
     (h .some, omega (arith, h .most, h .long))
 
 held-tile-requires-2 : tie.Need-held-tile-requires-2
 held-tile-requires-2 c κs =
     let s = c .before .before .before .before .before .before .before .before .before .before .before .before .before in
-    let h = second-lies _ _ _ _ _ _ _ _ _ (s .fits .row) (s .fits .column) (c .before .before .before .corrected-number .ensures) (c .before .n2 .given .1) _ refl in
+    let h = second-lies _ _ _ _ _ _ _ _ _ (s .fits .row) (s .fits .column) (c .before .before .before .corrected-number .ensures)
+    (c .before .n2 .given .1) _ refl in
     (h .some, omega (arith, h .most, h .long))
 
 returns : tie.Need-returns
 returns c =
     c .held-tile .ensures
-    ∙ ap₂ correctedTile (ap (λ (x : Reading). x .blanks) (c .before .before .before .before .before .before .before .before .read-card .ensures)) (sym (c .before .before .n .given .1) ∙ told (c .before .before .before .before))
+    ∙ ap₂ correctedTile (ap (λ (x : Reading). x .blanks) (c .before .before .before .before .before .before .before .before .read-card .ensures))
+    (sym (c .before .before .n .given .1) ∙ told (c .before .before .before .before))
 
 returns-2 : tie.Need-returns-2
 returns-2 c =
     c .held-tile2 .ensures
-    ∙ ap₂ correctedTile (ap (λ (x : Reading). x .blanks) (c .before .before .before .before .before .before .before .before .read-card .ensures)) (sym (c .before .before .n2 .given .1) ∙ told (c .before .before .before .before))
+    ∙ ap₂ correctedTile (ap (λ (x : Reading). x .blanks) (c .before .before .before .before .before .before .before .before .read-card .ensures))
+    (sym (c .before .before .n2 .given .1) ∙ told (c .before .before .before .before))
 
 returns-3 : tie.Need-returns-3
 returns-3 c =
     c .none-held .ensures
-    ∙ ap₂ correctedTile (ap (λ (x : Reading). x .blanks) (c .before .before .before .before .before .before .before .before .read-card .ensures)) (sym (c .before .before .e .given .1) ∙ told (c .before .before .before .before))
+    ∙ ap₂ correctedTile (ap (λ (x : Reading). x .blanks) (c .before .before .before .before .before .before .before .before .read-card .ensures))
+    (sym (c .before .before .e .given .1) ∙ told (c .before .before .before .before))
 
 returns-4 : tie.Need-returns-4
 returns-4 c = rw (← c .before .before .before .before .before .read-card .ensures, c .before .before .verdict .given .1) (c .none-held2 .ensures)

@@ -10,11 +10,13 @@ use Rattle.tiles.proofs.corrections.corrected_bands.Statement.{statemen
 use Rattle.tiles.proofs.corrections.corrected_bands.Tie as tie
 
 -- the number lies in the store that is named
-in-base : (c : tie.After-known-told) → let a = c .before .before .before .before .before .before .before .before .args in InStore (c .before .n .given .0 .0) (a .count) (a .store .now)
+in-base : (c : tie.After-known-told) → let a = c .before .before .before .before .before .before .before .before .args in InStore
+    (c .before .n .given .0 .0) (a .count) (a .store .now)
 in-base c = let s = c .before .before .before .before .before .before .before .before in
     base-lies _ _ _ _ _ _ _ _ _ (s .fits .row) (s .fits .column) (c .before .before .before .corrected-number .ensures) (c .before .n .given .1) _ refl
 
-in-second : (c : tie.After-known-told2) → let a = c .before .before .before .before .before .before .before .before .args in InStore (c .before .n2 .given .0 .0) (a .corrected) (a .second .now)
+in-second : (c : tie.After-known-told2) → let a = c .before .before .before .before .before .before .before .before .args in InStore
+    (c .before .n2 .given .0 .0) (a .corrected) (a .second .now)
 in-second c = let s = c .before .before .before .before .before .before .before .before in
     second-lies _ _ _ _ _ _ _ _ _ (s .fits .row) (s .fits .column) (c .before .before .before .corrected-number .ensures) (c .before .n2 .given .1) _ refl
 
@@ -34,13 +36,15 @@ returns : tie.Need-returns
 returns c =
     let s = c .before .before .before .before .before .before .before .before .before .before in
     c .bands-at .ensures ∙ ap₂ bandsAt (c .before .part .ensures) (pair-asked inBand (s .fits .row) (s .fits .column))
-    ∙ sym (either-bands-told _ _ _ _ _ _ _ _ _ (s .fits .row) (s .fits .column) (c .before .before .before .before .before .corrected-number .ensures) (c .before .before .before .n .given .1))
+    ∙ sym (either-bands-told _ _ _ _ _ _ _ _ _ (s .fits .row) (s .fits .column) (c .before .before .before .before .before .corrected-number .ensures)
+    (c .before .before .before .n .given .1))
 
 returns-2 : tie.Need-returns-2
 returns-2 c =
     let s = c .before .before .before .before .before .before .before .before .before .before in
     c .bands-at2 .ensures ∙ ap₂ bandsAt (c .before .part2 .ensures) (pair-asked inBand (s .fits .row) (s .fits .column))
-    ∙ sym (either-bands-told _ _ _ _ _ _ _ _ _ (s .fits .row) (s .fits .column) (c .before .before .before .before .before .corrected-number .ensures) (c .before .before .before .n2 .given .1))
+    ∙ sym (either-bands-told _ _ _ _ _ _ _ _ _ (s .fits .row) (s .fits .column) (c .before .before .before .before .before .corrected-number .ensures)
+    (c .before .before .before .n2 .given .1))
 
 returns-3 : tie.Need-returns-3
 returns-3 c = let s = c .before .before .before .before .before .before .before .before in

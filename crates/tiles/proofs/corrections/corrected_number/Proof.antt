@@ -11,7 +11,8 @@ use Rattle.tiles.proofs.corrections.corrected_number.Statement.{stateme
 use Rattle.tiles.proofs.corrections.corrected_number.Tie as tie
 
 -- the lengths of the base are right
-right : (c : tie.Else1) → let a = c .before .before .before .before .before .before .args in storeWrong (a .k) (a .index .now) (a .count) (a .store .now) ≡ false
+right : (c : tie.Else1) → let a = c .before .before .before .before .before .before .args in storeWrong (a .k) (a .index .now) (a .count)
+    (a .store .now) ≡ false
 right c = sym (c .before .base-wrong .ensures) ∙ c .if1 .left
 
 returns : tie.Need-returns
@@ -20,7 +21,8 @@ returns c = rw (sym (c .before .before .base-wrong .ensures) ∙ c .before .if1 
 
 returns-2 : tie.Need-returns-2
 unfolding sourceOf
-returns-2 c = rw (right (c .before .before .before), sym (c .before .before .corrections-wrong .ensures) ∙ c .before .if2 .taken) (ap SourceAnswer.Refused (c .refused2 .ensures))
+returns-2 c = rw (right (c .before .before .before), sym (c .before .before .corrections-wrong .ensures) ∙ c .before .if2 .taken)
+    (ap SourceAnswer.Refused (c .refused2 .ensures))
 
 found-requires : tie.Need-found-requires
 found-requires c κs = (c .before .before .before .before .before .before .before .before .pre, neither _ _ (right (c .before .before)) .0)

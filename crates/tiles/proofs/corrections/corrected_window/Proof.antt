@@ -18,7 +18,8 @@ returns c = rw (sym (c .before .before .index-wrong .ensures) ∙ c .before .if1
 
 returns-2 : tie.Need-returns-2
 unfolding correctedWindowOf
-returns-2 c = rw (right (c .before .before .before), sym (c .before .before .list-wrong .ensures) ∙ c .before .if2 .taken) (ap WindowAnswer.Refused (c .refused2 .ensures))
+returns-2 c = rw (right (c .before .before .before), sym (c .before .before .list-wrong .ensures) ∙ c .before .if2 .taken)
+    (ap WindowAnswer.Refused (c .refused2 .ensures))
 
 view-requires : tie.Need-view-requires
 view-requires c κs = (c .before .before .before .before .before .before .pre, right (c .before .before))

@@ -28,10 +28,12 @@ returns-2 c = rw (right (c .before .before .before), le-leb _ _ (c .before .if2 
 
 returns-3 : tie.Need-returns-3
 unfolding settingOf setOf
-returns-3 c = rw (right (c .before .before .before .before), lt-leb _ _ (c .before .before .if2 .left), lt-ltb _ _ (c .before .if3 .taken)) (ap Verdict.Refused (c .bad-entry .ensures), refl)
+returns-3 c = rw (right (c .before .before .before .before), lt-leb _ _ (c .before .before .if2 .left), lt-ltb _ _ (c .before .if3 .taken))
+    (ap Verdict.Refused (c .bad-entry .ensures), refl)
 
 cast-corrections : tie.Need-cast-corrections
-cast-corrections c = omega (arith, tiles-small _ (c .before .before .before .before .before .before .before .pre), corrected-most _ _ _ (right (c .before .before .before)))
+cast-corrections c = omega
+    (arith, tiles-small _ (c .before .before .before .before .before .before .before .pre), corrected-most _ _ _ (right (c .before .before .before)))
 
 mul-corrections : tie.Need-mul-corrections
 mul-corrections c = omega (arith, tiles-small _ (c .before .before .before .before .before .before .before .pre), c .before .if2 .left)

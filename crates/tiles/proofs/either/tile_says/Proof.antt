@@ -20,7 +20,8 @@ returns-2 c =
 
 returns-3 : tie.Need-returns-3
 returns-3 c = let a = c .before .before .before .before .before .before .args in
-    c .index-says .ensures ∙ sym (with-none (a .corrections .now) (a .tile) (a .corrected) _ (sym (c .before .before .before .correction-at .ensures) ∙ c .before .if2 .left))
+    c .index-says .ensures
+    ∙ sym (with-none (a .corrections .now) (a .tile) (a .corrected) _ (sym (c .before .before .before .correction-at .ensures) ∙ c .before .if2 .left))
 
 pub tile-says-spec : {M : Type 1} → statement M
 tile-says-spec = tie.close (tie.spec (λ c κs. search needs) returns returns-2 (λ c κs. search needs) returns-3)

@@ -9,8 +9,10 @@ use Rattle.tiles.proofs.look_up.bands.Statement.{statement}
 use Rattle.tiles.proofs.look_up.bands.Tie as tie
 
 -- the number lies in the store
-lies : (c : tie.After-known-told) → let a = c .before .before .before .before .before .before .args in InStore (c .before .n .given .0 .0) (a .count) (a .store .now)
-lies c = let s = c .before .before .before .before .before .before in held _ _ _ _ _ _ (s .fits .row) (s .fits .column) (c .before .before .before .stored-number .ensures) (c .before .n .given .1) _ refl
+lies : (c : tie.After-known-told) → let a = c .before .before .before .before .before .before .args in InStore (c .before .n .given .0 .0) (a .count)
+    (a .store .now)
+lies c = let s = c .before .before .before .before .before .before in held _ _ _ _ _ _ (s .fits .row) (s .fits .column)
+    (c .before .before .before .stored-number .ensures) (c .before .n .given .1) _ refl
 
 part-requires : tie.Need-part-requires
 part-requires c κs = let h = lies c in (h .some, part-ends _ _ _ h)
@@ -22,7 +24,8 @@ returns : tie.Need-returns
 returns c =
     let s = c .before .before .before .before .before .before .before .before in
     c .bands-at .ensures ∙ ap₂ bandsAt (c .before .part .ensures) (pair-asked inBand (s .fits .row) (s .fits .column))
-    ∙ sym (bands-told _ _ _ _ _ _ (s .fits .row) (s .fits .column) (c .before .before .before .before .before .stored-number .ensures) (c .before .before .before .n .given .1))
+    ∙ sym (bands-told _ _ _ _ _ _ (s .fits .row) (s .fits .column) (c .before .before .before .before .before .stored-number .ensures)
+    (c .before .before .before .n .given .1))
 
 returns-2 : tie.Need-returns-2
 returns-2 c = let s = c .before .before .before .before .before .before in

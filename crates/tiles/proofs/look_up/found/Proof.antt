@@ -40,8 +40,10 @@ answer-is c v e =
     (sym (verdict c) ∙ e)
 
 -- an accepted pixel's tile
-inside : (c : tie.After-enum-told) → let a = c .before .before .before .before .before .args in tileOf (a .k) (natAbs (a .row)) (natAbs (a .column)) < tiles (a .k)
-inside c = let a = c .before .before .before .before .before .args in tile-in (a .k) (a .row) (a .column) (sym (verdict (c .before .before)) ∙ c .enum-told .given .1)
+inside : (c : tie.After-enum-told) → let a = c .before .before .before .before .before .args in tileOf (a .k) (natAbs (a .row))
+    (natAbs (a .column)) < tiles (a .k)
+inside c = let a = c .before .before .before .before .before .args in tile-in (a .k) (a .row) (a .column)
+    (sym (verdict (c .before .before)) ∙ c .enum-told .given .1)
 
 small : (c : tie.After-enum-told) → let a = c .before .before .before .before .before .args in tileOf (a .k) (natAbs (a .row)) (natAbs (a .column)) < 998001
 small c = omega (arith, inside c, tiles-small _ (c .before .before .before .before .before .pre .0))
@@ -57,13 +59,17 @@ here c =
     (c .size2 .ensures ∙ ap natAbs (toZ-ofZ w64 (s .args .column) (s .fits .column)))
 
 mul-tile : tie.Need-mul-tile
-mul-tile c = let a = c .before .before .before .before .before .before .before .args in omega (arith, small (c .before .before), ap (λ (x : ℕ). x / 128 * a .k .nfc) (rows (c .before)))
+mul-tile c = let a = c .before .before .before .before .before .before .before .args in omega
+    (arith, small (c .before .before), ap (λ (x : ℕ). x / 128 * a .k .nfc) (rows (c .before)))
 
 add-tile : tie.Need-add-tile
 add-tile c = omega (arith, small (c .before .before .before), here c)
 
 tile-says-requires : tie.Need-tile-says-requires
-tile-says-requires c κs = (c .before .before .before .before .before .before .before .before .pre .0, (c .before .before .before .before .before .before .before .before .pre .1, rw (here c) (inside (c .before .before .before))))
+tile-says-requires c κs = (
+  c .before .before .before .before .before .before .before .before .pre .0,
+  (c .before .before .before .before .before .before .before .before .pre .1, rw (here c) (inside (c .before .before .before))),
+)
 
 returns : tie.Need-returns
 returns c =
@@ -72,7 +78,8 @@ returns c =
     ∙ ap₂ sourced (c .before .before .source-at .ensures) (c .before .number-said .ensures ∙ ap (numberSaid _) (c .before .before .before .tile-says .ensures))
     ∙ ap (λ (t : ℕ). sourced (sourceAt (a .corrections .now) t)
     (numberSaid t (saidWith (a .corrections .now) (a .corrected) (saidOf (a .k) (a .index .now) (a .count)) t))) (here (c .before .before .before .before))
-    ∙ sym (answer-is (c .before .before .before .before .before .before .before .before .before) Verdict.Accepted (c .before .before .before .before .before .before .before .enum-told .given .1))
+    ∙ sym (answer-is (c .before .before .before .before .before .before .before .before .before) Verdict.Accepted
+    (c .before .before .before .before .before .before .before .enum-told .given .1))
 
 returns-2 : tie.Need-returns-2
 returns-2 c =
