@@ -87,12 +87,12 @@
       9   ARV or BRV not that of scale, factor and zone
      10   origin not on the tile grid or outside it
      11   an extent broken
-     12   pixel or tile outside the tiles on any side; top + height above NFL
-          or left + width above NFC
+     12   pixel outside the tiles on any side; top + height above NFL or
+          left + width above NFC; tile not 0..NFL x NFC - 1
      13   pixel in padding
      14   tile not stored
      15   index entry above the count, repeated, or a stored tile never named;
-          correction, set or to be set, above its count
+          correction, in the list or to be set, above its count
      16   south edge not below north edge
      17   factor not 1..64
      24   scale 5000..9999, a town scale, in writing and alignment alone
@@ -478,10 +478,11 @@ struct fordcask_window fordcask_window(struct fordcask_series series,
 
 /* The tile of a pixel of the chart, corrected first, and which store holds it.
    index, count, store, row and column as for fordcask_tile: index is not NULL,
-   also for the empty index of a card with TIF N. The corrections store has
-   exactly corrected x 49152 bytes. Refuses 6 (index, count or store), 6 (corrections,
-   corrected or the corrections store), 12, 13, 15 for a correction above
-   corrected, then, where the tile is not corrected, 14, 15 of the index. */
+   also for the empty index of a card with TIF N. corrections_store has exactly
+   corrected x 49152 bytes and is not NULL, also where corrected is 0. Refuses
+   6 (index, count or store), 6 (corrections, corrected or the corrections
+   store), 12, 13, 15 for a correction above corrected, then, where the tile is
+   not corrected, 14, 15 of the index. */
 struct fordcask_corrected_tile fordcask_corrected_tile(
     struct fordcask_series series, const uint8_t *card, size_t card_len,
     const uint32_t *index, size_t index_len, uint64_t count,
@@ -502,10 +503,10 @@ struct fordcask_bands fordcask_corrected_bands(
 
 /* The first tile in a window, in reading order, that is neither corrected nor
    stored. index, count and the window as for fordcask_window: index is not
-   NULL, also for the empty index of a card with TIF N. Refuses 6 (index or count), 6
-   (corrections or corrected), 12, then 15 where an entry above its count comes
-   before any missing tile: a correction, or the index's entry of a tile that
-   is not corrected. A card with TIF N can be refused with 15 too. */
+   NULL, also for the empty index of a card with TIF N. Refuses 6 (index or
+   count), 6 (corrections or corrected), 12, then 15 where an entry above its
+   count comes before any missing tile: a correction, or the index's entry of a
+   tile that is not corrected. A card with TIF N can be refused with 15 too. */
 struct fordcask_window fordcask_corrected_window(
     struct fordcask_series series, const uint8_t *card, size_t card_len,
     const uint32_t *index, size_t index_len, uint64_t count,

@@ -5,7 +5,7 @@
 --     verdictParts           number, place, and the total of blanks of the card
 --     placeBlock, .., windowBlock    number, place and values of a block, the total of blanks of the card last
 --     tileParts              number, place, the stored number, where its bytes stand in the store, and the total of blanks of the card
---     correctedTile          the same with the store that holds the tile, 0 for the base or 1 for the corrections (02, E1)
+--     heldTile, correctedTile    the same with the store that holds the tile, 0 for the base store or 1 for the corrections store (02, E1)
 use mathlib.Core.Path.{_≡_}
 use Prim.Native.Nat.{ℕ, _-_, _*_}
 use mathlib.Core.List.{List, [], _∷_}

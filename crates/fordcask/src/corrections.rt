@@ -24,7 +24,7 @@ ghost use Rattle.tiles.specs.Window.{windowReport};
 ghost use Rattle.tiles.specs.Corrections.{sourceOf, eitherBandsOf, correctedWindowOf, settingOf, setOf};
 ghost use Rattle.fordcask.specs.Entry.{verdictParts, bandsBlock, windowBlock, heldTile, correctedTile};
 
-// A stored tile: its store, 0 for the base or 1 for the corrections, its number there, and where its bytes stand.
+// A stored tile: 0 for the base store or 1 for the corrections store, its number there, and where its bytes stand.
 fn held_tile(source: u64, n: u64, blanks: u64) -> CorrectedTile
     requires { ⌜ 1 ≤ n ⌝ ∗ ⌜ n * tileBytes < 2 ^ 64 ⌝ }
     ensures { λ r. ⌜ r ≡ heldTile source n blanks ⌝ }
@@ -55,7 +55,7 @@ fn none_held(e: Refusal, blanks: u64) -> CorrectedTile
     }
 }
 
-// The store that holds a pixel's tile, corrected first, its number there and where its bytes stand. Refuses reading's numbers, then 6, 12, 13, 14, 15.
+// The store that holds a pixel's tile, its number there and its bytes. Refuses reading's numbers, then 6, 6, 12, 13, 15 of a correction, 14, 15.
 #[no_mangle]
 pub extern "C" fn fordcask_corrected_tile(
     series: Series,
@@ -95,7 +95,7 @@ pub extern "C" fn fordcask_corrected_tile(
     }
 }
 
-// The band values of a pixel, corrected first. Refuses reading's numbers, then 6, 12, 13, 14, 15.
+// The band values of a pixel, corrected first. Refuses reading's numbers, then 6, 6, 12, 13, 15 of a correction, 14, 15.
 #[no_mangle]
 pub extern "C" fn fordcask_corrected_bands(
     series: Series,
@@ -137,7 +137,7 @@ pub extern "C" fn fordcask_corrected_bands(
     }
 }
 
-// The first tile of a window, in reading order, that is neither corrected nor stored. Refuses reading's numbers, then 6, 12, 15.
+// The first tile of a window, in reading order, that is neither corrected nor stored. Refuses reading's numbers, then 6, 6, 12, 15.
 #[no_mangle]
 pub extern "C" fn fordcask_corrected_window(
     series: Series,

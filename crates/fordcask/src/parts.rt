@@ -134,7 +134,7 @@ pub struct TileParts {
     pub blanks: u64,
 }
 
-// Number, place, the store of a tile (0 for the base, 1 for the corrections), its stored number and its bytes there, and the total of blanks of the card.
+// Number, place, 0 for the base store or 1 for the corrections store, a tile's number and bytes there, and the total of blanks of the card.
 #[repr(C)]
 pub struct CorrectedTile {
     pub number: u32,

@@ -10,6 +10,7 @@ use lib.ListN.{length, getD}
 use lib.IntN.{ℤ, natAbs}
 use Rattle.arc.specs.Refusals.{refusal}
 use Rattle.card.specs.declared.Card.{Card}
+use Rattle.card.specs.Grid.{inTiles}
 use Rattle.tiles.specs.declared.Said.{Said}
 use Rattle.tiles.specs.declared.Source.{Source}
 use Rattle.tiles.specs.declared.NumberAnswer.{NumberAnswer}
@@ -20,30 +21,49 @@ use Rattle.tiles.specs.LookUp.{storeWrong, foundOf, numberOf, partIn, pa
 use Rattle.tiles.specs.Window.{windowTiles, scanned, scan, viewOf, windowOf}
 use Rattle.tiles.specs.Corrections.{listWrong, correctionsWrong, saidWith, sourceAt, sourced, numberAlone}
 use Rattle.tiles.specs.Corrections.{sourcedOf, sourceOf, eitherPart, eitherPartOf, eitherBandsOf, correctedWindowOf}
-use Rattle.tiles.specs.Corrected.{SameAnswers, StandbyAlike, Zero, AsBase, ZeroAsBase, ZeroWindow, BaseNotConsulted, EitherPartIs, MissingInBoth}
+use Rattle.tiles.specs.Corrected.{SameAnswers, StandbyAlike, AsBase, ZeroAsBase, ZeroWindow, BaseNotConsulted, WindowNotConsulted, EitherPartIs, MissingInBoth}
 use Rattle.tiles.proofs.Entry.{entry-is}
 use Rattle.tiles.proofs.Alike.{one-tile}
 use Rattle.tiles.proofs.PartOf.{in-place}
-use Rattle.tiles.proofs.Sources.{with-none, with-some, source-none, number-sourced, base-held, second-held}
+use Rattle.tiles.proofs.Sources.{with-none, with-some, source-none, sourced-refused, number-sourced, base-held, second-held}
 
--- ---- answers under two second lists
+-- ---- two indexes and two second lists
 
 -- part and values follow the number
-pub alike : (k : Card) (index : List ℕ) (count : ℕ) (store corrections other : List ℕ) (corrected : ℕ) (second : List ℕ) (r c : ℤ)
-    → sourceOf k index count store corrections corrected second r c ≡ sourceOf k index count store other corrected second r c
-    → SameAnswers k index count store corrections other corrected second r c
+pub alike : (k : Card) (i j : List ℕ) (count : ℕ) (store x y : List ℕ) (corrected : ℕ) (second : List ℕ) (r c : ℤ)
+    → sourceOf k i count store x corrected second r c ≡ sourceOf k j count store y corrected second r c
+    → SameAnswers k i j count store x y corrected second r c
 unfolding eitherPartOf eitherBandsOf
-alike k index count store corrections other corrected second r c e =
+alike k i j count store x y corrected second r c e =
     record {
       number = e;
       part = ap (λ (a : SourceAnswer). eitherPart a store second) e;
       values = ap (λ (a : SourceAnswer). bandsIn (numberAlone a) (eitherPart a store second) (inBand r c)) e;
     }
 
+module _ (k : Card) (index : List ℕ) (count : ℕ) (store corrections other : List ℕ) (corrected : ℕ) (second : List ℕ) (r c : ℤ)
+    (e : length corrections ≡ length other) where
+  -- outside the tiles every list of that length answers alike
+  outside-alike : inTiles k r c ≡ false
+      → sourceOf k index count store corrections corrected second r c ≡ sourceOf k index count store other corrected second r c
+  unfolding sourceOf sourcedOf correctionsWrong listWrong foundOf
+  outside-alike o =
+      let t = tileOf k (natAbs r) (natAbs c) in
+      rw (e, o, sourced-refused (sourceAt corrections t) (refusal 12), sourced-refused (sourceAt other t) (refusal 12))
+
+  inside-alike : getD corrections (tileOf k (natAbs r) (natAbs c)) 0 ≡ getD other (tileOf k (natAbs r) (natAbs c)) 0
+      → sourceOf k index count store corrections corrected second r c ≡ sourceOf k index count store other corrected second r c
+  unfolding sourceOf sourcedOf correctionsWrong listWrong sourceAt saidWith foundOf
+  inside-alike f = rw (e, f)
+
 pub standby-alike : StandbyAlike
-unfolding sourceOf sourcedOf correctionsWrong listWrong sourceAt saidWith foundOf
 standby-alike k index count store corrections other corrected second r c e f =
-    alike k index count store corrections other corrected second r c (rw (e, f))
+    alike k index index count store corrections other corrected second r c (go (inTiles k r c) refl)
+  where
+    go : (b : Bool) → inTiles k r c ≡ b
+        → sourceOf k index count store corrections corrected second r c ≡ sourceOf k index count store other corrected second r c
+    go true i = inside-alike k index count store corrections other corrected second r c e (f i)
+    go false o = outside-alike k index count store corrections other corrected second r c e o
 
 -- ---- an all-zero list
 
@@ -106,7 +126,29 @@ some-found k corrections corrected says other r c d =
 pub base-not-consulted : BaseNotConsulted
 unfolding sourceOf indexWrong
 base-not-consulted k index other count store corrections corrected second r c d e =
-    rw (e, some-found k corrections corrected (saidOf k index count) (saidOf k other count) r c d)
+    alike k index other count store corrections corrections corrected second r c
+    (rw (e, some-found k corrections corrected (saidOf k index count) (saidOf k other count) r c d))
+
+-- what is said of a tile, by two indexes that agree where no correction stands
+one-said : (k : Card) (index other : List ℕ) (count : ℕ) (corrections : List ℕ) (corrected t : ℕ)
+    → (getD corrections t 0 ≡ 0 → getD index t 0 ≡ getD other t 0)
+    → saidWith corrections corrected (saidOf k index count) t ≡ saidWith corrections corrected (saidOf k other count) t
+unfolding saidOf
+one-said k index other count corrections corrected t f = go (ℕ-discrete (getD corrections t 0) 0)
+  where
+    go : Dec (getD corrections t 0 ≡ 0) → saidWith corrections corrected (saidOf k index count) t ≡ saidWith corrections corrected (saidOf k other count) t
+    go (yes z) =
+        with-none corrections t corrected (saidOf k index count) z
+        ∙ ap (λ (e : ℕ). cond (k .tif) (said count e) (Said.Stored (t + 1))) (f z)
+        ∙ sym (with-none corrections t corrected (saidOf k other count) z)
+    go (no d) = with-some corrections t corrected (saidOf k index count) d ∙ sym (with-some corrections t corrected (saidOf k other count) d)
+
+pub window-not-consulted : WindowNotConsulted
+unfolding correctedWindowOf indexWrong
+window-not-consulted k index other count corrections corrected top left height width e f =
+    let g : saidWith corrections corrected (saidOf k index count) ≡ saidWith corrections corrected (saidOf k other count) =
+    fun-ext (λ t. one-said k index other count corrections corrected t (f t)) in
+    rw (e, g)
 
 pub either-part-is : EitherPartIs
 unfolding eitherPartOf

@@ -1,10 +1,9 @@
 -- Setting an entry keeps the list's length and every other entry. Assumes nothing.
 use mathlib.Core.Path.{_≡_, refl, sym, ap, ap₂, _∙_}
-use mathlib.Core.Bool.{Bool, true, false, cond}
+use mathlib.Core.Bool.{Bool, true, false, cond, _||_}
 use mathlib.Core.List.{List, [], _∷_}
-use Prim.Native.Nat.{ℕ, _≤_, _<_}
+use Prim.Native.Nat.{ℕ, _+_, _≤_, _<_}
 use native.Mathlib.Omega.{arith}
-use native.Mathlib.Decide.{ℕ-discrete}
 use borrow.Author.Tests.{eqb-false, ltb-false, leb-false}
 use lib.Dec.{ltb, leb, eqb}
 use lib.ListN.{length, getD, set, length-set}
@@ -15,20 +14,19 @@ use Rattle.arc.specs.declared.Refusal.{Refusal}
 use Rattle.arc.specs.declared.Verdict.{Verdict}
 use Rattle.arc.specs.Refusals.{refusal, refusalAt, onVerdict}
 use Rattle.card.specs.declared.Card.{Card}
-use Rattle.card.specs.Grid.{inTiles, verdictOf}
+use Rattle.card.specs.Grid.{verdictOf}
 use Rattle.tiles.specs.declared.Said.{Said}
-use Rattle.tiles.specs.declared.Source.{Source}
-use Rattle.tiles.specs.declared.NumberAnswer.{NumberAnswer}
 use Rattle.tiles.specs.declared.SourceAnswer.{SourceAnswer}
+use Rattle.tiles.specs.declared.WindowAnswer.{WindowAnswer}
 use Rattle.tiles.specs.Index.{tiles, tileOf, saidOf}
-use Rattle.tiles.specs.LookUp.{storeWrong, numberSaid, foundOf}
+use Rattle.tiles.specs.LookUp.{storeWrong, foundOf}
 use Rattle.tiles.specs.Window.{windowTiles, scanned, scan, viewOf}
-use Rattle.tiles.specs.Corrections.{listWrong, correctionsWrong, saidWith, sourceAt, sourced, sourcedOf}
+use Rattle.tiles.specs.Corrections.{listWrong, correctionsWrong, saidWith, sourcedOf}
 use Rattle.tiles.specs.Corrections.{sourceOf, eitherPartOf, eitherBandsOf, correctedWindowOf, settingOf, setOf}
-use Rattle.tiles.specs.Corrected.{SameAnswers, OneSet, SetsOne, OtherPixels, OtherWindows, FromNewEntry}
+use Rattle.tiles.specs.Corrected.{SetsOne, OtherPixels, OtherWindows, FromNewEntry}
 use Rattle.tiles.proofs.Entry.{neither, said-stored}
-use Rattle.tiles.proofs.Sources.{with-some, source-some, sourced-refused, list-long}
-use Rattle.tiles.proofs.Corrected.{alike, standby-alike, as-base}
+use Rattle.tiles.proofs.Sources.{with-some, source-some, list-long}
+use Rattle.tiles.proofs.Corrected.{standby-alike, as-base}
 
 module _ (k : Card) (corrections : List ℕ) (corrected t number : ℕ) where
   -- what was accepted
@@ -102,23 +100,10 @@ sets-one k corrections corrected t number = (
 
 -- ---- pixels
 
--- outside the tiles every list of that length answers alike
-outside-alike : (k : Card) (index : List ℕ) (count : ℕ) (store corrections other : List ℕ) (corrected : ℕ) (second : List ℕ) (r c : ℤ)
-    → inTiles k r c ≡ false → length corrections ≡ length other
-    → sourceOf k index count store corrections corrected second r c ≡ sourceOf k index count store other corrected second r c
-unfolding sourceOf sourcedOf correctionsWrong listWrong foundOf
-outside-alike k index count store corrections other corrected second r c o e =
-    let t = tileOf k (natAbs r) (natAbs c) in
-    rw (e, o, sourced-refused (sourceAt corrections t) (refusal 12), sourced-refused (sourceAt other t) (refusal 12))
-
 pub other-pixels : OtherPixels
-other-pixels k index count store corrections corrected second t number r c d = go (inTiles k r c) refl
-  where
-    go : (b : Bool) → inTiles k r c ≡ b → SameAnswers k index count store (setOf k corrections corrected t number) corrections corrected second r c
-    go true i = standby-alike k index count store _ corrections corrected second r c
-        (after-length k corrections corrected t number) (after-other k corrections corrected t number _ (λ s. d (i, s)))
-    go false o = alike k index count store _ corrections corrected second r c
-        (outside-alike k index count store _ corrections corrected second r c o (after-length k corrections corrected t number))
+other-pixels k index count store corrections corrected second t number r c d =
+    standby-alike k index count store (setOf k corrections corrected t number) corrections corrected second r c
+    (after-length k corrections corrected t number) (λ i. after-other k corrections corrected t number _ (λ s. d (i, s)))
 
 -- a pixel of the chart, in a tile that is corrected by `number`
 corrected-found : (k : Card) (corrections : List ℕ) (corrected number : ℕ) (says : ℕ → Said) (r c : ℤ) → verdictOf k r c ≡ Verdict.Accepted
@@ -159,10 +144,25 @@ scan-apart f g t h (x ∷ ts) o =
     let n = neither (eqb x t) (occurs t ts) o in
     ap₂ (scanned x) (h x (eqb-false x t (n .0))) (scan-apart f g t h ts (n .1))
 
+-- a window that is not outside holds no such tile
+view-apart : (k : Card) (f g : ℕ → Said) (t top left height width : ℕ) → ((j : ℕ) → (j ≡ t → ⊥) → f j ≡ g j)
+    → (top + height ≤ k .nfl → left + width ≤ k .nfc → occurs t (windowTiles k top left height width) ≡ false)
+    → viewOf k f top left height width ≡ viewOf k g top left height width
+unfolding viewOf
+view-apart k f g t top left height width h o = go (ltb (k .nfl) (top + height)) (ltb (k .nfc) (left + width)) refl refl
+  where
+    go : (a b : Bool) → ltb (k .nfl) (top + height) ≡ a → ltb (k .nfc) (left + width) ≡ b
+        → cond (a || b) (WindowAnswer.Refused (refusal 12)) (scan f (windowTiles k top left height width))
+        ≡ cond (a || b) (WindowAnswer.Refused (refusal 12)) (scan g (windowTiles k top left height width))
+    go true b p q = refl
+    go false true p q = refl
+    go false false p q =
+        scan-apart f g t h (windowTiles k top left height width) (o (ltb-false (k .nfl) (top + height) p) (ltb-false (k .nfc) (left + width) q))
+
 pub other-windows : OtherWindows
-unfolding correctedWindowOf viewOf listWrong
+unfolding correctedWindowOf listWrong
 other-windows k index count corrections corrected t number top left height width o =
     rw (
       after-length k corrections corrected t number,
-      scan-apart _ _ t (after-says k corrections corrected t number (saidOf k index count)) (windowTiles k top left height width) o,
+      view-apart k _ _ t top left height width (after-says k corrections corrected t number (saidOf k index count)) o,
     )

@@ -1,9 +1,11 @@
--- What corrections are held to (02, E1): proved in proofs/Corrected.antt, proofs/Setting.antt and proofs/Sources.antt.
+-- What corrections are held to (02, E1): proved in proofs/Corrected.antt and proofs/Setting.antt.
+--     SameAnswers ..         a pixel is answered alike by two indexes and two second lists
+--     AsBase ..              a pixel has document 01's answers
 --     PixelOf k t r c        (r, c) is a pixel of tile t
 --     Zero corrections       no tile is corrected
 --     OneSet before after t number    the two lists differ in entry t alone, which is `number` after
 use mathlib.Core.Path.{_≡_}
-use Prim.Native.Nat.{ℕ}
+use Prim.Native.Nat.{ℕ, _+_, _≤_}
 use mathlib.Core.List.{List, []}
 use mathlib.Core.Bool.{true, false}
 use lib.ListN.{length, getD}
@@ -24,29 +26,30 @@ use Rattle.tiles.specs.Corrections.{listWrong, correctionsWrong, sourced
 
 -- ---- look-up and window
 
--- number, part and values are alike under two second lists
-pub record SameAnswers (k : Card) (index : List ℕ) (count : ℕ) (store corrections other : List ℕ) (corrected : ℕ) (second : List ℕ) (r c : ℤ) : Type 0 where
-  pub number : sourceOf k index count store corrections corrected second r c ≡ sourceOf k index count store other corrected second r c
-  pub part : eitherPartOf k index count store corrections corrected second r c ≡ eitherPartOf k index count store other corrected second r c
-  pub values : eitherBandsOf k index count store corrections corrected second r c ≡ eitherBandsOf k index count store other corrected second r c
+-- source and number, part and values, by index i with the second list x and by index j with y
+pub record SameAnswers (k : Card) (i j : List ℕ) (count : ℕ) (store x y : List ℕ) (corrected : ℕ) (second : List ℕ) (r c : ℤ) : Type 0 where
+  pub number : sourceOf k i count store x corrected second r c ≡ sourceOf k j count store y corrected second r c
+  pub part : eitherPartOf k i count store x corrected second r c ≡ eitherPartOf k j count store y corrected second r c
+  pub values : eitherBandsOf k i count store x corrected second r c ≡ eitherBandsOf k j count store y corrected second r c
 
--- two servers whose cards, index, counts and stores are equal, and whose second lists agree at a pixel's tile, answer that pixel alike
+-- two servers whose cards, index, counts and stores are equal, and whose second lists are of one length and agree at a pixel's tile, answer it alike
 abbrev pub StandbyAlike : Type 0
 StandbyAlike =
     (k : Card) (index : List ℕ) (count : ℕ) (store corrections other : List ℕ) (corrected : ℕ) (second : List ℕ) (r c : ℤ)
     → length corrections ≡ length other
-    → getD corrections (tileOf k (natAbs r) (natAbs c)) 0 ≡ getD other (tileOf k (natAbs r) (natAbs c)) 0
-    → SameAnswers k index count store corrections other corrected second r c
+    → (inTiles k r c ≡ true → getD corrections (tileOf k (natAbs r) (natAbs c)) 0 ≡ getD other (tileOf k (natAbs r) (natAbs c)) 0)
+    → SameAnswers k index index count store corrections other corrected second r c
 
 abbrev pub Zero : List ℕ → Type 0
 Zero corrections = (t : ℕ) → getD corrections t 0 ≡ 0
 
--- past the new 6, an all-zero list gives document 01's answers: the number, from the base store, the part and the values
+-- document 01's answers: the number, from the base store, the part and the values
 pub record AsBase (k : Card) (index : List ℕ) (count : ℕ) (store corrections : List ℕ) (corrected : ℕ) (second : List ℕ) (r c : ℤ) : Type 0 where
   pub number : sourceOf k index count store corrections corrected second r c ≡ sourced Source.Base (numberOf k index count store r c)
   pub part : eitherPartOf k index count store corrections corrected second r c ≡ partOf k index count store r c
   pub values : eitherBandsOf k index count store corrections corrected second r c ≡ bandsOf k index count store r c
 
+-- past the new 6, an all-zero list gives document 01's answers
 abbrev pub ZeroAsBase : Type 0
 ZeroAsBase =
     (k : Card) (index : List ℕ) (count : ℕ) (store corrections : List ℕ) (corrected : ℕ) (second : List ℕ) (r c : ℤ) → Zero corrections
@@ -64,7 +67,15 @@ abbrev pub BaseNotConsulted : Type 0
 BaseNotConsulted =
     (k : Card) (index other : List ℕ) (count : ℕ) (store corrections : List ℕ) (corrected : ℕ) (second : List ℕ) (r c : ℤ)
     → (getD corrections (tileOf k (natAbs r) (natAbs c)) 0 ≡ 0 → ⊥) → length index ≡ length other
-    → sourceOf k index count store corrections corrected second r c ≡ sourceOf k other count store corrections corrected second r c
+    → SameAnswers k index other count store corrections corrections corrected second r c
+
+-- nor by the window: any other index of that length that agrees where no correction stands gives the same
+abbrev pub WindowNotConsulted : Type 0
+WindowNotConsulted =
+    (k : Card) (index other : List ℕ) (count : ℕ) (corrections : List ℕ) (corrected top left height width : ℕ)
+    → length index ≡ length other → ((t : ℕ) → getD corrections t 0 ≡ 0 → getD index t 0 ≡ getD other t 0)
+    → correctedWindowOf k index count corrections corrected top left height width
+    ≡ correctedWindowOf k other count corrections corrected top left height width
 
 -- the part of a number is that number's in the store that is named, and of a refusal it is empty
 abbrev pub EitherPartIs : Type 0
@@ -104,17 +115,17 @@ PixelOf k t r c = (inTiles k r c ≡ true) × (tileOf k (natAbs r) (natAbs c) �
 abbrev pub OtherPixels : Type 0
 OtherPixels =
     (k : Card) (index : List ℕ) (count : ℕ) (store corrections : List ℕ) (corrected : ℕ) (second : List ℕ) (t number : ℕ) (r c : ℤ)
-    → (PixelOf k t r c → ⊥) → SameAnswers k index count store (setOf k corrections corrected t number) corrections corrected second r c
+    → (PixelOf k t r c → ⊥) → SameAnswers k index index count store (setOf k corrections corrected t number) corrections corrected second r c
 
--- windows without that tile answer as before
+-- windows without that tile, and windows outside, answer as before
 abbrev pub OtherWindows : Type 0
 OtherWindows =
     (k : Card) (index : List ℕ) (count : ℕ) (corrections : List ℕ) (corrected t number top left height width : ℕ)
-    → occurs t (windowTiles k top left height width) ≡ false
+    → (top + height ≤ k .nfl → left + width ≤ k .nfc → occurs t (windowTiles k top left height width) ≡ false)
     → correctedWindowOf k index count (setOf k corrections corrected t number) corrected top left height width
     ≡ correctedWindowOf k index count corrections corrected top left height width
 
--- look-ups in it answer from the new entry: that tile of the second store, or document 01's answers where it is 0
+-- past 6, 12 and 13, look-ups in it answer from the new entry: that tile of the corrections store, or document 01's answers where it is 0
 abbrev pub FromNewEntry : Type 0
 FromNewEntry =
     (k : Card) (index : List ℕ) (count : ℕ) (store corrections : List ℕ) (corrected : ℕ) (second : List ℕ) (t number : ℕ) (r c : ℤ)

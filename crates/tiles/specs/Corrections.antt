@@ -1,8 +1,8 @@
--- Corrections beside the base charts (02, E1): corrections is the second list, corrected its count, second the second store. Definitions only.
+-- Corrections beside the base charts (02, E1): `corrections` is the second list, `corrected` its count, `second` the corrections store. Definitions only.
 --     listWrong ..           the second list or its count is of the wrong length
 --     correctionsWrong ..    the second list, its count or its store is of the wrong length
 --     saidWith corrections corrected says t    what is said of tile t, corrected first; `says` has it of the base
---     sourceAt corrections t which of the two stores a tile is looked for in
+--     sourceAt corrections t    which of the two stores a tile is looked for in
 --     sourcedOf k corrections corrected says r c    the source and the number there of a pixel's tile, past the lengths
 --     sourceOf ..            what `corrected_number` answers
 --     eitherPartOf ..        the bytes that `corrected_tile` hands back, none in a refusal
@@ -70,7 +70,7 @@ sourceOf k index count store corrections corrected second r c =
     (cond (correctionsWrong k corrections corrected second) (SourceAnswer.Refused (refusal 6))
     (sourcedOf k corrections corrected (saidOf k index count) r c))
 
--- a part of the base store or of the second store
+-- a part of the base store or of the corrections store
 abbrev pub eitherPart : SourceAnswer → List ℕ → List ℕ → List ℕ
 eitherPart (SourceAnswer.Base n) store second = partAt n store
 eitherPart (SourceAnswer.Corrections n) store second = partAt n second
@@ -93,7 +93,7 @@ correctedWindowOf k index count corrections corrected top left height width =
     (cond (listWrong k corrections corrected) (WindowAnswer.Refused (refusal 6))
     (viewOf k (saidWith corrections corrected (saidOf k index count)) top left height width))
 
--- the paper's number, place and values: 0 for the base store or 1 for the second, and the number there
+-- the paper's number, place and values: 0 for the base store or 1 for the corrections store, and the number there
 abbrev pub sourceReport : SourceAnswer → Report
 sourceReport (SourceAnswer.Base n) = answered (pos 0 ∷ pos n ∷ [])
 sourceReport (SourceAnswer.Corrections n) = answered (pos 1 ∷ pos n ∷ [])

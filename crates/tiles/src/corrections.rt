@@ -36,7 +36,7 @@ fn corrections_wrong(k: Card, corrections: &[u32], corrected: u64, second: &[u8]
     second.len() as u64 != corrected * Tile::BYTES
 }
 
-// The stored number of a pixel's tile, corrected first, and which store it is in (02, E1). Refuses 6, 12, 13, 14, 15.
+// The stored number of a pixel's tile, corrected first, and which store it is in (02, E1). Refuses 6, 6, 12, 13, 15 of a correction, 14, 15.
 pub fn corrected_number(
     k: Card,
     index: &[u32],
@@ -94,7 +94,7 @@ pub fn corrected_tile<'a>(
     }
 }
 
-// The band values of a pixel, corrected first (02, E1). Refuses 6, 12, 13, 14, 15.
+// The band values of a pixel, corrected first (02, E1). Refuses 6, 6, 12, 13, 15 of a correction, 14, 15.
 pub fn corrected_bands(
     k: Card,
     index: &[u32],
@@ -127,7 +127,7 @@ pub fn corrected_bands(
     }
 }
 
-// The first tile of a window, in reading order, that is neither corrected nor stored (02, E1). Refuses 6, 12, 15.
+// The first tile of a window, in reading order, that is neither corrected nor stored (02, E1). Refuses 6, 6, 12, 15.
 pub fn corrected_window(
     k: Card,
     index: &[u32],

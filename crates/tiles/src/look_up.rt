@@ -35,7 +35,7 @@ fn number_said(tile: u64, said: Said) -> NumberAnswer
     }
 }
 
-// The source and the number there of a pixel's tile, the lengths being right (02, E1). Refuses 12, 13, 14, 15.
+// The source and the number there of a pixel's tile, the lengths of the base being right (02, E1). Refuses 12, 13, 15 of a correction, 14, 15.
 pub fn found(
     k: Card,
     index: &[u32],

@@ -61,7 +61,7 @@ fn first_missing(
     answer
 }
 
-// The window, the lengths being right (01, "Tiles"; 02, E1). Refuses 12, 15.
+// The window, the lengths of the base being right (01, "Tiles"; 02, E1). Refuses 12, 15.
 pub fn view(
     k: Card,
     index: &[u32],

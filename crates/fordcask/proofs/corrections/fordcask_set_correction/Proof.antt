@@ -13,8 +13,9 @@ set-correction-requires c κs = let s = c .before .before .before .before .befor
 
 returns : tie.Need-returns
 returns c =
-    let x = c .before .before .before .before .set-correction .ensures in
-    rw (← c .before .before .before .before .before .before .before .before .before .read-card .ensures, c .before .before .before .before .before .before .enum-told .given .1)
+    let d = c .before .before .before .before in
+    let x = d .set-correction .ensures in
+    rw (← d .before .before .before .before .before .read-card .ensures, d .before .before .enum-told .given .1)
     (c .verdict-on .ensures ∙ ap (verdictParts _) (c .before .refusal .ensures ∙ ap refusalOf (x .0)), x .1)
 
 returns-2 : tie.Need-returns-2
