@@ -1,5 +1,6 @@
 // Questions on a card and its tile index (01, "Tiles").
 use crate::buffer;
+use crate::corrected;
 use crate::corrections;
 use crate::lent;
 use crate::list;
@@ -66,7 +67,7 @@ fn answered(
     if look_up::asked(name, line, at, s, card, entries, store) {
         return true;
     }
-    corrections::asked(name, line, at, s, card, entries, store)
+    corrected::asked(name, line, at, s, card, entries, store)
 }
 
 // Marks that are lent, and what they then hold.

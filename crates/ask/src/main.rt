@@ -8,6 +8,7 @@ ghost use lib.ListN.{length};
 
 mod buffer;
 mod cards;
+mod corrected;
 mod corrections;
 mod indexes;
 mod lent;

@@ -21,7 +21,8 @@ use Rattle.tiles.specs.LookUp.{storeWrong, foundOf, numberOf, partIn, pa
 use Rattle.tiles.specs.Window.{windowTiles, scanned, scan, viewOf, windowOf}
 use Rattle.tiles.specs.Corrections.{listWrong, correctionsWrong, saidWith, sourceAt, sourced, numberAlone}
 use Rattle.tiles.specs.Corrections.{sourcedOf, sourceOf, eitherPart, eitherPartOf, eitherBandsOf, correctedWindowOf}
-use Rattle.tiles.specs.Corrected.{SameAnswers, StandbyAlike, AsBase, ZeroAsBase, ZeroWindow, BaseNotConsulted, WindowNotConsulted, EitherPartIs, MissingInBoth}
+use Rattle.tiles.specs.Corrected.{SameAnswers, StandbyAlike, AsBase, ZeroAsBase}
+use Rattle.tiles.specs.Corrected.{ZeroWindow, BaseNotConsulted, WindowNotConsulted, EitherPartIs, MissingInBoth}
 use Rattle.tiles.proofs.Entry.{entry-is}
 use Rattle.tiles.proofs.Alike.{one-tile}
 use Rattle.tiles.proofs.PartOf.{in-place}

@@ -1,8 +1,8 @@
 -- The card of an accepted reading is known. Assumes nothing.
 use borrow.Author.Needs.{needs}
 use Rattle.card.proofs.Questions.{card-known}
-use Rattle.ask.proofs.corrections.part.Statement.{statement}
-use Rattle.ask.proofs.corrections.part.Tie as tie
+use Rattle.ask.proofs.corrected.part.Statement.{statement}
+use Rattle.ask.proofs.corrected.part.Tie as tie
 
 corrected-tile-requires : tie.Need-corrected-tile-requires
 corrected-tile-requires c κs = card-known _ _ (c .before .before .before .before .before .read-card .ensures) (c .before .before .enum-told .given .1)

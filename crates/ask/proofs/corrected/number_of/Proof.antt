@@ -1,8 +1,8 @@
 -- The card of an accepted reading is known. Assumes nothing.
 use borrow.Author.Needs.{needs}
 use Rattle.card.proofs.Questions.{card-known}
-use Rattle.ask.proofs.corrections.number_of.Statement.{statement}
-use Rattle.ask.proofs.corrections.number_of.Tie as tie
+use Rattle.ask.proofs.corrected.number_of.Statement.{statement}
+use Rattle.ask.proofs.corrected.number_of.Tie as tie
 
 corrected-number-requires : tie.Need-corrected-number-requires
 corrected-number-requires c κs = card-known _ _ (c .before .before .before .before .before .read-card .ensures) (c .before .before .enum-told .given .1)

@@ -3,8 +3,8 @@ use mathlib.Core.Path.{sym}
 use native.Mathlib.Omega.{arith}
 use lib.Seq.{length-take-le}
 use borrow.Author.Needs.{needs}
-use Rattle.ask.proofs.corrections.stored.Statement.{statement}
-use Rattle.ask.proofs.corrections.stored.Tie as tie
+use Rattle.ask.proofs.corrected.stored.Statement.{statement}
+use Rattle.ask.proofs.corrected.stored.Tie as tie
 
 slice-aggregate-base : tie.Need-slice-aggregate-base
 slice-aggregate-base c = sym (length-take-le _ _ (omega arith))
