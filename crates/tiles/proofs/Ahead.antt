@@ -1,26 +1,17 @@
 -- The window's scan, one tile at a time: the answer of what is left. Assumes nothing.
-use mathlib.Core.Path.{_≡_, refl}
-use mathlib.Core.Bool.{false}
-use mathlib.Core.List.{List, [], _∷_, _++_}
+use mathlib.Core.Path.{_≡_}
+use mathlib.Core.List.{List, _∷_, _++_}
 use Prim.Native.Nat.{ℕ, suc, _+_, _-_, _*_, _≤_, _<_}
 use native.Mathlib.Omega.{arith}
 use Rattle.card.specs.declared.Card.{Card}
 use Rattle.tiles.specs.declared.WindowAnswer.{WindowAnswer}
 use Rattle.tiles.specs.declared.Said.{Said}
-use Rattle.tiles.specs.Index.{saidOf}
-use Rattle.tiles.proofs.Entry.{said-all}
 use Rattle.whole.specs.Lists.{upFrom}
 use Rattle.tiles.specs.Window.{windowTiles, scanned, scan}
 
 -- ---- the tiles of a row and of a window
 row-step : (t n m : ℕ) → n ≡ suc m → upFrom t n ≡ t ∷ upFrom (t + 1) m
 row-step t n m e = rw e
-
--- with N every tile is stored
-pub scan-all : (k : Card) (index : List ℕ) (count : ℕ) → k .tif ≡ false → (ts : List ℕ)
-    → scan (saidOf k index count) ts ≡ WindowAnswer.AllStored
-scan-all k index count y [] = refl
-scan-all k index count y (t ∷ ts) = rw (said-all k index count t y) (scan-all k index count y ts)
 
 module _ (says : ℕ → Said) where
   -- a row begins, and ends
