@@ -1,5 +1,5 @@
 //! Scanned charts in the ARC raster system: zones and their spacing, image cards, positions of
-//! pixels, stored tiles and corrections beside them.
+//! pixels, stored tiles, by list or by presence bits, and corrections beside them.
 //!
 //! Angles are whole hundredths of an arc-second: latitude -32,400,000 to 32,400,000, longitude
 //! -64,800,000 to 64,800,000. Each function answers or refuses for every number, byte and length
@@ -30,7 +30,9 @@
 
 #![warn(missing_docs)]
 
+mod bits;
 mod card;
+mod corrected_bits;
 mod corrections;
 mod pair;
 mod position;
@@ -41,6 +43,7 @@ mod sheet;
 mod tiles;
 mod zone;
 
+pub use bits::Bits;
 pub use card::{read_card, read_strict, write_card, Card, OnCard, Record, CARD_LENGTH};
 pub use corrections::{CorrectedTile, Corrections, Source};
 pub use pair::Pair;

@@ -9,8 +9,10 @@
 //! will do. Buffers lent to one call do not overlap, save two that are only read.
 #![allow(missing_docs)]
 
+mod bits;
 mod blocks;
 pub use crate::series::Series;
+pub use bits::*;
 pub use blocks::*;
 
 unsafe extern "C" {

@@ -1,2 +1,4 @@
 pub mod Entry
+pub mod Bits
+pub mod Steps
 pub mod FactorOne

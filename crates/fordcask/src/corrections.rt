@@ -1,59 +1,26 @@
 // Questions on a card, its tile index and the corrections beside it (02, E1).
+use crate::looked_up;
 use crate::on_card;
 use crate::parts::BandsOnCard;
 use crate::parts::CorrectedTile;
 use crate::parts::VerdictParts;
 use crate::parts::WindowOnCard;
-use arc::Refusal;
 use arc::Series;
-use arc::Tile;
 use arc::Verdict;
 use tiles::BandsAnswer;
 use tiles::SourceAnswer;
 use tiles::WindowAnswer;
 ghost use mathlib.Core.Path.{_≡_};
-ghost use Prim.Native.Nat.{_≤_, _<_, _*_, _^_};
 ghost use Rattle.arc.specs.declared.Verdict.{Verdict};
 ghost use Rattle.arc.specs.Refusals.{refusalOf};
 ghost use Rattle.card.specs.Read.{readOf, onCard, toldOnCard};
 ghost use Rattle.tiles.specs.declared.SourceAnswer.{SourceAnswer};
 ghost use Rattle.tiles.specs.declared.BandsAnswer.{BandsAnswer};
 ghost use Rattle.tiles.specs.declared.WindowAnswer.{WindowAnswer};
-ghost use Rattle.tiles.specs.LookUp.{tileBytes, bandsReport};
+ghost use Rattle.tiles.specs.LookUp.{bandsReport};
 ghost use Rattle.tiles.specs.Window.{windowReport};
 ghost use Rattle.tiles.specs.Corrections.{sourceOf, eitherBandsOf, correctedWindowOf, settingOf, setOf};
-ghost use Rattle.fordcask.specs.Entry.{verdictParts, bandsBlock, windowBlock, heldTile, correctedTile};
-
-// A stored tile: 0 for the base store or 1 for the corrections store, its number there, and where its bytes stand.
-fn held_tile(source: u64, n: u64, blanks: u64) -> CorrectedTile
-    requires { ⌜ 1 ≤ n ⌝ ∗ ⌜ n * tileBytes < 2 ^ 64 ⌝ }
-    ensures { λ r. ⌜ r ≡ heldTile source n blanks ⌝ }
-{
-    CorrectedTile {
-        number: 0,
-        at: 0,
-        source,
-        stored: n,
-        offset: (n - 1) * Tile::BYTES,
-        length: Tile::BYTES,
-        blanks,
-    }
-}
-
-// A refusal of a look-up.
-fn none_held(e: Refusal, blanks: u64) -> CorrectedTile
-    ensures { λ r. ⌜ r ≡ correctedTile blanks (SourceAnswer.Refused e) ⌝ }
-{
-    CorrectedTile {
-        number: e.number,
-        at: e.at,
-        source: 0,
-        stored: 0,
-        offset: 0,
-        length: 0,
-        blanks: on_card::passed_with(e.number, blanks),
-    }
-}
+ghost use Rattle.fordcask.specs.Entry.{verdictParts, bandsBlock, windowBlock, correctedTile};
 
 // The store that holds a pixel's tile, its number there and its bytes. Refuses reading's numbers, then 6, 6, 12, 13, 15 of a correction, 14, 15.
 #[no_mangle]
@@ -76,22 +43,21 @@ pub extern "C" fn fordcask_corrected_tile(
     let verdict = reading.verdict;
     let k = reading.card;
     match verdict {
-        Verdict::Accepted => match tiles::corrected_number(
-            k,
-            index,
-            count,
-            store,
-            corrections,
-            corrected,
-            second,
-            row,
-            column,
-        ) {
-            SourceAnswer::Base(n) => held_tile(0, n, reading.blanks),
-            SourceAnswer::Corrections(n) => held_tile(1, n, reading.blanks),
-            SourceAnswer::Refused(e) => none_held(e, reading.blanks),
-        },
-        Verdict::Refused(e) => none_held(e, reading.blanks),
+        Verdict::Accepted => looked_up::source_tile(
+            tiles::corrected_number(
+                k,
+                index,
+                count,
+                store,
+                corrections,
+                corrected,
+                second,
+                row,
+                column,
+            ),
+            reading.blanks,
+        ),
+        Verdict::Refused(e) => looked_up::source_tile(SourceAnswer::Refused(e), reading.blanks),
     }
 }
 

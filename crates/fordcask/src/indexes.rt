@@ -1,12 +1,11 @@
 // Questions on a card and its tile index (01, "Tiles").
+use crate::looked_up;
 use crate::on_card;
 use crate::parts::BandsOnCard;
 use crate::parts::TileParts;
 use crate::parts::VerdictParts;
 use crate::parts::WindowOnCard;
-use arc::Refusal;
 use arc::Series;
-use arc::Tile;
 use arc::Verdict;
 use tiles::BandsAnswer;
 use tiles::NumberAnswer;
@@ -67,32 +66,11 @@ pub extern "C" fn fordcask_tile(
     let verdict = reading.verdict;
     let k = reading.card;
     match verdict {
-        Verdict::Accepted => match tiles::stored_number(k, index, count, store, row, column) {
-            NumberAnswer::Stored(n) => TileParts {
-                number: 0,
-                at: 0,
-                stored: n,
-                offset: (n - 1) * Tile::BYTES,
-                length: Tile::BYTES,
-                blanks: reading.blanks,
-            },
-            NumberAnswer::Refused(e) => no_tile(e, reading.blanks),
-        },
-        Verdict::Refused(e) => no_tile(e, reading.blanks),
-    }
-}
-
-// A refusal of a look-up.
-fn no_tile(e: Refusal, blanks: u64) -> TileParts
-    ensures { λ r. ⌜ r ≡ tileParts blanks (NumberAnswer.Refused e) ⌝ }
-{
-    TileParts {
-        number: e.number,
-        at: e.at,
-        stored: 0,
-        offset: 0,
-        length: 0,
-        blanks: on_card::passed_with(e.number, blanks),
+        Verdict::Accepted => looked_up::number_tile(
+            tiles::stored_number(k, index, count, store, row, column),
+            reading.blanks,
+        ),
+        Verdict::Refused(e) => looked_up::number_tile(NumberAnswer::Refused(e), reading.blanks),
     }
 }
 

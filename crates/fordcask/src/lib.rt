@@ -1,12 +1,20 @@
 // The library for C: numbers and slices in, a block of numbers out (bindings/c/fordcask.h).
+mod bits;
 mod card_lists;
 mod cards;
+mod corrected_bits;
 mod corrections;
 mod indexes;
+mod looked_up;
 mod on_card;
 mod parts;
 mod plain;
 
+pub use bits::fordcask_bits_bands;
+pub use bits::fordcask_bits_tile;
+pub use bits::fordcask_bits_window;
+pub use bits::fordcask_to_bits;
+pub use bits::fordcask_to_list;
 pub use card_lists::fordcask_corner_pixels;
 pub use card_lists::fordcask_corner_positions;
 pub use card_lists::fordcask_pixels;
@@ -20,6 +28,9 @@ pub use cards::fordcask_position;
 pub use cards::fordcask_read_card;
 pub use cards::fordcask_read_strict;
 pub use cards::fordcask_write_card;
+pub use corrected_bits::fordcask_corrected_bits_bands;
+pub use corrected_bits::fordcask_corrected_bits_tile;
+pub use corrected_bits::fordcask_corrected_bits_window;
 pub use corrections::fordcask_corrected_bands;
 pub use corrections::fordcask_corrected_tile;
 pub use corrections::fordcask_corrected_window;

@@ -26,6 +26,7 @@ use Rattle.tiles.specs.Corrected.{ZeroWindow, BaseNotConsulted, WindowNo
 use Rattle.tiles.proofs.Entry.{entry-is}
 use Rattle.tiles.proofs.Alike.{one-tile}
 use Rattle.tiles.proofs.PartOf.{in-place}
+use Rattle.tiles.proofs.Held.{part-base}
 use Rattle.tiles.proofs.Sources.{with-none, with-some, source-none, sourced-refused, number-sourced, base-held, second-held}
 
 -- ---- two indexes and two second lists
@@ -67,10 +68,6 @@ standby-alike k index count store corrections other corrected second r c e f =
     go false o = outside-alike k index count store corrections other corrected second r c e o
 
 -- ---- an all-zero list
-
-part-base : (a : NumberAnswer) (store second : List ℕ) → eitherPart (sourced Source.Base a) store second ≡ partIn a store
-part-base (NumberAnswer.Stored n) store second = refl
-part-base (NumberAnswer.Refused e) store second = refl
 
 -- where the tile is not corrected, the base answers
 base-found : (k : Card) (corrections : List ℕ) (corrected : ℕ) (says : ℕ → Said) (r c : ℤ) → getD corrections (tileOf k (natAbs r) (natAbs c)) 0 ≡ 0

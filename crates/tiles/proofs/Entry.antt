@@ -28,6 +28,13 @@ tile-inside q p down across h g =
     let m : (q + 1) * across ≤ down * across = mul-le-mul-right across (omega arith) in
     omega (arith, add-mul q 1 across, one-mul across)
 
+pub count-few : (k : Card) (count : ℕ) → countWrong k count ≡ false → count ≤ tiles k
+count-few k count = go (k .tif)
+  where
+    go : (b : Bool) → cond b (ltb (tiles k) count) (not (eqb count (tiles k))) ≡ false → count ≤ tiles k
+    go true t = ltb-false (tiles k) count t
+    go false t = omega (arith, eqb-true count (tiles k) (not-false _ t))
+
 module _ (k : Card) (index : List ℕ) (count : ℕ) (e : indexWrong k index count ≡ false) where
   lengths : (not (eqb (length index) (indexLength k)) ≡ false) × (countWrong k count ≡ false)
   unfolding indexWrong
@@ -37,11 +44,7 @@ module _ (k : Card) (index : List ℕ) (count : ℕ) (e : indexWrong k index cou
   index-long y = eqb-true (length index) (tiles k) (not-false _ (rw y at (lengths .0)))
 
   pub count-most : count ≤ tiles k
-  count-most = go (k .tif) (lengths .1)
-    where
-      go : (b : Bool) → cond b (ltb (tiles k) count) (not (eqb count (tiles k))) ≡ false → count ≤ tiles k
-      go true t = ltb-false (tiles k) count t
-      go false t = omega (arith, eqb-true count (tiles k) (not-false _ t))
+  count-most = count-few k count (lengths .1)
 
   pub count-all : k .tif ≡ false → count ≡ tiles k
   count-all y = eqb-true count (tiles k) (not-false _ (rw y at (lengths .1)))

@@ -6,6 +6,9 @@ pub mod Entry
 pub mod Pixel
 pub mod Sources
 pub mod Ahead
+pub mod Forms
+pub mod AsList
+pub mod Held
 pub mod Once
 pub mod Accepts
 pub mod Alike

@@ -6,7 +6,7 @@ use native.Mathlib.Omega.{arith}
 use lib.ListN.{take, drop, take-append-drop}
 use lib.Seq.{length-take-le}
 use Rattle.tiles.specs.LookUp.{tileBytes, partAt, partOf, InPlace, PartIs}
-use Rattle.tiles.proofs.Pixel.{InStore, number-held, part-ends, part-length}
+use Rattle.tiles.proofs.Pixel.{InStore, number-held, lies, part-length}
 
 pub in-place : (n count : ℕ) (store : List ℕ) → InStore n count store → InPlace count n (partAt n store) store
 in-place n count store h =
@@ -14,10 +14,10 @@ in-place n count store h =
     record {
       least = h .some;
       most = h .most;
-      long = part-length n count store h;
+      long = part-length n store (lies n count store h);
       ahead = take ((n - 1) * tileBytes) store;
       behind = drop tileBytes rest;
-      start = length-take-le ((n - 1) * tileBytes) store (omega (arith, part-ends n count store h));
+      start = length-take-le ((n - 1) * tileBytes) store (omega (arith, lies n count store h .1));
       joined = sym (ap (λ (l : List ℕ). take ((n - 1) * tileBytes) store ++ l) (take-append-drop tileBytes rest)
           ∙ take-append-drop ((n - 1) * tileBytes) store);
     }

@@ -1,5 +1,5 @@
 -- A pixel's tile is one of the image, and its stored number one of the store. Assumes nothing.
-use mathlib.Core.Path.{_≡_, refl, sym, ap, ap₂, _∙_}
+use mathlib.Core.Path.{_≡_, refl, ap}
 use mathlib.Core.Bool.{Bool, true, false, cond, not}
 use mathlib.Core.List.{List}
 use Prim.Native.Nat.{ℕ, _-_, _*_, _/_, _≤_, _<_}
@@ -9,9 +9,6 @@ use lib.Dec.{eqb}
 use lib.ListN.{length, drop, length-drop}
 use lib.Seq.{length-take-le}
 use lib.IntN.{ℤ, natAbs}
-use mir.Syntax.{w64}
-use mir.Val.{SFits, toZ, ofZ}
-use mir.ValLaws.{toZ-ofZ}
 use Rattle.arc.specs.declared.Verdict.{Verdict}
 use Rattle.arc.specs.Refusals.{refusal, onVerdict}
 use Rattle.card.specs.declared.Card.{Card}
@@ -20,7 +17,8 @@ use Rattle.card.proofs.Regions.{PixelInside, tiles-inside}
 use Rattle.tiles.specs.declared.NumberAnswer.{NumberAnswer}
 use Rattle.tiles.specs.declared.Said.{Said}
 use Rattle.tiles.specs.Index.{tiles, indexWrong, saidOf, tileOf}
-use Rattle.tiles.specs.LookUp.{tileBytes, storeWrong, numberSaid, foundOf, numberOf, partAt, partIn, partOf, inBand, bandsIn, bandsOf}
+use Rattle.tiles.specs.LookUp.{tileBytes, storeWrong, numberSaid, foundOf, numberOf, partAt}
+use Rattle.tiles.specs.Steps.{Lies}
 use Rattle.tiles.proofs.Entry.{neither, tile-inside, stored-most}
 
 -- a pixel of the tiles
@@ -86,32 +84,9 @@ number-held k index count store r c n = go (storeWrong k index count store) refl
         in-store n count store (s .0) (s .1) (w .1)
 
 -- its bytes are a tile's
-module _ (n count : ℕ) (store : List ℕ) (h : InStore n count store) where
-  pub part-ends : n * tileBytes ≤ length store
-  part-ends = omega (arith, h .most, h .long)
+pub lies : (n count : ℕ) (store : List ℕ) → InStore n count store → Lies n store
+lies n count store h = (h .some, omega (arith, h .most, h .long))
 
-  pub part-length : length (partAt n store) ≡ tileBytes
-  part-length = length-take-le tileBytes (drop ((n - 1) * tileBytes) store)
-      (omega (arith, h .some, part-ends, length-drop ((n - 1) * tileBytes) store))
-
--- row and column as they are held
-pub number-plain : (k : Card) (index : List ℕ) (count : ℕ) (store : List ℕ) (r c : ℤ) → SFits w64 r → SFits w64 c
-    → numberOf k index count store (toZ w64 (ofZ w64 r)) (toZ w64 (ofZ w64 c)) ≡ numberOf k index count store r c
-number-plain k index count store r c f g = ap₂ (numberOf k index count store) (toZ-ofZ w64 r f) (toZ-ofZ w64 c g)
-
--- ---- what was answered, of row and column as they are held
-module _ (k : Card) (index : List ℕ) (count : ℕ) (store : List ℕ) (r c : ℤ) (f : SFits w64 r) (g : SFits w64 c) {a : NumberAnswer}
-    (e : a ≡ numberOf k index count store (toZ w64 (ofZ w64 r)) (toZ w64 (ofZ w64 c))) {x : NumberAnswer} (o : a ≡ x) where
-  told : numberOf k index count store r c ≡ x
-  told = sym (e ∙ number-plain k index count store r c f g) ∙ o
-
-  pub part-told : partOf k index count store r c ≡ partIn x store
-  unfolding partOf
-  part-told = ap (λ (v : NumberAnswer). partIn v store) told
-
-  pub bands-told : bandsOf k index count store r c ≡ bandsIn x (partIn x store) (inBand r c)
-  unfolding bandsOf partOf
-  bands-told = ap (λ (v : NumberAnswer). bandsIn v (partIn v store) (inBand r c)) told
-
-  pub held : (n : ℕ) → x ≡ NumberAnswer.Stored n → InStore n count store
-  held n q = number-held k index count store r c n (told ∙ q)
+pub part-length : (n : ℕ) (store : List ℕ) → Lies n store → length (partAt n store) ≡ tileBytes
+part-length n store h =
+    length-take-le tileBytes (drop ((n - 1) * tileBytes) store) (omega (arith, h .0, h .1, length-drop ((n - 1) * tileBytes) store))

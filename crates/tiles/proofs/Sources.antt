@@ -8,21 +8,18 @@ use borrow.Author.Tests.{eq-eqb, ne-eqb, eqb-true, eqb-false, ltb-false, not-fal
 use lib.Dec.{ltb, eqb}
 use lib.ListN.{length, getD}
 use lib.IntN.{ℤ, natAbs}
-use mir.Syntax.{w64}
-use mir.Val.{SFits, toZ, ofZ}
 use Rattle.arc.specs.declared.Refusal.{Refusal}
 use Rattle.arc.specs.Refusals.{refusal}
 use Rattle.card.specs.declared.Card.{Card}
-use Rattle.card.proofs.Answers.{pair-asked}
 use Rattle.tiles.specs.declared.Said.{Said}
 use Rattle.tiles.specs.declared.Source.{Source}
 use Rattle.tiles.specs.declared.NumberAnswer.{NumberAnswer}
 use Rattle.tiles.specs.declared.SourceAnswer.{SourceAnswer}
 use Rattle.tiles.specs.Index.{tiles, indexWrong, said, saidOf, tileOf}
-use Rattle.tiles.specs.LookUp.{tileBytes, storeWrong, foundOf, inBand, bandsIn}
+use Rattle.tiles.specs.LookUp.{tileBytes, storeWrong, foundOf}
 use Rattle.tiles.specs.Window.{viewOf}
 use Rattle.tiles.specs.Corrections.{listWrong, correctionsWrong, saidWith, sourceAt, sourced}
-use Rattle.tiles.specs.Corrections.{numberAlone, sourcedOf, sourceOf, eitherPart, eitherPartOf, eitherBandsOf}
+use Rattle.tiles.specs.Corrections.{numberAlone, sourcedOf, sourceOf}
 use Rattle.tiles.proofs.Entry.{neither, said-above, said-stored, entry-is, stored-most}
 use Rattle.tiles.proofs.Pixel.{InStore, in-store, found}
 
@@ -164,24 +161,3 @@ module _ (k : Card) (index : List ℕ) (count : ℕ) (store corrections : List �
       let m = entry-is corrected (getD corrections tile 0) (Said.Stored n)
       (sym (with-some corrections tile corrected (saidOf k index count) (is-some (f .0))) ∙ o .said-is) in
       in-store n corrected second (m .1) (m .2) (w .1)
-
-  -- ---- what was answered, of row and column as they are held
-  module _ (f : SFits w64 r) (g : SFits w64 c) {a : SourceAnswer}
-      (e : a ≡ sourceOf k index count store corrections corrected second (toZ w64 (ofZ w64 r)) (toZ w64 (ofZ w64 c))) {x : SourceAnswer} (o : a ≡ x) where
-    pub source-told : sourceOf k index count store corrections corrected second r c ≡ x
-    source-told = sym (e ∙ pair-asked (sourceOf k index count store corrections corrected second) f g) ∙ o
-
-    pub either-part-told : eitherPartOf k index count store corrections corrected second r c ≡ eitherPart x store second
-    unfolding eitherPartOf
-    either-part-told = ap (λ (v : SourceAnswer). eitherPart v store second) source-told
-
-    pub either-bands-told : eitherBandsOf k index count store corrections corrected second r c
-        ≡ bandsIn (numberAlone x) (eitherPart x store second) (inBand r c)
-    unfolding eitherBandsOf eitherPartOf
-    either-bands-told = ap (λ (v : SourceAnswer). bandsIn (numberAlone v) (eitherPart v store second) (inBand r c)) source-told
-
-    pub base-lies : (n : ℕ) → x ≡ SourceAnswer.Base n → InStore n count store
-    base-lies n q = base-held n (source-told ∙ q)
-
-    pub second-lies : (n : ℕ) → x ≡ SourceAnswer.Corrections n → InStore n corrected second
-    second-lies n q = second-held n (source-told ∙ q)

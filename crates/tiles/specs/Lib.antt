@@ -4,5 +4,7 @@ pub mod LookUp
 pub mod Window
 pub mod Corrections
 pub mod Corrected
+pub mod Bits
+pub mod AsList
 pub mod Steps
 pub mod Parts

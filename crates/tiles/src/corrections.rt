@@ -4,10 +4,10 @@ use crate::SourceAnswer;
 use crate::WindowAnswer;
 use crate::bad_entry;
 use crate::index_wrong;
-use crate::look_up::bands_at;
 use crate::look_up::base_wrong;
+use crate::look_up::either_bands;
+use crate::look_up::either_part;
 use crate::look_up::found;
-use crate::look_up::part;
 use crate::scan::view;
 use arc::Tile;
 use arc::Verdict;
@@ -17,7 +17,7 @@ ghost use Rattle.card.specs.Read.{Known};
 ghost use Rattle.tiles.specs.Corrections.{listWrong, correctionsWrong, sourceOf, eitherPartOf, eitherBandsOf, correctedWindowOf, settingOf, setOf};
 
 // Whether the corrections or their count is of the wrong length (02, E1).
-fn list_wrong(k: Card, corrections: &[u32], corrected: u64) -> bool
+pub fn list_wrong(k: Card, corrections: &[u32], corrected: u64) -> bool
     requires { ⌜ Known k ⌝ }
     ensures { λ r. ⌜ r ≡ listWrong k (now (corrections .entry)) corrected ⌝ }
 {
@@ -26,7 +26,7 @@ fn list_wrong(k: Card, corrections: &[u32], corrected: u64) -> bool
 }
 
 // Whether the corrections, their count or their store is of the wrong length (02, E1).
-fn corrections_wrong(k: Card, corrections: &[u32], corrected: u64, second: &[u8]) -> bool
+pub fn corrections_wrong(k: Card, corrections: &[u32], corrected: u64, second: &[u8]) -> bool
     requires { ⌜ Known k ⌝ }
     ensures { λ r. ⌜ r ≡ correctionsWrong k (now (corrections .entry)) corrected (now (second .entry)) ⌝ }
 {
@@ -77,7 +77,7 @@ pub fn corrected_tile<'a>(
     ensures { λ r. ⌜ now r ≡ eitherPartOf k (now (index .entry)) count (now (store .entry)) (now (corrections .entry)) corrected
         (now (second .entry)) row column ⌝ }
 {
-    match corrected_number(
+    let answer = corrected_number(
         k,
         index,
         count,
@@ -87,11 +87,8 @@ pub fn corrected_tile<'a>(
         second,
         row,
         column,
-    ) {
-        SourceAnswer::Base(n) => part(store, n),
-        SourceAnswer::Corrections(n) => part(second, n),
-        SourceAnswer::Refused(_) => &store[0..0],
-    }
+    );
+    either_part(answer, store, second)
 }
 
 // The band values of a pixel, corrected first (02, E1). Refuses 6, 6, 12, 13, 15 of a correction, 14, 15.
@@ -110,7 +107,7 @@ pub fn corrected_bands(
     ensures { λ r. ⌜ r ≡ eitherBandsOf k (now (index .entry)) count (now (store .entry)) (now (corrections .entry)) corrected
         (now (second .entry)) row column ⌝ }
 {
-    match corrected_number(
+    let answer = corrected_number(
         k,
         index,
         count,
@@ -120,11 +117,8 @@ pub fn corrected_bands(
         second,
         row,
         column,
-    ) {
-        SourceAnswer::Base(n) => bands_at(part(store, n), row, column),
-        SourceAnswer::Corrections(n) => bands_at(part(second, n), row, column),
-        SourceAnswer::Refused(e) => BandsAnswer::Refused(e),
-    }
+    );
+    either_bands(answer, store, second, row, column)
 }
 
 // The first tile of a window, in reading order, that is neither corrected nor stored (02, E1). Refuses 6, 6, 12, 15.

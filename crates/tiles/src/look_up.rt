@@ -1,7 +1,9 @@
 // Looking up a pixel's tile (01, "Tiles").
 use crate::BandsAnswer;
+use crate::Form;
 use crate::NumberAnswer;
 use crate::Said;
+use crate::Source;
 use crate::SourceAnswer;
 use crate::bad_entry;
 use crate::either::number_in;
@@ -18,8 +20,9 @@ ghost use Prim.Native.Nat.{_*_, _≤_};
 ghost use lib.ListN.{length};
 ghost use Rattle.card.specs.Read.{Known};
 ghost use Rattle.tiles.specs.Index.{indexWrong, saidOf};
-ghost use Rattle.tiles.specs.LookUp.{tileBytes, storeWrong, numberSaid, numberOf, partAt, partOf, inBand, bandsAt, bandsOf};
-ghost use Rattle.tiles.specs.Corrections.{sourcedOf};
+ghost use Rattle.tiles.specs.LookUp.{tileBytes, storeWrong, numberSaid, numberOf, partAt, partOf, inBand, bandsAt, bandsIn, bandsOf};
+ghost use Rattle.tiles.specs.Corrections.{numberAlone, sourcedOf, eitherPart};
+ghost use Rattle.tiles.specs.Steps.{saidIn, Right, Held};
 
 // A band of a tile: 128 rows of 128, POR 0 (01, "Tiles").
 const BAND: usize = 16_384;
@@ -36,6 +39,31 @@ fn number_said(tile: u64, said: Said) -> NumberAnswer
 }
 
 // The source and the number there of a pixel's tile, the lengths of the base being right (02, E1). Refuses 12, 13, 15 of a correction, 14, 15.
+pub fn found_in(
+    k: Card,
+    form: Form,
+    index: &[u32],
+    words: &[u64],
+    count: u64,
+    corrections: &[u32],
+    corrected: u64,
+    row: i64,
+    column: i64,
+) -> SourceAnswer
+    requires { ⌜ Known k ⌝ ∗ ⌜ Right form k (now index) count ⌝ }
+    ensures { λ r. ⌜ r ≡ sourcedOf k (now (corrections .entry)) corrected (saidIn form k (now (index .entry)) (now (words .entry)) count) row column ⌝ }
+{
+    match k.judge_pixel(row, column) {
+        Verdict::Accepted => {
+            let tile = whole::size(row) / Tile::SIDE * k.nfc + whole::size(column) / Tile::SIDE;
+            let said = tile_says(k, form, index, words, count, corrections, corrected, tile);
+            with_source(source_at(corrections, tile), number_said(tile, said))
+        }
+        Verdict::Refused(e) => SourceAnswer::Refused(e),
+    }
+}
+
+// The same, the index being a list (02, E1). Refuses 12, 13, 15 of a correction, 14, 15.
 pub fn found(
     k: Card,
     index: &[u32],
@@ -48,14 +76,18 @@ pub fn found(
     requires { ⌜ Known k ⌝ ∗ ⌜ indexWrong k (now index) count ≡ false ⌝ }
     ensures { λ r. ⌜ r ≡ sourcedOf k (now (corrections .entry)) corrected (saidOf k (now (index .entry)) count) row column ⌝ }
 {
-    match k.judge_pixel(row, column) {
-        Verdict::Accepted => {
-            let tile = whole::size(row) / Tile::SIDE * k.nfc + whole::size(column) / Tile::SIDE;
-            let said = tile_says(k, index, count, corrections, corrected, tile);
-            with_source(source_at(corrections, tile), number_said(tile, said))
-        }
-        Verdict::Refused(e) => SourceAnswer::Refused(e),
-    }
+    let none = [0u64; 1];
+    found_in(
+        k,
+        Form::List,
+        index,
+        &none,
+        count,
+        corrections,
+        corrected,
+        row,
+        column,
+    )
 }
 
 // Whether the index, the count or the store is of the wrong length (01, "Tiles").
@@ -88,13 +120,25 @@ pub fn stored_number(
 }
 
 // The n-th stored tile, a part of the store (01, "Tiles").
-pub fn part<'a>(store: &'a [u8], n: u64) -> &'a [u8]
+fn part<'a>(store: &'a [u8], n: u64) -> &'a [u8]
     requires { ⌜ 1 ≤ n ⌝ ∗ ⌜ n * tileBytes ≤ length (now store) ⌝ }
     ensures { λ r. ⌜ now r ≡ partAt n (now (store .entry)) ⌝ }
 {
     let start = ((n - 1) * Tile::BYTES) as usize;
     let end = (n * Tile::BYTES) as usize;
     &store[start..end]
+}
+
+// The part of whichever of two stores holds a tile; none in a refusal (01, "Tiles"; 02, E1).
+pub fn either_part<'a>(answer: SourceAnswer, store: &'a [u8], second: &'a [u8]) -> &'a [u8]
+    requires { ⌜ Held answer (now store) (now second) ⌝ }
+    ensures { λ r. ⌜ now r ≡ eitherPart answer (now (store .entry)) (now (second .entry)) ⌝ }
+{
+    match answer {
+        SourceAnswer::Base(n) => part(store, n),
+        SourceAnswer::Corrections(n) => part(second, n),
+        SourceAnswer::Refused(_) => &store[0..0],
+    }
 }
 
 // The bytes of a pixel's tile, a part of the store; none in a refusal (01, "Tiles").
@@ -109,14 +153,12 @@ pub fn tile<'a>(
     requires { ⌜ Known k ⌝ }
     ensures { λ r. ⌜ now r ≡ partOf k (now (index .entry)) count (now (store .entry)) row column ⌝ }
 {
-    match stored_number(k, index, count, store, row, column) {
-        NumberAnswer::Stored(n) => part(store, n),
-        NumberAnswer::Refused(_) => &store[0..0],
-    }
+    let answer = stored_number(k, index, count, store, row, column);
+    either_part(with_source(Source::Base, answer), store, store)
 }
 
 // The band values of a pixel in its tile (01, "Tiles").
-pub fn bands_at(tile: &[u8], row: i64, column: i64) -> BandsAnswer
+fn bands_at(tile: &[u8], row: i64, column: i64) -> BandsAnswer
     requires { ⌜ length (now tile) ≡ tileBytes ⌝ }
     ensures { λ r. ⌜ r ≡ bandsAt (now (tile .entry)) (inBand row column) ⌝ }
 {
@@ -129,13 +171,29 @@ pub fn bands_at(tile: &[u8], row: i64, column: i64) -> BandsAnswer
     }
 }
 
+// The band values of a pixel in that part (01, "Tiles"; 02, E1).
+pub fn either_bands(
+    answer: SourceAnswer,
+    store: &[u8],
+    second: &[u8],
+    row: i64,
+    column: i64,
+) -> BandsAnswer
+    requires { ⌜ Held answer (now store) (now second) ⌝ }
+    ensures { λ r. ⌜ r ≡ bandsIn (numberAlone answer) (eitherPart answer (now (store .entry)) (now (second .entry))) (inBand row column) ⌝ }
+{
+    match answer {
+        SourceAnswer::Base(n) => bands_at(part(store, n), row, column),
+        SourceAnswer::Corrections(n) => bands_at(part(second, n), row, column),
+        SourceAnswer::Refused(e) => BandsAnswer::Refused(e),
+    }
+}
+
 // The band values of a pixel (01, "Tiles"). Refuses 6, 12, 13, 14, 15.
 pub fn bands(k: Card, index: &[u32], count: u64, store: &[u8], row: i64, column: i64) -> BandsAnswer
     requires { ⌜ Known k ⌝ }
     ensures { λ r. ⌜ r ≡ bandsOf k (now (index .entry)) count (now (store .entry)) row column ⌝ }
 {
-    match stored_number(k, index, count, store, row, column) {
-        NumberAnswer::Stored(n) => bands_at(part(store, n), row, column),
-        NumberAnswer::Refused(e) => BandsAnswer::Refused(e),
-    }
+    let answer = stored_number(k, index, count, store, row, column);
+    either_bands(with_source(Source::Base, answer), store, store, row, column)
 }

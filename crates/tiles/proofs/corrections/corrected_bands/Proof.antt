@@ -1,57 +1,32 @@
--- The part is that of `corrected_tile`, a whole one. Assumes nothing.
-use mathlib.Core.Path.{_≡_, refl, sym, ap, ap₂, _∙_}
-use lib.ListN.{length}
+-- The number lies in the store that is named. Assumes nothing.
+use mathlib.Core.Path.{_≡_, sym, ap₂, subst, _∙_}
+use Prim.Native.Nat.{ℕ}
 use Rattle.card.proofs.Answers.{pair-asked}
-use Rattle.tiles.specs.LookUp.{inBand, bandsAt}
-use Rattle.tiles.proofs.Pixel.{InStore, part-ends, part-length}
-use Rattle.tiles.proofs.Sources.{either-bands-told, base-lies, second-lies}
+use Rattle.tiles.specs.declared.SourceAnswer.{SourceAnswer}
+use Rattle.tiles.specs.LookUp.{inBand, bandsIn}
+use Rattle.tiles.specs.Corrections.{numberAlone, sourceOf, eitherPart, eitherPartOf, eitherBandsOf}
+use Rattle.tiles.specs.Steps.{Held}
+use Rattle.tiles.proofs.Held.{source-in-store}
 use borrow.Author.Needs.{needs}
 use Rattle.tiles.proofs.corrections.corrected_bands.Statement.{statement}
 use Rattle.tiles.proofs.corrections.corrected_bands.Tie as tie
 
--- the number lies in the store that is named
-in-base : (c : tie.After-known-told) → let a = c .before .before .before .before .before .before .before .before .args in InStore
-    (c .before .n .given .0 .0) (a .count) (a .store .now)
-in-base c = let s = c .before .before .before .before .before .before .before .before in
-    base-lies _ _ _ _ _ _ _ _ _ (s .fits .row) (s .fits .column) (c .before .before .before .corrected-number .ensures) (c .before .n .given .1) _ refl
+-- the source and the number there of the pixel's tile
+asked : (c : tie.After-corrected-number) → let a = c .before .before .before .before .before .args in
+    c .corrected-number .result ≡ sourceOf (a .k) (a .index .now) (a .count) (a .store .now) (a .corrections .now) (a .corrected) (a .second .now) (a .row) (a .column)
+asked c = let s = c .before .before .before .before .before in c .corrected-number .ensures ∙ pair-asked (sourceOf _ _ _ _ _ _ _) (s .fits .row) (s .fits .column)
 
-in-second : (c : tie.After-known-told2) → let a = c .before .before .before .before .before .before .before .before .args in InStore
-    (c .before .n2 .given .0 .0) (a .corrected) (a .second .now)
-in-second c = let s = c .before .before .before .before .before .before .before .before in
-    second-lies _ _ _ _ _ _ _ _ _ (s .fits .row) (s .fits .column) (c .before .before .before .corrected-number .ensures) (c .before .n2 .given .1) _ refl
-
-part-requires : tie.Need-part-requires
-part-requires c κs = let h = in-base c in (h .some, part-ends _ _ _ h)
-
-bands-at-requires : tie.Need-bands-at-requires
-bands-at-requires c κs = ap length (c .part .ensures) ∙ part-length _ _ _ (in-base (c .before))
-
-part-requires-2 : tie.Need-part-requires-2
-part-requires-2 c κs = let h = in-second c in (h .some, part-ends _ _ _ h)
-
-bands-at-requires-2 : tie.Need-bands-at-requires-2
-bands-at-requires-2 c κs = ap length (c .part2 .ensures) ∙ part-length _ _ _ (in-second (c .before))
+either-bands-requires : tie.Need-either-bands-requires
+either-bands-requires c κs = let a = c .before .before .before .before .before .args in
+    subst (λ (x : SourceAnswer). Held x (a .store .now) (a .second .now)) (sym (asked c)) (source-in-store _ _ _ _ _ _ _ _ _)
 
 returns : tie.Need-returns
+unfolding eitherBandsOf eitherPartOf
 returns c =
-    let s = c .before .before .before .before .before .before .before .before .before .before in
-    c .bands-at .ensures ∙ ap₂ bandsAt (c .before .part .ensures) (pair-asked inBand (s .fits .row) (s .fits .column))
-    ∙ sym (either-bands-told _ _ _ _ _ _ _ _ _ (s .fits .row) (s .fits .column) (c .before .before .before .before .before .corrected-number .ensures)
-    (c .before .before .before .n .given .1))
-
-returns-2 : tie.Need-returns-2
-returns-2 c =
-    let s = c .before .before .before .before .before .before .before .before .before .before in
-    c .bands-at2 .ensures ∙ ap₂ bandsAt (c .before .part2 .ensures) (pair-asked inBand (s .fits .row) (s .fits .column))
-    ∙ sym (either-bands-told _ _ _ _ _ _ _ _ _ (s .fits .row) (s .fits .column) (c .before .before .before .before .before .corrected-number .ensures)
-    (c .before .before .before .n2 .given .1))
-
-returns-3 : tie.Need-returns-3
-returns-3 c = let s = c .before .before .before .before .before .before .before .before in
-    sym (either-bands-told _ _ _ _ _ _ _ _ _ (s .fits .row) (s .fits .column) (c .before .before .before .corrected-number .ensures) (c .before .e .given .1))
+    let s = c .before .before .before .before .before .before in
+    c .either-bands .ensures
+    ∙ ap₂ (λ (x : SourceAnswer) (i : ℕ). bandsIn (numberAlone x) (eitherPart x (s .args .store .now) (s .args .second .now)) i) (asked (c .before))
+    (pair-asked inBand (s .fits .row) (s .fits .column))
 
 pub corrected-bands-spec : {M : Type 1} → statement M
-corrected-bands-spec =
-    tie.close
-    (tie.spec (λ c κs. search needs) (λ c. search needs) part-requires bands-at-requires (λ c. search needs) part-requires-2 bands-at-requires-2
-    (λ c. search needs) returns returns-2 returns-3)
+corrected-bands-spec = tie.close (tie.spec (λ c κs. search needs) either-bands-requires returns)

@@ -1,44 +1,27 @@
--- A number lies in the store that is named; a refusal's part is empty. Assumes nothing.
-use mathlib.Core.Path.{refl, sym, _∙_}
-use Rattle.tiles.proofs.Pixel.{part-ends}
-use Rattle.tiles.proofs.Sources.{either-part-told, base-lies, second-lies}
+-- The number lies in the store that is named. Assumes nothing.
+use mathlib.Core.Path.{_≡_, sym, ap, subst, _∙_}
+use Rattle.card.proofs.Answers.{pair-asked}
+use Rattle.tiles.specs.declared.SourceAnswer.{SourceAnswer}
+use Rattle.tiles.specs.Corrections.{sourceOf, eitherPart, eitherPartOf}
+use Rattle.tiles.specs.Steps.{Held}
+use Rattle.tiles.proofs.Held.{source-in-store}
 use borrow.Author.Needs.{needs}
 use Rattle.tiles.proofs.corrections.corrected_tile.Statement.{statement}
 use Rattle.tiles.proofs.corrections.corrected_tile.Tie as tie
 
-part-requires : tie.Need-part-requires
-part-requires c κs =
-    let s = c .before .before .before .before .before .before .before .before in
-    let h = base-lies _ _ _ _ _ _ _ _ _ (s .fits .row) (s .fits .column) (c .before .before .before .corrected-number .ensures)
-    (c .before .n .given .1) _ refl in
-    (h .some, part-ends _ _ _ h)
+-- the source and the number there of the pixel's tile
+asked : (c : tie.After-corrected-number) → let a = c .before .before .before .before .before .args in
+    c .corrected-number .result ≡ sourceOf (a .k) (a .index .now) (a .count) (a .store .now) (a .corrections .now) (a .corrected) (a .second .now) (a .row) (a .column)
+asked c = let s = c .before .before .before .before .before in c .corrected-number .ensures ∙ pair-asked (sourceOf _ _ _ _ _ _ _) (s .fits .row) (s .fits .column)
 
-part-requires-2 : tie.Need-part-requires-2
-part-requires-2 c κs =
-    let s = c .before .before .before .before .before .before .before .before in
-    let h = second-lies _ _ _ _ _ _ _ _ _ (s .fits .row) (s .fits .column) (c .before .before .before .corrected-number .ensures)
-    (c .before .n2 .given .1) _ refl in
-    (h .some, part-ends _ _ _ h)
+either-part-requires : tie.Need-either-part-requires
+either-part-requires c κs = let a = c .before .before .before .before .before .args in
+    subst (λ (x : SourceAnswer). Held x (a .store .now) (a .second .now)) (sym (asked c)) (source-in-store _ _ _ _ _ _ _ _ _)
 
 returns : tie.Need-returns
-returns c = let s = c .before .before .before .before .before .before .before .before .before in
-    c .part .ensures ∙ sym
-    (either-part-told _ _ _ _ _ _ _ _ _ (s .fits .row) (s .fits .column) (c .before .before .before .before .corrected-number .ensures)
-    (c .before .before .n .given .1))
-
-returns-2 : tie.Need-returns-2
-returns-2 c = let s = c .before .before .before .before .before .before .before .before .before in
-    c .part2 .ensures ∙ sym
-    (either-part-told _ _ _ _ _ _ _ _ _ (s .fits .row) (s .fits .column) (c .before .before .before .before .corrected-number .ensures)
-    (c .before .before .n2 .given .1))
-
-returns-3 : tie.Need-returns-3
-returns-3 c = let s = c .before .before .before .before .before .before .before .before in
-    sym (either-part-told _ _ _ _ _ _ _ _ _ (s .fits .row) (s .fits .column) (c .before .before .before .corrected-number .ensures)
-    (c .before .enum-told .given .1))
+unfolding eitherPartOf
+returns c = let a = c .before .before .before .before .before .before .args in
+    c .either-part .ensures ∙ ap (λ (x : SourceAnswer). eitherPart x (a .store .now) (a .second .now)) (asked (c .before))
 
 pub corrected-tile-spec : {M : Type 1} → statement M
-corrected-tile-spec =
-    tie.close
-    (tie.spec (λ c κs. search needs) (λ c. search needs) part-requires (λ c. search needs) part-requires-2 (λ c. search needs) (λ c. search needs)
-    (λ c. search needs) (λ c. search needs) returns returns-2 returns-3)
+corrected-tile-spec = tie.close (tie.spec (λ c κs. search needs) either-part-requires returns)

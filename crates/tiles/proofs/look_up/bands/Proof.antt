@@ -1,37 +1,39 @@
--- The part is that of `tile`, a whole one. Assumes nothing.
-use mathlib.Core.Path.{_≡_, refl, sym, ap, ap₂, _∙_}
-use lib.ListN.{length}
+-- The number lies in the store. Assumes nothing.
+use mathlib.Core.Path.{_≡_, sym, ap, ap₂, subst, _∙_}
+use Prim.Native.Nat.{ℕ}
 use Rattle.card.proofs.Answers.{pair-asked}
-use Rattle.tiles.specs.LookUp.{inBand, bandsAt}
-use Rattle.tiles.proofs.Pixel.{InStore, part-ends, part-length, bands-told, held}
+use Rattle.tiles.specs.declared.Source.{Source}
+use Rattle.tiles.specs.declared.SourceAnswer.{SourceAnswer}
+use Rattle.tiles.specs.LookUp.{numberOf, partOf, inBand, bandsIn, bandsOf}
+use Rattle.tiles.specs.Corrections.{sourced, numberAlone, eitherPart}
+use Rattle.tiles.specs.Steps.{Held}
+use Rattle.tiles.proofs.Held.{held-base, number-in-store, bands-base}
 use borrow.Author.Needs.{needs}
 use Rattle.tiles.proofs.look_up.bands.Statement.{statement}
 use Rattle.tiles.proofs.look_up.bands.Tie as tie
 
--- the number lies in the store
-lies : (c : tie.After-known-told) → let a = c .before .before .before .before .before .before .args in InStore (c .before .n .given .0 .0) (a .count)
-    (a .store .now)
-lies c = let s = c .before .before .before .before .before .before in held _ _ _ _ _ _ (s .fits .row) (s .fits .column)
-    (c .before .before .before .stored-number .ensures) (c .before .n .given .1) _ refl
+-- the number of the pixel's tile, in the base store
+asked : (c : tie.After-with-source) → let a = c .before .before .before .before .args in
+    c .with-source .result ≡ sourced Source.Base (numberOf (a .k) (a .index .now) (a .count) (a .store .now) (a .row) (a .column))
+asked c = let s = c .before .before .before .before in
+    c .with-source .ensures
+    ∙ ap (sourced Source.Base) (c .before .stored-number .ensures ∙ pair-asked (numberOf _ _ _ _) (s .fits .row) (s .fits .column))
 
-part-requires : tie.Need-part-requires
-part-requires c κs = let h = lies c in (h .some, part-ends _ _ _ h)
-
-bands-at-requires : tie.Need-bands-at-requires
-bands-at-requires c κs = ap length (c .part .ensures) ∙ part-length _ _ _ (lies (c .before))
+either-bands-requires : tie.Need-either-bands-requires
+either-bands-requires c κs = let a = c .before .before .before .before .args in
+    subst (λ (x : SourceAnswer). Held x (a .store .now) (a .store .now)) (sym (asked c))
+    (held-base (numberOf (a .k) (a .index .now) (a .count) (a .store .now) (a .row) (a .column)) (a .store .now) (a .store .now) (number-in-store _ _ _ _ _ _))
 
 returns : tie.Need-returns
+unfolding bandsOf partOf
 returns c =
-    let s = c .before .before .before .before .before .before .before .before in
-    c .bands-at .ensures ∙ ap₂ bandsAt (c .before .part .ensures) (pair-asked inBand (s .fits .row) (s .fits .column))
-    ∙ sym (bands-told _ _ _ _ _ _ (s .fits .row) (s .fits .column) (c .before .before .before .before .before .stored-number .ensures)
-    (c .before .before .before .n .given .1))
-
-returns-2 : tie.Need-returns-2
-returns-2 c = let s = c .before .before .before .before .before .before in
-    sym (bands-told _ _ _ _ _ _ (s .fits .row) (s .fits .column) (c .before .before .before .stored-number .ensures) (c .before .e .given .1))
+    let s = c .before .before .before .before .before in
+    let a = s .args in
+    let store = a .store .now in
+    c .either-bands .ensures
+    ∙ ap₂ (λ (x : SourceAnswer) (i : ℕ). bandsIn (numberAlone x) (eitherPart x store store) i) (asked (c .before))
+    (pair-asked inBand (s .fits .row) (s .fits .column))
+    ∙ bands-base (numberOf (a .k) (a .index .now) (a .count) store (a .row) (a .column)) store store (inBand (a .row) (a .column))
 
 pub bands-spec : {M : Type 1} → statement M
-bands-spec =
-    tie.close
-    (tie.spec (λ c κs. search needs) (λ c. search needs) part-requires bands-at-requires (λ c. search needs) returns returns-2)
+bands-spec = tie.close (tie.spec (λ c κs. search needs) (λ c κs. search needs) either-bands-requires returns)

@@ -1,32 +1,35 @@
--- A stored number's part lies in the store; a refusal's is empty. Assumes nothing.
-use mathlib.Core.Path.{_≡_, refl, sym, _∙_}
-use Rattle.tiles.specs.declared.NumberAnswer.{NumberAnswer}
-use Rattle.tiles.specs.LookUp.{partIn, partOf}
-use Rattle.tiles.proofs.Pixel.{part-ends, part-told, held}
+-- The number lies in the store. Assumes nothing.
+use mathlib.Core.Path.{_≡_, sym, ap, subst, _∙_}
+use Rattle.card.proofs.Answers.{pair-asked}
+use Rattle.tiles.specs.declared.Source.{Source}
+use Rattle.tiles.specs.declared.SourceAnswer.{SourceAnswer}
+use Rattle.tiles.specs.LookUp.{numberOf, partOf}
+use Rattle.tiles.specs.Corrections.{sourced, eitherPart}
+use Rattle.tiles.specs.Steps.{Held}
+use Rattle.tiles.proofs.Held.{held-base, number-in-store, part-base}
 use borrow.Author.Needs.{needs}
 use Rattle.tiles.proofs.look_up.tile.Statement.{statement}
 use Rattle.tiles.proofs.look_up.tile.Tie as tie
 
--- the part, by what was answered
-part-is : (c : tie.After-stored-number) {x : NumberAnswer} → c .stored-number .result ≡ x → let a = c .before .before .before .args in
-    partOf (a .k) (a .index .now) (a .count) (a .store .now) (a .row) (a .column) ≡ partIn x (a .store .now)
-part-is c o = let s = c .before .before .before in
-    part-told _ _ _ _ _ _ (s .fits .row) (s .fits .column) (c .stored-number .ensures) o
+-- the number of the pixel's tile, in the base store
+asked : (c : tie.After-with-source) → let a = c .before .before .before .before .args in
+    c .with-source .result ≡ sourced Source.Base (numberOf (a .k) (a .index .now) (a .count) (a .store .now) (a .row) (a .column))
+asked c = let s = c .before .before .before .before in
+    c .with-source .ensures
+    ∙ ap (sourced Source.Base) (c .before .stored-number .ensures ∙ pair-asked (numberOf _ _ _ _) (s .fits .row) (s .fits .column))
 
-part-requires : tie.Need-part-requires
-part-requires c κs =
-    let s = c .before .before .before .before .before .before in
-    let h = held _ _ _ _ _ _ (s .fits .row) (s .fits .column) (c .before .before .before .stored-number .ensures) (c .before .n .given .1) _ refl in
-    (h .some, part-ends _ _ _ h)
+either-part-requires : tie.Need-either-part-requires
+either-part-requires c κs = let a = c .before .before .before .before .args in
+    subst (λ (x : SourceAnswer). Held x (a .store .now) (a .store .now)) (sym (asked c))
+    (held-base (numberOf (a .k) (a .index .now) (a .count) (a .store .now) (a .row) (a .column)) (a .store .now) (a .store .now) (number-in-store _ _ _ _ _ _))
 
 returns : tie.Need-returns
-returns c = c .part .ensures ∙ sym (part-is (c .before .before .before .before) (c .before .before .n .given .1))
-
-returns-2 : tie.Need-returns-2
-returns-2 c = sym (part-is (c .before .before .before) (c .before .enum-told .given .1))
+unfolding partOf
+returns c =
+    let a = c .before .before .before .before .before .args in
+    let store = a .store .now in
+    c .either-part .ensures ∙ ap (λ (x : SourceAnswer). eitherPart x store store) (asked (c .before))
+    ∙ part-base (numberOf (a .k) (a .index .now) (a .count) store (a .row) (a .column)) store store
 
 pub tile-spec : {M : Type 1} → statement M
-tile-spec =
-    tie.close
-    (tie.spec (λ c κs. search needs) (λ c. search needs) part-requires (λ c. search needs) (λ c. search needs) (λ c. search needs)
-    (λ c. search needs) returns returns-2)
+tile-spec = tie.close (tie.spec (λ c κs. search needs) (λ c κs. search needs) either-part-requires returns)

@@ -1,0 +1,3 @@
+pub mod Ones
+pub mod Counted
+pub mod Set
