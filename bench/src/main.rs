@@ -1,5 +1,6 @@
 //! Benchmarks of libfordcask.a against the plain rule in Rust.
 
+mod bits;
 mod cards;
 mod corrections;
 mod doubles;
@@ -22,7 +23,7 @@ const SEED: u64 = 0x0046_4F52_4443_4153;
 /// A question's letter and its benchmarks.
 type Question = (&'static str, fn(&mut Random));
 
-const QUESTIONS: [Question; 11] = [
+const QUESTIONS: [Question; 13] = [
     ("a", lists::positions),
     ("b", lists::pixels),
     ("c", single::position_calls),
@@ -34,6 +35,8 @@ const QUESTIONS: [Question; 11] = [
     ("h", lookup::lookup),
     ("i", corrections::lookup),
     ("i", corrections::window),
+    ("j", bits::lookup),
+    ("j", bits::window),
 ];
 
 /// Runs the questions named by letter, or all.

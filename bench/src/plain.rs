@@ -2,6 +2,7 @@
 
 use fordcask::Series;
 
+pub mod bits;
 pub mod corrections;
 pub mod grid;
 pub mod read;

@@ -18,7 +18,7 @@ type Sourced = (bool, Found);
 
 impl Card {
     /// 6: the second list and its count.
-    fn list_lengths(&self, list: &[u32], count: u64) -> Result<(), Refusal> {
+    pub fn list_lengths(&self, list: &[u32], count: u64) -> Result<(), Refusal> {
         if list.len() != self.tiles() || count > self.tiles() as u64 {
             return refuse(6, 0);
         }

@@ -1,49 +1,36 @@
--- The index says the same in each form it is held in. Assumes nothing.
+-- Presence bits: their lengths, and what they say by their count and by a limit. Assumes nothing.
 use mathlib.Core.Path.{_≡_, refl, sym, ap, fun-ext, _∙_}
-use mathlib.Core.Bool.{Bool, true, false, cond, not, _||_}
+use mathlib.Core.Bool.{Bool, true, false, cond, not}
 use mathlib.Core.List.{List, [], _∷_}
 use Prim.Native.Nat.{ℕ, _+_, _-_, _*_, _/_, _%_, _≤_, _<_}
 use native.Mathlib.Omega.{arith}
 use native.Mathlib.Nat.{lt-of-not-le}
 use native.Mathlib.Decide.{ℕ-discrete, decLe}
 use borrow.Author.Tests.{eq-eqb, ne-eqb, le-leb, lt-leb, eqb-true, not-false}
-use lib.Dec.{ltb, leb, eqb}
+use lib.Dec.{leb, eqb}
 use lib.ListN.{length, getD}
-use Rattle.arc.specs.Refusals.{refusal}
 use Rattle.presence.specs.Presence.{present, numberAt, setFrom, within}
 use Rattle.presence.proofs.Counted.{present-in, number-none, number-some, some-number, near, far}
 use Rattle.presence.proofs.Set.{set-past}
 use Rattle.card.specs.declared.Card.{Card}
 use Rattle.card.specs.Read.{Known}
-use Rattle.tiles.specs.declared.Form.{Form}
 use Rattle.tiles.specs.declared.Said.{Said}
 use Rattle.tiles.specs.declared.WindowAnswer.{WindowAnswer}
-use Rattle.tiles.specs.Index.{tiles, countWrong, said, saidOf}
-use Rattle.tiles.specs.Window.{windowTiles, scanned, scan, viewOf}
+use Rattle.tiles.specs.Index.{tiles, countWrong, indexWrong, said, saidOf}
+use Rattle.tiles.specs.Window.{scanned, scan}
 use Rattle.tiles.specs.Corrections.{saidWith}
 use Rattle.tiles.specs.Bits.{wordsLength, wordsWrong, strayBit, saidBits}
-use Rattle.tiles.specs.Steps.{upTo, formSays, saidIn}
+use Rattle.tiles.specs.Steps.{upTo}
 use Rattle.tiles.proofs.Entry.{neither, tiles-small, count-few, said-above, said-stored}
 
--- ---- by TIF
-module _ (form : Form) (k : Card) (index words : List ℕ) (count t : ℕ) where
-  pub in-form : k .tif ≡ true → saidIn form k index words count t ≡ formSays form index words count t
-  unfolding saidIn
-  in-form y = rw y
+-- with N the bits say what an empty list does
+pub by-none : (k : Card) (words : List ℕ) (count : ℕ) → k .tif ≡ false → saidOf k [] count ≡ saidBits k words count
+unfolding saidOf saidBits
+by-none k words count y = rw y
 
-  pub no-form : k .tif ≡ false → saidIn form k index words count t ≡ Said.Stored (t + 1)
-  unfolding saidIn
-  no-form y = rw y
-
--- ---- by form
-module _ (k : Card) (index words : List ℕ) (count : ℕ) where
-  pub by-list : saidIn Form.List k index words count ≡ saidOf k index count
-  unfolding saidIn saidOf
-  by-list = refl
-
-  pub by-bits : saidIn Form.Bits k index words count ≡ saidBits k words count
-  unfolding saidIn saidBits
-  by-bits = refl
+pub none-right : (k : Card) (words : List ℕ) (count : ℕ) → k .tif ≡ false → wordsWrong k words count ≡ false → indexWrong k [] count ≡ false
+unfolding wordsWrong indexWrong
+none-right k words count y e = rw y (neither (not (eqb (length words) 0)) (not (eqb count (tiles k))) (rw y at e) .1)
 
 -- ---- lengths
 module _ (k : Card) (words : List ℕ) where
@@ -104,15 +91,12 @@ module _ (f g : ℕ → Said) (h : (t : ℕ) → kind (f t) ≡ kind (g t)) wher
       go true = h t
       go false = refl
 
-  pub view-alike : (k : Card) (corrections : List ℕ) (corrected top left height width : ℕ)
-      → viewOf k (saidWith corrections corrected f) top left height width ≡ viewOf k (saidWith corrections corrected g) top left height width
-  unfolding viewOf
-  view-alike k corrections corrected top left height width =
-      let ts = windowTiles k top left height width in
-      ap (cond (ltb (k .nfl) (top + height) || ltb (k .nfc) (left + width)) (WindowAnswer.Refused (refusal 12)))
-      (scan-kind (saidWith corrections corrected f) ts
+  pub scan-alike : (corrections : List ℕ) (corrected : ℕ) (ts : List ℕ)
+      → scan (saidWith corrections corrected f) ts ≡ scan (saidWith corrections corrected g) ts
+  scan-alike corrections corrected ts =
+      scan-kind (saidWith corrections corrected f) ts
       ∙ ap (λ (says : ℕ → Said). scan says ts) (fun-ext (with-kind corrections corrected))
-      ∙ sym (scan-kind (saidWith corrections corrected g) ts))
+      ∙ sym (scan-kind (saidWith corrections corrected g) ts)
 
 -- the bits say the same by their count and by the limit, the number aside
 module _ (words : List ℕ) (count : ℕ) where
@@ -133,10 +117,6 @@ module _ (words : List ℕ) (count : ℕ) where
           (sym (ap kind (said-stored count (numberAt words t) (some-number words t d)
           (omega (arith, number-some words t d, near words count (length words * 64) t (lt-of-not-le h))))))
 
-  pub by-limit : (k : Card) (index : List ℕ) (t : ℕ) → kind (saidIn (Form.UpTo limit) k index words count t) ≡ kind (saidBits k words count t)
-  unfolding saidIn saidBits
-  by-limit k index t = go (k .tif)
-    where
-      go : (b : Bool) → kind (cond b (upTo limit words t) (Said.Stored (t + 1))) ≡ kind (cond b (said count (numberAt words t)) (Said.Stored (t + 1)))
-      go true = limit-says t
-      go false = refl
+  pub by-limit : (k : Card) → k .tif ≡ true → (t : ℕ) → kind (upTo limit words t) ≡ kind (saidBits k words count t)
+  unfolding saidBits
+  by-limit k y t = rw y (limit-says t)

@@ -9,14 +9,16 @@ use lib.Dec.{ltb, eqb}
 use lib.ListN.{length, getD}
 use lib.IntN.{ℤ, natAbs}
 use Rattle.arc.specs.declared.Refusal.{Refusal}
+use Rattle.arc.specs.declared.Verdict.{Verdict}
 use Rattle.arc.specs.Refusals.{refusal}
 use Rattle.card.specs.declared.Card.{Card}
+use Rattle.card.specs.Grid.{verdictOf}
 use Rattle.tiles.specs.declared.Said.{Said}
 use Rattle.tiles.specs.declared.Source.{Source}
 use Rattle.tiles.specs.declared.NumberAnswer.{NumberAnswer}
 use Rattle.tiles.specs.declared.SourceAnswer.{SourceAnswer}
 use Rattle.tiles.specs.Index.{tiles, indexWrong, said, saidOf, tileOf}
-use Rattle.tiles.specs.LookUp.{tileBytes, storeWrong, foundOf}
+use Rattle.tiles.specs.LookUp.{tileBytes, storeWrong, numberSaid, foundOf}
 use Rattle.tiles.specs.Window.{viewOf}
 use Rattle.tiles.specs.Corrections.{listWrong, correctionsWrong, saidWith, sourceAt, sourced}
 use Rattle.tiles.specs.Corrections.{numberAlone, sourcedOf, sourceOf}
@@ -62,6 +64,18 @@ number-sourced Source.Corrections (NumberAnswer.Refused e) = refl
 pub sourced-refused : (s : Source) (e : Refusal) → sourced s (NumberAnswer.Refused e) ≡ SourceAnswer.Refused e
 sourced-refused Source.Base e = refl
 sourced-refused Source.Corrections e = refl
+
+-- past 12 and 13 it is the tile's
+module _ (k : Card) (corrections : List ℕ) (corrected : ℕ) (says : ℕ → Said) (r c : ℤ) where
+  pub sourced-in : verdictOf k r c ≡ Verdict.Accepted
+      → let t = tileOf k (natAbs r) (natAbs c) in
+      sourcedOf k corrections corrected says r c ≡ sourced (sourceAt corrections t) (numberSaid t (saidWith corrections corrected says t))
+  unfolding sourcedOf foundOf
+  sourced-in e = rw e
+
+  pub sourced-out : (x : Refusal) → verdictOf k r c ≡ Verdict.Refused x → sourcedOf k corrections corrected says r c ≡ SourceAnswer.Refused x
+  unfolding sourcedOf foundOf
+  sourced-out x e = rw e (sourced-refused (sourceAt corrections (tileOf k (natAbs r) (natAbs c))) x)
 
 -- an empty list corrects nothing
 pub none-found : (k : Card) (corrected : ℕ) (says : ℕ → Said) (r c : ℤ) → numberAlone (sourcedOf k [] corrected says r c) ≡ foundOf k says r c

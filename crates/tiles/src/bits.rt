@@ -1,23 +1,28 @@
 // Look-up and window by presence bits (02, E7).
 use crate::BandsAnswer;
-use crate::Form;
 use crate::NumberAnswer;
+use crate::Said;
 use crate::Source;
 use crate::SourceAnswer;
 use crate::WindowAnswer;
+use crate::either::correction_at;
 use crate::either::number_in;
+use crate::either::source_at;
 use crate::either::with_source;
 use crate::look_up::either_bands;
 use crate::look_up::either_part;
-use crate::look_up::found_in;
-use crate::scan::view_in;
+use crate::look_up::number_said;
+use crate::look_up::pixel_tile;
+use crate::number_says;
+use crate::runs::bits_view;
 use arc::Tile;
+use arc::Verdict;
 use card::Card;
 ghost use mathlib.Core.Path.{_≡_};
-ghost use mathlib.Core.Bool.{false};
+ghost use Prim.Native.Nat.{_<_};
 ghost use lib.ListN.{length};
 ghost use Rattle.card.specs.Read.{Known};
-ghost use Rattle.tiles.specs.Window.{viewOf};
+ghost use Rattle.tiles.specs.Index.{tiles};
 ghost use Rattle.tiles.specs.Corrections.{saidWith, sourcedOf};
 ghost use Rattle.tiles.specs.Bits.{wordsLength, wordsWrong, bitsWrong, strayBit, saidBits, bitsNumberOf, bitsPartOf, bitsBandsOf, bitsWindowOf};
 
@@ -53,6 +58,28 @@ pub fn stray_bit(k: Card, words: &[u64]) -> bool
     presence::set_on(words, k.nfl * k.nfc)
 }
 
+// What is said of a tile, corrected first (02, E1, E7).
+fn bits_say(
+    k: Card,
+    words: &[u64],
+    count: u64,
+    corrections: &[u32],
+    corrected: u64,
+    tile: u64,
+) -> Said
+    requires { ⌜ Known k ⌝ ∗ ⌜ tile < tiles k ⌝ }
+    ensures { λ r. ⌜ r ≡ saidWith (now (corrections .entry)) corrected (saidBits k (now (words .entry)) count) tile ⌝ }
+{
+    let correction = correction_at(corrections, tile);
+    if correction != 0 {
+        return number_says(corrected, correction);
+    }
+    if !k.tif {
+        return Said::Stored(tile + 1);
+    }
+    number_says(count, presence::number(words, tile as u32))
+}
+
 // The source and the number there of a pixel's tile (02, E1, E7). Refuses 12, 13, 15 of a correction, 14, 15.
 pub fn bits_found(
     k: Card,
@@ -66,48 +93,14 @@ pub fn bits_found(
     requires { ⌜ Known k ⌝ }
     ensures { λ r. ⌜ r ≡ sourcedOf k (now (corrections .entry)) corrected (saidBits k (now (words .entry)) count) row column ⌝ }
 {
-    found_in(
-        k,
-        Form::Bits,
-        &corrections[0..0],
-        words,
-        count,
-        corrections,
-        corrected,
-        row,
-        column,
-    )
-}
-
-// The window: the limit is found in one pass over the words, then each tile is one bit and one comparison (02, E1, E7). Refuses 12, 15.
-pub fn bits_view(
-    k: Card,
-    words: &[u64],
-    count: u64,
-    corrections: &[u32],
-    corrected: u64,
-    top: u64,
-    left: u64,
-    height: u64,
-    width: u64,
-) -> WindowAnswer
-    requires { ⌜ Known k ⌝ ∗ ⌜ length (now words) ≡ wordsLength k ⌝ }
-    ensures { λ r. ⌜ r ≡ viewOf k (saidWith (now (corrections .entry)) corrected (saidBits k (now (words .entry)) count)) top left height width ⌝ }
-{
-    let limit = presence::limit(words, count, words.len() as u32 * 64);
-    view_in(
-        k,
-        Form::UpTo(limit),
-        &corrections[0..0],
-        words,
-        count,
-        corrections,
-        corrected,
-        top,
-        left,
-        height,
-        width,
-    )
+    match k.judge_pixel(row, column) {
+        Verdict::Accepted => {
+            let tile = pixel_tile(k, row, column);
+            let said = bits_say(k, words, count, corrections, corrected, tile);
+            with_source(source_at(corrections, tile), number_said(tile, said))
+        }
+        Verdict::Refused(e) => SourceAnswer::Refused(e),
+    }
 }
 
 // The stored number of a pixel's tile, by presence bits (02, E7). Refuses 6, 21, 12, 13, 14, 15.
@@ -184,5 +177,16 @@ pub fn bits_window(
         return WindowAnswer::Refused(arc::refused(21));
     }
     let none = [0u32; 1];
-    bits_view(k, words, count, &none[0..0], 0, top, left, height, width)
+    bits_view(
+        k,
+        words,
+        count,
+        false,
+        &none[0..0],
+        0,
+        top,
+        left,
+        height,
+        width,
+    )
 }

@@ -1,18 +1,17 @@
 // What is said of a tile, corrected first, and in which store it is (02, E1).
-use crate::Form;
 use crate::NumberAnswer;
 use crate::Said;
 use crate::Source;
 use crate::SourceAnswer;
-use crate::says::base_says;
+use crate::index_says;
 use card::Card;
 ghost use mathlib.Core.Path.{_≡_};
+ghost use mathlib.Core.Bool.{false};
 ghost use Prim.Native.Nat.{_<_};
 ghost use lib.ListN.{getD};
 ghost use Rattle.card.specs.Read.{Known};
-ghost use Rattle.tiles.specs.Index.{tiles};
+ghost use Rattle.tiles.specs.Index.{tiles, indexWrong, saidOf};
 ghost use Rattle.tiles.specs.Corrections.{saidWith, sourceAt, sourced, numberAlone};
-ghost use Rattle.tiles.specs.Steps.{saidIn, Right};
 
 // A tile's entry in the corrections, 0 past their end (02, E1).
 pub fn correction_at(corrections: &[u32], tile: u64) -> u64
@@ -24,19 +23,17 @@ pub fn correction_at(corrections: &[u32], tile: u64) -> u64
     corrections[tile as usize] as u64
 }
 
-// What is said of a tile, corrected first, the index being of the right length where it is read (02, E1).
+// What is said of a tile, corrected first, the lengths of the base being right (02, E1).
 pub fn tile_says(
     k: Card,
-    form: Form,
     index: &[u32],
-    words: &[u64],
     count: u64,
     corrections: &[u32],
     corrected: u64,
     tile: u64,
 ) -> Said
-    requires { ⌜ Known k ⌝ ∗ ⌜ Right form k (now index) count ⌝ ∗ ⌜ tile < tiles k ⌝ }
-    ensures { λ r. ⌜ r ≡ saidWith (now (corrections .entry)) corrected (saidIn form k (now (index .entry)) (now (words .entry)) count) tile ⌝ }
+    requires { ⌜ Known k ⌝ ∗ ⌜ indexWrong k (now index) count ≡ false ⌝ ∗ ⌜ tile < tiles k ⌝ }
+    ensures { λ r. ⌜ r ≡ saidWith (now (corrections .entry)) corrected (saidOf k (now (index .entry)) count) tile ⌝ }
 {
     let correction = correction_at(corrections, tile);
     if corrected < correction {
@@ -45,7 +42,7 @@ pub fn tile_says(
     if correction != 0 {
         return Said::Stored(correction);
     }
-    base_says(k, form, index, words, count, tile)
+    index_says(k, index, count, tile)
 }
 
 // Which store a tile is looked for in (02, E1).

@@ -2,9 +2,12 @@
 use arc::Refusal;
 use card::Card;
 ghost use mathlib.Core.Path.{_≡_};
+ghost use mathlib.Core.Bool.{false};
+ghost use Prim.Native.Nat.{_<_};
+ghost use lib.ListN.{length, getD};
 ghost use Rattle.arc.specs.Refusals.{refusalAt};
 ghost use Rattle.card.specs.Read.{Known};
-ghost use Rattle.tiles.specs.Index.{indexWrong, said};
+ghost use Rattle.tiles.specs.Index.{tiles, indexWrong, said, saidOf};
 
 mod bits;
 mod check;
@@ -13,7 +16,7 @@ mod corrections;
 mod either;
 mod look_up;
 mod parts;
-mod says;
+mod runs;
 mod scan;
 
 pub use bits::bits_bands;
@@ -38,13 +41,6 @@ pub use parts::NumberParts;
 pub use parts::SourceParts;
 pub use parts::WindowParts;
 pub use scan::window;
-
-// How the index is held: a list, presence bits, or presence bits with the limit up to which their count is not above the stored count (02, E7).
-enum Form {
-    List,
-    Bits,
-    UpTo(u64),
-}
 
 // What is said of a tile: its stored number, that it is not stored, or that its entry is above the count.
 enum Said {
@@ -105,7 +101,7 @@ fn index_wrong(k: Card, index: &[u32], count: u64) -> bool
     (length != 0) | (count != tiles)
 }
 
-// What a tile's number says, 0 for a tile not stored (01, "Tiles").
+// What a stored number says, 0 for a tile not stored (01, "Tiles").
 fn number_says(count: u64, n: u64) -> Said
     ensures { λ r. ⌜ r ≡ said count n ⌝ }
 {
@@ -116,4 +112,23 @@ fn number_says(count: u64, n: u64) -> Said
         return Said::Above;
     }
     Said::Stored(n)
+}
+
+// What a tile's entry says, with TIF Y (01, "Tiles").
+fn entry_says(index: &[u32], count: u64, tile: u64) -> Said
+    requires { ⌜ tile < length (now index) ⌝ }
+    ensures { λ r. ⌜ r ≡ said count (getD (now (index .entry)) tile 0) ⌝ }
+{
+    number_says(count, index[tile as usize] as u64)
+}
+
+// What the index says of a tile, the lengths being right (01, "Tiles").
+fn index_says(k: Card, index: &[u32], count: u64, tile: u64) -> Said
+    requires { ⌜ Known k ⌝ ∗ ⌜ indexWrong k (now index) count ≡ false ⌝ ∗ ⌜ tile < tiles k ⌝ }
+    ensures { λ r. ⌜ r ≡ saidOf k (now (index .entry)) count tile ⌝ }
+{
+    if !k.tif {
+        return Said::Stored(tile + 1);
+    }
+    entry_says(index, count, tile)
 }

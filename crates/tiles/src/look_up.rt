@@ -1,6 +1,5 @@
 // Looking up a pixel's tile (01, "Tiles").
 use crate::BandsAnswer;
-use crate::Form;
 use crate::NumberAnswer;
 use crate::Said;
 use crate::Source;
@@ -18,17 +17,20 @@ ghost use mathlib.Core.Path.{_≡_};
 ghost use mathlib.Core.Bool.{false};
 ghost use Prim.Native.Nat.{_*_, _≤_};
 ghost use lib.ListN.{length};
+ghost use lib.IntN.{natAbs};
+ghost use Rattle.arc.specs.declared.Verdict.{Verdict};
 ghost use Rattle.card.specs.Read.{Known};
-ghost use Rattle.tiles.specs.Index.{indexWrong, saidOf};
+ghost use Rattle.card.specs.Grid.{verdictOf};
+ghost use Rattle.tiles.specs.Index.{indexWrong, saidOf, tileOf};
 ghost use Rattle.tiles.specs.LookUp.{tileBytes, storeWrong, numberSaid, numberOf, partAt, partOf, inBand, bandsAt, bandsIn, bandsOf};
 ghost use Rattle.tiles.specs.Corrections.{numberAlone, sourcedOf, eitherPart};
-ghost use Rattle.tiles.specs.Steps.{saidIn, Right, Held};
+ghost use Rattle.tiles.specs.Steps.{Held};
 
 // A band of a tile: 128 rows of 128, POR 0 (01, "Tiles").
 const BAND: usize = 16_384;
 
 // The stored number of a tile, by what is said of it (01, "Tiles"). Refuses 14, 15.
-fn number_said(tile: u64, said: Said) -> NumberAnswer
+pub fn number_said(tile: u64, said: Said) -> NumberAnswer
     ensures { λ a. ⌜ a ≡ numberSaid tile said ⌝ }
 {
     match said {
@@ -38,32 +40,15 @@ fn number_said(tile: u64, said: Said) -> NumberAnswer
     }
 }
 
-// The source and the number there of a pixel's tile, the lengths of the base being right (02, E1). Refuses 12, 13, 15 of a correction, 14, 15.
-pub fn found_in(
-    k: Card,
-    form: Form,
-    index: &[u32],
-    words: &[u64],
-    count: u64,
-    corrections: &[u32],
-    corrected: u64,
-    row: i64,
-    column: i64,
-) -> SourceAnswer
-    requires { ⌜ Known k ⌝ ∗ ⌜ Right form k (now index) count ⌝ }
-    ensures { λ r. ⌜ r ≡ sourcedOf k (now (corrections .entry)) corrected (saidIn form k (now (index .entry)) (now (words .entry)) count) row column ⌝ }
+// An accepted pixel's tile, by its number from 0 in the image (01, "Tiles").
+pub fn pixel_tile(k: Card, row: i64, column: i64) -> u64
+    requires { ⌜ Known k ⌝ ∗ ⌜ verdictOf k row column ≡ Verdict.Accepted ⌝ }
+    ensures { λ r. ⌜ r ≡ tileOf k (natAbs row) (natAbs column) ⌝ }
 {
-    match k.judge_pixel(row, column) {
-        Verdict::Accepted => {
-            let tile = whole::size(row) / Tile::SIDE * k.nfc + whole::size(column) / Tile::SIDE;
-            let said = tile_says(k, form, index, words, count, corrections, corrected, tile);
-            with_source(source_at(corrections, tile), number_said(tile, said))
-        }
-        Verdict::Refused(e) => SourceAnswer::Refused(e),
-    }
+    whole::size(row) / Tile::SIDE * k.nfc + whole::size(column) / Tile::SIDE
 }
 
-// The same, the index being a list (02, E1). Refuses 12, 13, 15 of a correction, 14, 15.
+// The source and the number there of a pixel's tile, the lengths of the base being right (02, E1). Refuses 12, 13, 15 of a correction, 14, 15.
 pub fn found(
     k: Card,
     index: &[u32],
@@ -76,18 +61,14 @@ pub fn found(
     requires { ⌜ Known k ⌝ ∗ ⌜ indexWrong k (now index) count ≡ false ⌝ }
     ensures { λ r. ⌜ r ≡ sourcedOf k (now (corrections .entry)) corrected (saidOf k (now (index .entry)) count) row column ⌝ }
 {
-    let none = [0u64; 1];
-    found_in(
-        k,
-        Form::List,
-        index,
-        &none,
-        count,
-        corrections,
-        corrected,
-        row,
-        column,
-    )
+    match k.judge_pixel(row, column) {
+        Verdict::Accepted => {
+            let tile = pixel_tile(k, row, column);
+            let said = tile_says(k, index, count, corrections, corrected, tile);
+            with_source(source_at(corrections, tile), number_said(tile, said))
+        }
+        Verdict::Refused(e) => SourceAnswer::Refused(e),
+    }
 }
 
 // Whether the index, the count or the store is of the wrong length (01, "Tiles").

@@ -1,5 +1,4 @@
 // The window of tiles (01, "Tiles").
-use crate::Form;
 use crate::Said;
 use crate::WindowAnswer;
 use crate::bad_entry;
@@ -14,10 +13,10 @@ ghost use Rattle.card.specs.Read.{Known};
 ghost use Rattle.tiles.specs.Index.{indexWrong, saidOf};
 ghost use Rattle.tiles.specs.Window.{windowTiles, scan, viewOf, windowOf};
 ghost use Rattle.tiles.specs.Corrections.{saidWith};
-ghost use Rattle.tiles.specs.Steps.{saidIn, Right, Window};
+ghost use Rattle.tiles.specs.Steps.{Window};
 
 // Whether from + length is above most (01, "Numbers given in refusal").
-fn reaches_past(most: u64, from: u64, length: u64) -> bool
+pub fn reaches_past(most: u64, from: u64, length: u64) -> bool
     ensures { λ r. ⌜ r ≡ ltb most (from + length) ⌝ }
 {
     if most < from {
@@ -29,9 +28,7 @@ fn reaches_past(most: u64, from: u64, length: u64) -> bool
 // The first tile of a window that is not stored, corrected tiles passed (01, "Tiles"; 02, E1). Refuses 15.
 fn first_missing(
     k: Card,
-    form: Form,
     index: &[u32],
-    words: &[u64],
     count: u64,
     corrections: &[u32],
     corrected: u64,
@@ -40,16 +37,15 @@ fn first_missing(
     height: u64,
     width: u64,
 ) -> WindowAnswer
-    requires { ⌜ Window k form (now index) count top left height width ⌝ }
-    ensures { λ r. ⌜ r ≡ scan (saidWith (now (corrections .entry)) corrected (saidIn form k (now (index .entry)) (now (words .entry)) count))
-        (windowTiles k top left height width) ⌝ }
+    requires { ⌜ Window k (now index) count top left height width ⌝ }
+    ensures { λ r. ⌜ r ≡ scan (saidWith (now (corrections .entry)) corrected (saidOf k (now (index .entry)) count)) (windowTiles k top left height width) ⌝ }
 {
     let mut answer = WindowAnswer::AllStored;
     'rows: for r in 0..height {
         let start = (top + r) * k.nfc + left;
         for c in 0..width {
             let tile = start + c;
-            match tile_says(k, form, index, words, count, corrections, corrected, tile) {
+            match tile_says(k, index, count, corrections, corrected, tile) {
                 Said::Stored(_) => {}
                 Said::Missing => {
                     answer = WindowAnswer::Missing(tile);
@@ -66,42 +62,6 @@ fn first_missing(
 }
 
 // The window, the lengths of the base being right (01, "Tiles"; 02, E1). Refuses 12, 15.
-pub fn view_in(
-    k: Card,
-    form: Form,
-    index: &[u32],
-    words: &[u64],
-    count: u64,
-    corrections: &[u32],
-    corrected: u64,
-    top: u64,
-    left: u64,
-    height: u64,
-    width: u64,
-) -> WindowAnswer
-    requires { ⌜ Known k ⌝ ∗ ⌜ Right form k (now index) count ⌝ }
-    ensures { λ r. ⌜ r ≡ viewOf k (saidWith (now (corrections .entry)) corrected (saidIn form k (now (index .entry)) (now (words .entry)) count))
-        top left height width ⌝ }
-{
-    if reaches_past(k.nfl, top, height) | reaches_past(k.nfc, left, width) {
-        return WindowAnswer::Refused(arc::refused(12));
-    }
-    first_missing(
-        k,
-        form,
-        index,
-        words,
-        count,
-        corrections,
-        corrected,
-        top,
-        left,
-        height,
-        width,
-    )
-}
-
-// The same, the index being a list (01, "Tiles"; 02, E1). Refuses 12, 15.
 pub fn view(
     k: Card,
     index: &[u32],
@@ -116,12 +76,12 @@ pub fn view(
     requires { ⌜ Known k ⌝ ∗ ⌜ indexWrong k (now index) count ≡ false ⌝ }
     ensures { λ r. ⌜ r ≡ viewOf k (saidWith (now (corrections .entry)) corrected (saidOf k (now (index .entry)) count)) top left height width ⌝ }
 {
-    let none = [0u64; 1];
-    view_in(
+    if reaches_past(k.nfl, top, height) | reaches_past(k.nfc, left, width) {
+        return WindowAnswer::Refused(arc::refused(12));
+    }
+    first_missing(
         k,
-        Form::List,
         index,
-        &none,
         count,
         corrections,
         corrected,

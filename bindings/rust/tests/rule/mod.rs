@@ -1,9 +1,10 @@
-//! Document 01, with E1, E2, E3, E4, E5, E8 and E13 of 02, written out a second time in plain
+//! Document 01, with E1, E2, E3, E4, E5, E7, E8 and E13 of 02, written out a second time in plain
 //! loops, in i128 arithmetic; in i64, u64 or usize only where the numbers have been checked and are
 //! small. It knows nothing of the library but the types that carry questions and answers.
 // each test file uses a part of it
 #![allow(dead_code, unused_imports)]
 
+mod bits;
 mod corrections;
 mod grid;
 mod read;
@@ -13,6 +14,8 @@ mod zone;
 
 use fordcask::{Card, OnCard, Refusal};
 
+pub use bits::{bits_bands, bits_lookup, bits_window, corrected_bits_bands, corrected_bits_tile};
+pub use bits::{corrected_bits_window, to_bits, to_list};
 pub use corrections::{corrected_bands, corrected_tile, corrected_window, set_correction};
 pub use grid::{align, has_place, offset, origin_storing, overview_pixel};
 pub use grid::{pixel, place, position, stored_angle};

@@ -1,5 +1,5 @@
 -- The tests are the definition's, and an empty list corrects nothing. Assumes nothing.
-use mathlib.Core.Path.{_≡_, sym, ap, _∙_}
+use mathlib.Core.Path.{_≡_, refl, sym, ap, _∙_}
 use mathlib.Core.Bool.{false}
 use Rattle.tiles.specs.declared.WindowAnswer.{WindowAnswer}
 use Rattle.tiles.specs.Bits.{wordsWrong, bitsWindowOf}
@@ -25,7 +25,7 @@ unfolding bitsWindowOf
 returns-2 c = rw (right (c .before .before .before), sym (c .before .before .stray-bit .ensures) ∙ c .before .if2 .taken) (ap WindowAnswer.Refused (c .refused2 .ensures))
 
 bits-view-requires : tie.Need-bits-view-requires
-bits-view-requires c κs = (c .before .before .before .before .before .before .before .pre, words-right _ _ _ (right (c .before .before .before .before)))
+bits-view-requires c κs = (c .before .before .before .before .before .before .before .pre, (right (c .before .before .before .before), refl))
 
 returns-3 : tie.Need-returns-3
 unfolding bitsWindowOf

@@ -32,7 +32,7 @@ unfolding correctedBitsWindowOf
 returns-3 c = rw (right (c .before .before .before .before .before), beside (c .before .before .before), sym (c .before .before .stray-bit .ensures) ∙ c .before .if3 .taken) (ap WindowAnswer.Refused (c .refused3 .ensures))
 
 bits-view-requires : tie.Need-bits-view-requires
-bits-view-requires c κs = (c .before .before .before .before .before .before .before .before .pre, words-right _ _ _ (right (c .before .before .before .before)))
+bits-view-requires c κs = (c .before .before .before .before .before .before .before .before .pre, (right (c .before .before .before .before), tt))
 
 returns-4 : tie.Need-returns-4
 unfolding correctedBitsWindowOf

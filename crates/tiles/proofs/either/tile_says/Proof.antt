@@ -8,19 +8,19 @@ use Rattle.tiles.proofs.either.tile_says.Statement.{statement}
 use Rattle.tiles.proofs.either.tile_says.Tie as tie
 
 returns : tie.Need-returns
-returns c = let a = c .before .before .before .before .before .args in
+returns c = let a = c .before .before .before .before .args in
     sym (with-above (a .corrections .now) (a .tile) (a .corrected) _ (omega (arith, c .if1 .taken, c .before .correction-at .ensures)))
 
 returns-2 : tie.Need-returns-2
 returns-2 c =
-    let a = c .before .before .before .before .before .before .args in
+    let a = c .before .before .before .before .before .args in
     let e = c .before .before .correction-at .ensures in
     sym (with-stored (a .corrections .now) (a .tile) (a .corrected) _ (λ z. c .if2 .taken (e ∙ z)) (omega (arith, c .before .if1 .left, e))
     ∙ ap Said.Stored (sym e))
 
 returns-3 : tie.Need-returns-3
-returns-3 c = let a = c .before .before .before .before .before .before .before .args in
-    c .base-says .ensures
+returns-3 c = let a = c .before .before .before .before .before .before .args in
+    c .index-says .ensures
     ∙ sym (with-none (a .corrections .now) (a .tile) (a .corrected) _ (sym (c .before .before .before .correction-at .ensures) ∙ c .before .if2 .left))
 
 pub tile-says-spec : {M : Type 1} → statement M

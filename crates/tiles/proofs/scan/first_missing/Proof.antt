@@ -9,51 +9,50 @@ use Rattle.card.proofs.Laid.{known-laid}
 use Rattle.tiles.specs.declared.Said.{Said}
 use Rattle.tiles.specs.declared.WindowAnswer.{WindowAnswer}
 use Rattle.whole.specs.Lists.{upFrom}
-use Rattle.tiles.specs.Index.{tiles}
+use Rattle.tiles.specs.Index.{tiles, saidOf}
 use Rattle.tiles.specs.Window.{windowTiles, scanned, scan}
 use Rattle.tiles.specs.Corrections.{saidWith}
-use Rattle.tiles.specs.Steps.{saidIn}
 use Rattle.tiles.proofs.Entry.{tiles-small, tile-inside}
 use Rattle.tiles.proofs.Ahead.{enter, leave, done, next}
 use Rattle.tiles.proofs.scan.first_missing.Statement.{statement}
 use Rattle.tiles.proofs.scan.first_missing.Tie as tie
 
 abbrev Inv-loop : tie.InvT-loop
-Inv-loop k form index words count corrections corrected top left height width answer₀ r start c₀ answer c =
+Inv-loop k index count corrections corrected top left height width answer₀ r start c₀ answer c =
     (answer ≡ WindowAnswer.AllStored) × (c ≤ width)
-    × (scan (saidWith corrections corrected (saidIn form k index words count)) (windowTiles k top left height width)
-    ≡ scan (saidWith corrections corrected (saidIn form k index words count)) (upFrom (start + c) (width - c) ++ windowTiles k (top + (r + 1)) left
+    × (scan (saidWith corrections corrected (saidOf k index count)) (windowTiles k top left height width)
+    ≡ scan (saidWith corrections corrected (saidOf k index count)) (upFrom (start + c) (width - c) ++ windowTiles k (top + (r + 1)) left
     (height - (r + 1)) width))
 
 abbrev μ-loop : tie.MeasureT-loop
-μ-loop k form index words count corrections corrected top left height width answer₀ r start c₀ answer c = width - c
+μ-loop k index count corrections corrected top left height width answer₀ r start c₀ answer c = width - c
 
 abbrev Inv-rows : tie.InvT-rows
-Inv-rows k form index words count corrections corrected top left height width answer₀ r₀ answer r =
+Inv-rows k index count corrections corrected top left height width answer₀ r₀ answer r =
     (answer ≡ WindowAnswer.AllStored) × (r ≤ height)
-    × (scan (saidWith corrections corrected (saidIn form k index words count)) (windowTiles k top left height width)
-    ≡ scan (saidWith corrections corrected (saidIn form k index words count)) (windowTiles k (top + r) left (height - r) width))
+    × (scan (saidWith corrections corrected (saidOf k index count)) (windowTiles k top left height width)
+    ≡ scan (saidWith corrections corrected (saidOf k index count)) (windowTiles k (top + r) left (height - r) width))
 
 abbrev μ-rows : tie.MeasureT-rows
-μ-rows k form index words count corrections corrected top left height width answer₀ r₀ answer r = height - r
+μ-rows k index count corrections corrected top left height width answer₀ r₀ answer r = height - r
 
 -- the row's first tile is small, and the tile lies in the index
 small : (c : tie.After-struct-known Inv-loop μ-loop Inv-rows μ-rows)
-    → let a = c .before .before .before .before .before .before .args in (a .top + c .before .before .rows .r) * a .k .nfc ≤ 999 * 999
+    → let a = c .before .before .before .before .before .args in (a .top + c .before .before .rows .r) * a .k .nfc ≤ 999 * 999
 small c =
-    let s = c .before .before .before .before .before .before in
+    let s = c .before .before .before .before .before in
     let l = known-laid _ (s .pre .known) in
     mul-le-mul {n₂ = 999} {m₂ = 999} (omega (arith, s .pre .down, l .down-most)) (l .across-most)
 
 abbrev here : tie.In-loop Inv-loop μ-loop Inv-rows μ-rows → ℕ
 here c =
-    let a = c .before .before .before .before .before .before .before .before .args in
+    let a = c .before .before .before .before .before .before .before .args in
     (a .top + c .before .before .before .before .rows .r) * a .k .nfc + a .left + c .before .loop .c
 
 inside : (c : tie.In-loop Inv-loop μ-loop Inv-rows μ-rows)
-    → here c < tiles (c .before .before .before .before .before .before .before .before .args .k)
+    → here c < tiles (c .before .before .before .before .before .before .before .args .k)
 inside c =
-    let s = c .before .before .before .before .before .before .before .before in
+    let s = c .before .before .before .before .before .before .before in
     let r = c .before .before .before .before .rows .r in
     let h : s .args .top + r < s .args .k .nfl = omega (arith, s .pre .down, c .before .before .before .rows-test .taken) in
     let g : s .args .left + c .before .loop .c < s .args .k .nfc = omega (arith, s .pre .across, c .loop-test .taken) in
@@ -61,29 +60,29 @@ inside c =
 
 -- the scan of the whole, by what is said of the tile and the scan of what is left
 step : (c : tie.After-tile-says Inv-loop μ-loop Inv-rows μ-rows) (v : Said) → c .tile-says .result ≡ v →
-    let a = c .before .before .before .before .before .before .before .before .before .args in
-    let says = saidWith (a .corrections .now) (a .corrected) (saidIn (a .form) (a .k) (a .index .now) (a .words .now) (a .count)) in
+    let a = c .before .before .before .before .before .before .before .before .args in
+    let says = saidWith (a .corrections .now) (a .corrected) (saidOf (a .k) (a .index .now) (a .count)) in
     let r = c .before .before .before .before .before .rows .r in
     let i = c .before .before .loop .c in
     scan says (windowTiles (a .k) (a .top) (a .left) (a .height) (a .width))
     ≡ scanned (here (c .before)) v (scan says (upFrom ((a .top + r) * a .k .nfc + a .left + (i + 1)) (a .width - (i + 1))
     ++ windowTiles (a .k) (a .top + (r + 1)) (a .left) (a .height - (r + 1)) (a .width)))
 step c v e =
-    let s = c .before .before .before .before .before .before .before .before .before in
+    let s = c .before .before .before .before .before .before .before .before in
     let l = c .before .before .loop in
     l .inv .2
-    ∙ next (saidWith (s .args .corrections .now) (s .args .corrected) (saidIn (s .args .form) (s .args .k) (s .args .index .now) (s .args .words .now) (s .args .count))) _ (l .c) _ _
+    ∙ next (saidWith (s .args .corrections .now) (s .args .corrected) (saidOf (s .args .k) (s .args .index .now) (s .args .count))) _ (l .c) _ _
     (c .before .loop-test .taken) v (sym (c .tile-says .ensures) ∙ e)
 
 rows-holds : tie.Need-rows-holds Inv-loop μ-loop Inv-rows μ-rows
 rows-holds c =
-    let a = c .before .before .before .args in
+    let a = c .before .before .args in
     let e : a .top + 0 ≡ a .top = omega arith in
     let f : a .height - 0 ≡ a .height = omega arith in
     (refl, omega arith, rw (e, f))
 
 add-start : tie.Need-add-start Inv-loop μ-loop Inv-rows μ-rows
-add-start c = omega (arith, c .before .before .before .before .before .pre .down, known-laid _ (c .before .before .before .before .before .pre .known) .down-most)
+add-start c = omega (arith, c .before .before .before .before .pre .down, known-laid _ (c .before .before .before .before .pre .known) .down-most)
 
 mul-start : tie.Need-mul-start Inv-loop μ-loop Inv-rows μ-rows
 mul-start c = omega (arith, small c)
@@ -92,13 +91,13 @@ add-start-2 : tie.Need-add-start-2 Inv-loop μ-loop Inv-rows μ-rows
 add-start-2 c = omega (
   arith,
   small c,
-  c .before .before .before .before .before .before .pre .across,
-  known-laid _ (c .before .before .before .before .before .before .pre .known) .across-most,
+  c .before .before .before .before .before .pre .across,
+  known-laid _ (c .before .before .before .before .before .pre .known) .across-most,
 )
 
 loop-holds : tie.Need-loop-holds Inv-loop μ-loop Inv-rows μ-rows
 loop-holds c =
-    let s = c .before .before .before .before .before .before in
+    let s = c .before .before .before .before .before in
     let l = c .before .before .rows in (
       l .inv .0,
       omega arith,
@@ -108,10 +107,10 @@ loop-holds c =
     )
 
 add-tile : tie.Need-add-tile Inv-loop μ-loop Inv-rows μ-rows
-add-tile c = omega (arith, inside c, tiles-small _ (c .before .before .before .before .before .before .before .before .pre .known))
+add-tile c = omega (arith, inside c, tiles-small _ (c .before .before .before .before .before .before .before .pre .known))
 
 tile-says-requires : tie.Need-tile-says-requires Inv-loop μ-loop Inv-rows μ-rows
-tile-says-requires c κs = let s = c .before .before .before .before .before .before .before .before in (s .pre .known, (s .pre .right, inside c))
+tile-says-requires c κs = let s = c .before .before .before .before .before .before .before in (s .pre .known, (s .pre .right, inside c))
 
 bad-entry-requires : tie.Need-bad-entry-requires Inv-loop μ-loop Inv-rows μ-rows
 bad-entry-requires c κs = tt
@@ -142,7 +141,7 @@ rows-again c =
 
 returns : tie.Need-returns Inv-loop μ-loop Inv-rows μ-rows
 returns c =
-    let a = c .before .before .before .before .before .args in
+    let a = c .before .before .before .before .args in
     let l = c .before .rows in
     l .inv .0 ∙ sym (l .inv .2
     ∙ done _ (a .k) (a .top) (a .left) (l .r) (a .height) (a .width) (c .rows-test .left))

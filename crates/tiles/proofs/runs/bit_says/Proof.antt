@@ -2,8 +2,8 @@
 use mathlib.Core.Path.{_≡_, sym, _∙_}
 use borrow.Author.Tests.{eq-eqb, ne-eqb, le-leb, lt-leb}
 use borrow.Author.Needs.{needs}
-use Rattle.tiles.proofs.says.bit_says.Statement.{statement}
-use Rattle.tiles.proofs.says.bit_says.Tie as tie
+use Rattle.tiles.proofs.runs.bit_says.Statement.{statement}
+use Rattle.tiles.proofs.runs.bit_says.Tie as tie
 
 returns : tie.Need-returns
 returns c = rw (eq-eqb _ 0 (sym (c .before .bit .ensures) ∙ c .if1 .taken))
