@@ -49,6 +49,9 @@ static uint8_t store[4 * TILE];
 static const uint32_t corrections[6] = {0, 2, 0, 0, 2, 1};
 static uint8_t corrections_store[2 * TILE];
 
+/* Tiles 0, 2, 3 and 4 of the six, as presence bits. */
+static const uint64_t stored_bits[2] = {29, 0};
+
 static void start(const char *name, uint32_t number, uint64_t at)
 {
     printf("%s: %" PRIu32 " %" PRIu64, name, number, at);
@@ -353,6 +356,99 @@ static void set_correction(const uint8_t *bytes, size_t length, uint64_t tile,
     end(r.blanks);
 }
 
+/* The words are 7 before. */
+static void to_bits(const uint8_t *bytes, const uint32_t *index,
+                    size_t length, size_t words_length)
+{
+    uint64_t words[2] = {7, 7};
+    struct fordcask_verdict r = fordcask_to_bits(
+        charts, bytes, CARD, index, length, words, words_length);
+
+    start("to_bits", r.number, r.at);
+    printf(" %" PRIu64 " %" PRIu64, words[0], words[1]);
+    end(r.blanks);
+}
+
+/* The entries are 7 before. */
+static void to_list(const uint8_t *bytes, const uint64_t *words,
+                    size_t words_length, size_t length)
+{
+    uint32_t index[7] = {7, 7, 7, 7, 7, 7, 7};
+    size_t i;
+    struct fordcask_verdict r = fordcask_to_list(
+        charts, bytes, CARD, words, words_length, index, length);
+
+    start("to_list", r.number, r.at);
+    for (i = 0; i < 7; i++)
+        printf(" %" PRIu32, index[i]);
+    end(r.blanks);
+}
+
+/* fordcask_bits_tile, then fordcask_bits_bands, of one pixel. */
+static void bits_tile(const uint8_t *bytes, const uint64_t *words,
+                      size_t words_length, uint64_t count, int64_t row,
+                      int64_t column)
+{
+    struct fordcask_tile t =
+        fordcask_bits_tile(charts, bytes, CARD, words, words_length, count,
+                           store, (size_t)count * TILE, row, column);
+    struct fordcask_bands b =
+        fordcask_bits_bands(charts, bytes, CARD, words, words_length, count,
+                            store, (size_t)count * TILE, row, column);
+
+    start("bits_tile", t.number, t.at);
+    printf(" %" PRIu64 " %" PRIu64 " %" PRIu64, t.stored, t.offset,
+           t.length);
+    end(t.blanks);
+    start("bits_bands", b.number, b.at);
+    printf(" %u %u %u", (unsigned)b.red, (unsigned)b.green,
+           (unsigned)b.blue);
+    end(b.blanks);
+}
+
+static void bits_window(const uint8_t *bytes, const uint64_t *words,
+                        size_t words_length, uint64_t count, uint64_t top,
+                        uint64_t left, uint64_t height, uint64_t width)
+{
+    struct fordcask_window w =
+        fordcask_bits_window(charts, bytes, CARD, words, words_length, count,
+                             top, left, height, width);
+
+    start("bits_window", w.number, w.at);
+    printf(" %" PRIu64 " %" PRIu64, w.missing, w.tile);
+    end(w.blanks);
+}
+
+/* fordcask_corrected_bits_tile, then fordcask_corrected_bits_bands, of one
+   pixel, then fordcask_corrected_bits_window over all tiles. */
+static void corrected_bits(const uint64_t *words, uint64_t count,
+                           size_t list_length, int64_t row, int64_t column)
+{
+    struct fordcask_corrected_tile t = fordcask_corrected_bits_tile(
+        charts, padded_card, CARD, words, 1, count, store,
+        (size_t)count * TILE, corrections, list_length, 2, corrections_store,
+        2 * TILE, row, column);
+    struct fordcask_bands b = fordcask_corrected_bits_bands(
+        charts, padded_card, CARD, words, 1, count, store,
+        (size_t)count * TILE, corrections, list_length, 2, corrections_store,
+        2 * TILE, row, column);
+    struct fordcask_window w = fordcask_corrected_bits_window(
+        charts, padded_card, CARD, words, 1, count, corrections, list_length,
+        2, 0, 0, 2, 3);
+
+    start("corrected_bits_tile", t.number, t.at);
+    printf(" %" PRIu64 " %" PRIu64 " %" PRIu64 " %" PRIu64, t.source,
+           t.stored, t.offset, t.length);
+    end(t.blanks);
+    start("corrected_bits_bands", b.number, b.at);
+    printf(" %u %u %u", (unsigned)b.red, (unsigned)b.green,
+           (unsigned)b.blue);
+    end(b.blanks);
+    start("corrected_bits_window", w.number, w.at);
+    printf(" %" PRIu64 " %" PRIu64, w.missing, w.tile);
+    end(w.blanks);
+}
+
 /* Both outputs are filled with 7 before; length is that of the list. */
 static void positions(int corner, size_t length)
 {
@@ -562,6 +658,42 @@ static void corrected_tiles(void)
     set_correction(padded_card, 5, 0, 1);
 }
 
+static void bits(void)
+{
+    static const uint32_t in_order[6] = {1, 0, 2, 3, 4, 0};
+    static const uint64_t stray[1] = {29 + 64};
+
+    to_bits(padded_card, in_order, 6, 1);
+    to_bits(padded_card, stored_index, 6, 1);
+    to_bits(padded_card, in_order, 6, 2);
+    to_bits(padded_card, in_order, 5, 1);
+    to_bits(card, in_order, 0, 0);
+    to_bits(card, in_order, 0, 1);
+    to_list(padded_card, stored_bits, 1, 6);
+    to_list(padded_card, stray, 1, 6);
+    to_list(padded_card, stored_bits, 2, 6);
+    to_list(padded_card, stored_bits, 1, 7);
+    to_list(card, stored_bits, 0, 0);
+    bits_tile(padded_card, stored_bits, 1, 4, 6, 259);
+    bits_tile(padded_card, stored_bits, 1, 4, 131, 3);
+    bits_tile(padded_card, stored_bits, 1, 4, 5, 128);
+    bits_tile(padded_card, stored_bits, 1, 4, 5, 371);
+    bits_tile(padded_card, stored_bits, 1, 3, 250, 129);
+    bits_tile(padded_card, stray, 1, 4, 0, 384);
+    bits_tile(padded_card, stored_bits, 2, 4, 6, 259);
+    bits_tile(card, stored_bits, 0, 2, 255, 127);
+    bits_window(padded_card, stored_bits, 1, 4, 0, 0, 2, 3);
+    bits_window(padded_card, stored_bits, 1, 4, 1, 0, 1, 2);
+    bits_window(padded_card, stored_bits, 1, 3, 1, 0, 1, 3);
+    bits_window(padded_card, stored_bits, 1, 4, 1, 1, 1, 3);
+    bits_window(padded_card, stray, 1, 4, 1, 1, 1, 3);
+    bits_window(card, stored_bits, 0, 2, 0, 0, 2, 1);
+    corrected_bits(stored_bits, 4, 6, 5, 128);
+    corrected_bits(stored_bits, 4, 6, 131, 3);
+    corrected_bits(stray, 4, 5, 5, 128);
+    corrected_bits(stray, 4, 6, 0, 384);
+}
+
 /* Blanks for the leading zeros of each number. */
 static void fill(uint8_t *bytes)
 {
@@ -629,6 +761,7 @@ int main(void)
     grid();
     tiles();
     corrected_tiles();
+    bits();
     blanks();
     return 0;
 }

@@ -2,8 +2,8 @@
 
    The library gives the zones and their pixel spacing, reads and writes image
    cards of 98 bytes, turns pixels of an image into positions and back, and
-   looks up stored tiles and corrections beside them. The archive is for x86-64
-   Linux.
+   looks up stored tiles, by an index or by presence bits, and corrections
+   beside them. The archive is for x86-64 Linux.
 
    Each function answers or refuses, whatever numbers and bytes it is handed,
    in buffers as below. Nothing is kept between calls and no memory is
@@ -79,8 +79,8 @@
       3   zone 9 or 18 where a non-polar zone is needed
       4   latitude outside its range
       5   longitude outside its range
-      6   card not 98 bytes; output under 98; index, count, marks, store or
-          list of wrong length
+      6   card not 98 bytes; output under 98; index, words, count, marks,
+          store or list of wrong length
       7   a byte of a subfield of the wrong kind
       8   right kind, wrong value: a constant, minutes or seconds 60 or more,
           angle outside its range, minus zero, NFL or NFC not 1..999, TIF
@@ -91,15 +91,19 @@
           left + width above NFC; tile not 0..NFL x NFC - 1
      13   pixel in padding
      14   tile not stored
-     15   index entry above the count, repeated, or a stored tile never named;
-          correction, in the list or to be set, above its count
+     15   index entry, or number by presence bits, above the count; index entry
+          repeated, or a stored tile never named; correction, in the list or
+          to be set, above its count
      16   south edge not below north edge
      17   factor not 1..64
+     20   index not in reading order, in converting it to presence bits
+     21   presence bit set past the last tile
      24   scale 5000..9999, a town scale, in writing and alignment alone
 
    The place is the subfield's offset in the card for 7 and 8. For 15 it is
-   the entry, of the index or of the corrections, counted from 0, or the index
-   length where a stored tile is never named. Else it is 0.
+   the entry, of the index or of the corrections, counted from 0, by presence
+   bits the tile, or the index length where a stored tile is never named. Else
+   it is 0.
 
    To link: `rt staticlib fordcask` makes target/staticlib/libfordcask.a; then
    cc program.c -Ibindings/c target/staticlib/libfordcask.a */
@@ -526,6 +530,100 @@ struct fordcask_verdict fordcask_set_correction(struct fordcask_series series,
                                                 uint64_t corrected,
                                                 uint64_t tile,
                                                 uint64_t number);
+
+/* The index as presence bits, for an index whose non-zero entries are 1, 2, 3
+   and so on in reading order: one bit a tile, 64 to a word, the first tile
+   lowest. With TIF Y words has exactly NFL x NFC / 64 elements, rounded up, and
+   no bit set past the last tile; with N it has none. The stored number of a
+   tile is the count of ones up to and including its bit. count is stated as
+   beside an index: 0..NFL x NFC, and NFL x NFC with N; it need not be the
+   number of ones. Every answer is the same as from the index. words is not
+   NULL, also where it has no elements. */
+
+/* Writes the presence bits of an index: every word. index_len and words_len are
+   those of the card, both 0 with TIF N. On a refusal, the card's too, the words
+   stay. Refuses 6 (index_len or words_len), then 20. */
+struct fordcask_verdict fordcask_to_bits(struct fordcask_series series,
+                                         const uint8_t *card, size_t card_len,
+                                         const uint32_t *index,
+                                         size_t index_len, uint64_t *words,
+                                         size_t words_len);
+
+/* Writes the index of presence bits: every entry. words_len and index_len are
+   those of the card, both 0 with TIF N. On a refusal, the card's too, the index
+   stays. Refuses 6 (words_len or index_len), then 21. */
+struct fordcask_verdict fordcask_to_list(struct fordcask_series series,
+                                         const uint8_t *card, size_t card_len,
+                                         const uint64_t *words,
+                                         size_t words_len, uint32_t *index,
+                                         size_t index_len);
+
+/* The stored tile of a pixel of the chart, by presence bits. store, row and
+   column as for fordcask_tile. Refuses 6 (words, count or store), 21, 12, 13,
+   14, 15. */
+struct fordcask_tile fordcask_bits_tile(struct fordcask_series series,
+                                        const uint8_t *card, size_t card_len,
+                                        const uint64_t *words,
+                                        size_t words_len, uint64_t count,
+                                        const uint8_t *store,
+                                        size_t store_len, int64_t row,
+                                        int64_t column);
+
+/* The band values of a pixel of the chart, by presence bits. Takes and refuses
+   what fordcask_bits_tile does. */
+struct fordcask_bands fordcask_bits_bands(struct fordcask_series series,
+                                          const uint8_t *card, size_t card_len,
+                                          const uint64_t *words,
+                                          size_t words_len, uint64_t count,
+                                          const uint8_t *store,
+                                          size_t store_len, int64_t row,
+                                          int64_t column);
+
+/* The first tile not stored in a window, in reading order, by presence bits.
+   The window as for fordcask_window. Refuses 6 (words or count), 21, 12, then
+   15 where a tile whose number is above the count comes before any missing
+   tile. */
+struct fordcask_window fordcask_bits_window(struct fordcask_series series,
+                                            const uint8_t *card,
+                                            size_t card_len,
+                                            const uint64_t *words,
+                                            size_t words_len, uint64_t count,
+                                            uint64_t top, uint64_t left,
+                                            uint64_t height, uint64_t width);
+
+/* The tile of a pixel of the chart, corrected first, by presence bits, and which
+   store holds it. The corrections as for fordcask_corrected_tile: their list
+   stays a list. Refuses 6 (words, count or store), 6 (corrections, corrected or
+   the corrections store), 21, 12, 13, 15 for a correction above corrected,
+   then, where the tile is not corrected, 14, 15 of the bits. */
+struct fordcask_corrected_tile fordcask_corrected_bits_tile(
+    struct fordcask_series series, const uint8_t *card, size_t card_len,
+    const uint64_t *words, size_t words_len, uint64_t count,
+    const uint8_t *store, size_t store_len, const uint32_t *corrections,
+    size_t corrections_len, uint64_t corrected,
+    const uint8_t *corrections_store, size_t corrections_store_len,
+    int64_t row, int64_t column);
+
+/* The band values of a pixel of the chart, corrected first, by presence bits.
+   Takes and refuses what fordcask_corrected_bits_tile does. */
+struct fordcask_bands fordcask_corrected_bits_bands(
+    struct fordcask_series series, const uint8_t *card, size_t card_len,
+    const uint64_t *words, size_t words_len, uint64_t count,
+    const uint8_t *store, size_t store_len, const uint32_t *corrections,
+    size_t corrections_len, uint64_t corrected,
+    const uint8_t *corrections_store, size_t corrections_store_len,
+    int64_t row, int64_t column);
+
+/* The first tile in a window, in reading order, that is neither corrected nor
+   stored, by presence bits. Refuses 6 (words or count), 6 (corrections or
+   corrected), 21, 12, then 15 where a number above its count comes before any
+   missing tile: a correction, or that of a tile that is not corrected. A card
+   with TIF N can be refused with 15 too. */
+struct fordcask_window fordcask_corrected_bits_window(
+    struct fordcask_series series, const uint8_t *card, size_t card_len,
+    const uint64_t *words, size_t words_len, uint64_t count,
+    const uint32_t *corrections, size_t corrections_len, uint64_t corrected,
+    uint64_t top, uint64_t left, uint64_t height, uint64_t width);
 
 /* The positions of the centres of many pixels. pixels: row, column, row,
    column, ..., rows NUL..NLL and columns NLS..NUS; positions: lat, lon, lat,

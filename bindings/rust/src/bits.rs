@@ -13,7 +13,8 @@ pub struct Bits<'i> {
     /// With TIF Y, one bit a tile in reading order, 64 to a word, the first tile lowest: exactly
     /// NFL × NFC / 64 words, rounded up, with no bit set past the last tile. With N, empty.
     pub words: &'i [u64],
-    /// The stored count: at most NFL × NFC, and equal to it with N.
+    /// The stored count: at most NFL × NFC, and equal to it with N. It need not be the number of
+    /// ones; a tile whose number is above it is refused with 15.
     pub count: u64,
 }
 

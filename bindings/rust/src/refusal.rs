@@ -1,12 +1,13 @@
 use std::fmt;
 
-/// A refusal: its number, 1 to 16 of document 01 or 17 or 24 of document 02, and its place.
+/// A refusal: its number, 1 to 16 of document 01 or 17, 20, 21 or 24 of document 02, and its place.
 ///
-/// The place is the subfield's offset for 7 and 8, the entry of the index or of the corrections for
-/// 15 (the index length where a stored tile is never named), else 0.
+/// The place is the subfield's offset for 7 and 8; for 15 the entry of the index or of the
+/// corrections (the index length where a stored tile is never named), or by presence bits the tile;
+/// else 0.
 #[derive(Clone, Copy, Debug, PartialEq, Eq, Hash)]
 pub struct Refusal {
-    /// The number, 1 to 17 or 24.
+    /// The number, 1 to 17, 20, 21 or 24.
     pub number: u32,
     /// The place.
     pub at: u64,
@@ -21,7 +22,7 @@ impl Refusal {
             3 => "the zone is polar (9 or 18)",
             4 => "the latitude is outside its range",
             5 => "the longitude is outside its range",
-            6 => "a card, output, index, count, marks, store or list of the wrong length",
+            6 => "a card, output, index, words, count, marks, store or list of the wrong length",
             7 => "a byte of the subfield is of the wrong kind",
             8 => "the subfield has a wrong value",
             9 => "ARV or BRV is not that of the scale, factor and zone",
@@ -30,9 +31,11 @@ impl Refusal {
             12 => "the pixel, window or tile is outside the tiles",
             13 => "the pixel is in the padding",
             14 => "the tile is not stored",
-            15 => "an entry is above its count or repeated, or a stored tile is never named",
+            15 => "an entry or number is above its count, an entry repeated or a stored tile never named",
             16 => "the south edge is not below the north edge",
             17 => "the factor is not from 1 to 64",
+            20 => "the index is not in reading order",
+            21 => "a presence bit is set past the last tile",
             24 => "at a town scale, 5,000 to 9,999, no card is written and no origin aligned",
             _ => "unknown refusal",
         }

@@ -1,5 +1,6 @@
 // Questions on a card and its tile index (01, "Tiles").
 use crate::buffer;
+use crate::by_bits;
 use crate::corrected;
 use crate::corrections;
 use crate::lent;
@@ -54,6 +55,9 @@ fn answered(
 ) -> bool {
     if check::same(name, b"set_correction") {
         return corrections::set(line, at, s, card, entries);
+    }
+    if check::same(name, b"to_bits") {
+        return by_bits::to_bits(at, s, card, entries);
     }
     if check::same(name, b"index_check") {
         return index_check(line, at, s, card, entries);

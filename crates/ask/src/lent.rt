@@ -1,4 +1,4 @@
-// Buffers that are lent, each of 65,536. The contracts give only the length, which lending a part needs.
+// Buffers that are lent, each of 65,536 but the words. The contracts give only the length, which lending a part needs.
 ghost use mathlib.Core.Path.{_≡_};
 ghost use lib.ListN.{length};
 
@@ -23,4 +23,13 @@ pub fn values() -> [i64; 65_536]
     ensures { λ r. ⌜ 65536 ≡ length r ⌝ }
 {
     [7; 65_536]
+}
+
+pub const WORDS: u64 = 16_384;
+
+// Words that are 7, as many as serve the largest index.
+pub fn words() -> [u64; 16_384]
+    ensures { λ r. ⌜ 16384 ≡ length r ⌝ }
+{
+    [7; 16_384]
 }

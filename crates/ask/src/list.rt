@@ -119,3 +119,58 @@ pub fn index(line: &[u8], at: usize, out: &mut [u32]) -> Filled
     }
     bad()
 }
+
+// The words of presence bits, from the place past a bracket on: numbers of 64 bits without sign.
+fn words_from(line: &[u8], from: usize, out: &mut [u64]) -> Filled
+    ensures { λ r. ⌜ Fills (r .length) (now (out .exit)) ⌝ }
+{
+    let mut n = 0;
+    let mut i = from;
+    while n < out.len() {
+        let x = word::number_at(line, i);
+        let end = x.end;
+        if (end <= i) | x.minus {
+            return bad();
+        }
+        if line.len() <= end {
+            return bad();
+        }
+        let b = line[end];
+        if (b != 44) & (b != 93) {
+            return bad();
+        }
+        let w = x.size;
+        out[n] = w;
+        n += 1;
+        if b == 93 {
+            return Filled {
+                length: n,
+                next: word::after(line, end + 1),
+            };
+        }
+        i = end + 1;
+    }
+    bad()
+}
+
+// A word that is a list of words of presence bits.
+pub fn words(line: &[u8], at: usize, out: &mut [u64]) -> Filled
+    ensures { λ r. ⌜ Fills (r .length) (now (out .exit)) ⌝ }
+{
+    if line.len() <= at {
+        return bad();
+    }
+    if line[at] != 91 {
+        return bad();
+    }
+    let from = at + 1;
+    if from < line.len() {
+        if line[from] == 93 {
+            return Filled {
+                length: 0,
+                next: word::after(line, from + 1),
+            };
+        }
+    }
+    words_from(line, from, out)
+}

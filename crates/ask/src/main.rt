@@ -1,14 +1,18 @@
 // Puts the questions of standard input to the library, a line each, and prints the answers (docs/ASKING.md).
-// Taken: 1 MiB of input; bytes and lists, lent or read, of up to 65,536, so that the largest index has 65,536 entries; a store of up to 1 MiB.
+// Taken: 1 MiB of input; bytes and lists, lent or read, of up to 65,536, so that the largest index has 65,536 entries; 16,384 words of presence bits;
+// a store of up to 1 MiB.
 // Lent bytes are `*`, lent numbers 7. In the store's k-th tile each red byte is k, each green byte its row, each blue byte 128 + its column.
 use libc::STDIN_FILENO;
 ghost use mathlib.Core.Path.{_≡_};
 ghost use Prim.Native.Nat.{_≤_};
 ghost use lib.ListN.{length};
 
+mod bits;
 mod buffer;
+mod by_bits;
 mod cards;
 mod corrected;
+mod corrected_bits;
 mod corrections;
 mod indexes;
 mod lent;
@@ -78,7 +82,10 @@ fn asked(line: &[u8], store: &[u8]) -> bool {
     if listed::asked(name, line, at) {
         return true;
     }
-    indexes::asked(name, line, at, store)
+    if indexes::asked(name, line, at, store) {
+        return true;
+    }
+    by_bits::asked(name, line, at, store)
 }
 
 fn answer(line: &[u8], store: &[u8]) {

@@ -108,12 +108,18 @@ fn comma(i: usize) {
 pub fn zones(number: u32, at: u64, count: u64, s: &[u64]) {
     refusal(number, at);
     natural(count);
+    words(s);
+    end_line();
+}
+
+// A list of numbers without sign.
+pub fn words(s: &[u64]) {
     text(b" [");
     for i in 0..s.len() {
         comma(i);
         size(s[i]);
     }
-    text(b"]\n");
+    text(b"]");
 }
 
 // A lent list of values.

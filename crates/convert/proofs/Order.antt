@@ -13,26 +13,26 @@ use Rattle.convert.specs.Convert.{inOrder, bitOf}
 use Rattle.convert.proofs.Words.{bit-none, bit-some}
 
 -- how many of the first n entries are not 0
-abbrev pub filled : ℕ → List ℕ → ℕ
-filled zero list = 0
-filled (suc n) [] = 0
-filled (suc n) (e ∷ es) = bitOf e + filled n es
+abbrev pub nonZero : ℕ → List ℕ → ℕ
+nonZero zero list = 0
+nonZero (suc n) [] = 0
+nonZero (suc n) (e ∷ es) = bitOf e + nonZero n es
 
-pub filled-step : (n : ℕ) (list : List ℕ) → filled (suc n) list ≡ bitOf (getD list n 0) + filled n list
-filled-step zero [] = refl
-filled-step zero (e ∷ es) = refl
-filled-step (suc n) [] = refl
-filled-step (suc n) (e ∷ es) = omega (arith, filled-step n es)
+pub nonZero-step : (n : ℕ) (list : List ℕ) → nonZero (suc n) list ≡ bitOf (getD list n 0) + nonZero n list
+nonZero-step zero [] = refl
+nonZero-step zero (e ∷ es) = refl
+nonZero-step (suc n) [] = refl
+nonZero-step (suc n) (e ∷ es) = omega (arith, nonZero-step n es)
 
-pub same-count : (words list : List ℕ) (n : ℕ) → ((t : ℕ) → t < n → present words t ≡ bitOf (getD list t 0)) → counted words n ≡ filled n list
+pub same-count : (words list : List ℕ) (n : ℕ) → ((t : ℕ) → t < n → present words t ≡ bitOf (getD list t 0)) → counted words n ≡ nonZero n list
 unfolding counted
 same-count words list zero a = refl
 same-count words list (suc n) a =
-    ap₂ (λ (x y : ℕ). x + y) (a n (omega arith)) (same-count words list n (λ t h. a t (omega arith))) ∙ sym (filled-step n list)
+    ap₂ (λ (x y : ℕ). x + y) (a n (omega arith)) (same-count words list n (λ t h. a t (omega arith))) ∙ sym (nonZero-step n list)
 
 -- after n stored ones
 abbrev pub Ordered : ℕ → List ℕ → Type 0
-Ordered n list = (t : ℕ) → t < length list → (getD list t 0 ≡ 0 → ⊥) → getD list t 0 ≡ n + filled (suc t) list
+Ordered n list = (t : ℕ) → t < length list → (getD list t 0 ≡ 0 → ⊥) → getD list t 0 ≡ n + nonZero (suc t) list
 
 -- ---- one entry
 module _ (n e : ℕ) (es : List ℕ) where
@@ -69,14 +69,14 @@ order-ordered n [] h t l d = absurd (omega arith)
 order-ordered n (e ∷ es) h t l d = go (ℕ-discrete e 0) (order-ordered n es) (order-ordered (n + 1) es) t l d
   where
     go : Dec (e ≡ 0) → (inOrder n es ≡ true → Ordered n es) → (inOrder (n + 1) es ≡ true → Ordered (n + 1) es)
-        → (x : ℕ) → x < length (e ∷ es) → (getD (e ∷ es) x 0 ≡ 0 → ⊥) → getD (e ∷ es) x 0 ≡ n + filled (suc x) (e ∷ es)
+        → (x : ℕ) → x < length (e ∷ es) → (getD (e ∷ es) x 0 ≡ 0 → ⊥) → getD (e ∷ es) x 0 ≡ n + nonZero (suc x) (e ∷ es)
     go (yes z) f g zero l d = absurd (d z)
     go (yes z) f g (suc x) l d = let w = f (sym (order-none n e es z) ∙ h) x (omega arith) d in omega (arith, w, bit-none e z)
     go (no q) f g x l d = at x l d
         (and-eq-true-iff (eqb e (n + 1)) (inOrder (n + 1) es) .0 (sym (order-some n e es q) ∙ h))
       where
         at : (y : ℕ) → y < length (e ∷ es) → (getD (e ∷ es) y 0 ≡ 0 → ⊥) → (eqb e (n + 1) ≡ true) × (inOrder (n + 1) es ≡ true)
-            → getD (e ∷ es) y 0 ≡ n + filled (suc y) (e ∷ es)
+            → getD (e ∷ es) y 0 ≡ n + nonZero (suc y) (e ∷ es)
         at zero l d p = omega (arith, eqb-true e (n + 1) (p .0), bit-some e q)
         at (suc y) l d p = let w = g (p .1) y (omega arith) d in omega (arith, w, bit-some e q)
 

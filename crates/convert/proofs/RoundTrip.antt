@@ -24,9 +24,9 @@ use Rattle.tiles.proofs.Entry.{neither, tiles-small}
 use Rattle.tiles.proofs.Listed.{listed-length, is-listed}
 use Rattle.tiles.proofs.AsList.{bits-have-list}
 use Rattle.convert.specs.Convert.{lengthsWrong, inOrder, bitOf, wordFrom, bitsOf, toBitsOf, bitsLeft, toListOf, listLeft}
-use Rattle.convert.specs.Convert.{ToBitsForms, ToListForms, BitsAndBack, ListAndBack}
+use Rattle.convert.specs.Convert.{ToBitsForms, ToListForms, FormsInOrder, BitsAndBack, ListAndBack}
 use Rattle.convert.proofs.Words.{bit-none, bit-some, present-of, word-is}
-use Rattle.convert.proofs.Order.{filled, same-count, Ordered, order-ordered, ordered-order}
+use Rattle.convert.proofs.Order.{nonZero, same-count, Ordered, order-ordered, ordered-order}
 
 -- ---- lengths
 pub lengths-right : (k : Card) (m n : ℕ) → lengthsWrong k m n ≡ false → (m ≡ indexLength k) × (n ≡ wordsLength k)
@@ -55,38 +55,38 @@ enough k = go (k .tif)
     go false = (omega arith, omega arith)
 
 -- ---- what was accepted
-pub record Listed (k : Card) (index words : List ℕ) : Type 0 where
+pub record ListTaken (k : Card) (index words : List ℕ) : Type 0 where
   pub index-long : length index ≡ indexLength k
   pub words-long : length words ≡ wordsLength k
   pub order : inOrder 0 index ≡ true
   pub left : bitsLeft k index words ≡ bitsOf index (length words)
 
-to-bits : (k : Card) (index words : List ℕ) → toBitsOf k index words ≡ Verdict.Accepted → Listed k index words
+to-bits : (k : Card) (index words : List ℕ) → toBitsOf k index words ≡ Verdict.Accepted → ListTaken k index words
 unfolding toBitsOf bitsLeft
 to-bits k index words = go (lengthsWrong k (length index) (length words)) (inOrder 0 index) refl refl
   where
     go : (a b : Bool) → lengthsWrong k (length index) (length words) ≡ a → inOrder 0 index ≡ b
         → cond a (Verdict.Refused (refusal 6)) (cond b Verdict.Accepted (Verdict.Refused (refusal 20))) ≡ Verdict.Accepted
-        → Listed k index words
+        → ListTaken k index words
     go true b p q h = let z : _≡_ {A = ℕ} 0 1 = cc in absurd (omega arith)
     go false false p q h = let z : _≡_ {A = ℕ} 0 1 = cc in absurd (omega arith)
     go false true p q h =
         let w = lengths-right k (length index) (length words) p in
         record { index-long = w .0; words-long = w .1; order = q; left = rw (p, q) }
 
-pub record Worded (k : Card) (words index : List ℕ) : Type 0 where
+pub record WordsTaken (k : Card) (words index : List ℕ) : Type 0 where
   pub index-long : length index ≡ indexLength k
   pub words-long : length words ≡ wordsLength k
   pub none-stray : strayBit k words ≡ false
   pub left : listLeft k words index ≡ listOf k words
 
-to-list : (k : Card) (words index : List ℕ) → toListOf k words index ≡ Verdict.Accepted → Worded k words index
+to-list : (k : Card) (words index : List ℕ) → toListOf k words index ≡ Verdict.Accepted → WordsTaken k words index
 unfolding toListOf listLeft
 to-list k words index = go (lengthsWrong k (length index) (length words)) (strayBit k words) refl refl
   where
     go : (a b : Bool) → lengthsWrong k (length index) (length words) ≡ a → strayBit k words ≡ b
         → cond a (Verdict.Refused (refusal 6)) (cond b (Verdict.Refused (refusal 21)) Verdict.Accepted) ≡ Verdict.Accepted
-        → Worded k words index
+        → WordsTaken k words index
     go true b p q h = let z : _≡_ {A = ℕ} 0 1 = cc in absurd (omega arith)
     go false true p q h = let z : _≡_ {A = ℕ} 0 1 = cc in absurd (omega arith)
     go false false p q h =
@@ -178,6 +178,9 @@ module _ (k : Card) (index words : List ℕ) (f : Forms k index words) where
       let x : (i * 64 + j) / 64 ≡ i = omega arith in
       let y : (i * 64 + j) % 64 ≡ j = omega arith in
       sym (forms-agree (i * 64 + j)) ∙ ap₂ (λ (a b : ℕ). getD words a 0 / 2 ^ b % 2) x y))))
+
+pub forms-in-order : FormsInOrder
+forms-in-order = forms-order
 
 pub list-and-back : ListAndBack
 unfolding toBitsOf bitsLeft

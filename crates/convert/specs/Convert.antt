@@ -20,7 +20,7 @@ use Rattle.tiles.specs.AsList.{listOf, Forms}
 
 -- 6, of the lengths of the list and of the words
 unfoldable pub lengthsWrong : Card → ℕ → ℕ → Bool
-lengthsWrong k index words = not (eqb index (indexLength k)) || not (eqb words (wordsLength k))
+lengthsWrong k indexLong wordsLong = not (eqb indexLong (indexLength k)) || not (eqb wordsLong (wordsLength k))
 
 -- ---- list to bits
 
@@ -68,8 +68,13 @@ listLeft k words index = onVerdict (toListOf k words index) (λ e. index) (listO
 abbrev pub ToBitsForms : Type 0
 ToBitsForms = (k : Card) (index words : List ℕ) → toBitsOf k index words ≡ Verdict.Accepted → Forms k index (bitsLeft k index words)
 
+-- and the list written is the words' other form
 abbrev pub ToListForms : Type 0
 ToListForms = (k : Card) (words index : List ℕ) → toListOf k words index ≡ Verdict.Accepted → Forms k (listLeft k words index) words
+
+-- a list that has presence bits is in reading order, so 20 is for those alone that have none
+abbrev pub FormsInOrder : Type 0
+FormsInOrder = (k : Card) (index words : List ℕ) → Forms k index words → inOrder 0 index ≡ true
 
 -- to bits and back gives the list, into whatever list of that length
 abbrev pub BitsAndBack : Type 0

@@ -7,9 +7,9 @@ ghost use Prim.Native.Nat.{_*_, _≤_};
 ghost use lib.Dec.{eqb};
 ghost use lib.ListN.{length, getD};
 ghost use Rattle.whole.specs.Lists.{each};
+ghost use Rattle.presence.specs.Presence.{numbersTo};
 ghost use Rattle.card.specs.Read.{Known};
 ghost use Rattle.convert.specs.Convert.{lengthsWrong, inOrder, bitOf, wordFrom, bitsOf, toBitsOf, bitsLeft, toListOf, listLeft};
-ghost use Rattle.convert.specs.Steps.{numbersOf};
 
 // Whether the list or the words are of the wrong length (02, E7).
 fn lengths_wrong(k: Card, index: usize, words: usize) -> bool
@@ -94,7 +94,7 @@ fn entry(bit: u64, number: u32) -> u32
 // Writes the list (02, E7).
 fn set_list(words: &[u64], index: &mut [u32])
     requires { ⌜ length (now index) ≤ 998001 ⌝ }
-    ensures { λ _. ⌜ now (index .exit) ≡ numbersOf (now (words .entry)) (length (now (index .entry))) ⌝ }
+    ensures { λ _. ⌜ now (index .exit) ≡ numbersTo (now (words .entry)) (length (now (index .entry))) ⌝ }
 {
     let mut n: u32 = 0;
     let mut t: usize = 0;
@@ -107,7 +107,7 @@ fn set_list(words: &[u64], index: &mut [u32])
     }
 }
 
-// The presence bits of a list in reading order (02, E7). Refuses 6, 20, the words then staying.
+// Writes the presence bits of a list in reading order (02, E7). Refuses 6, 20; in a refusal the words stay.
 pub fn to_bits(k: Card, index: &[u32], words: &mut [u64]) -> Verdict
     requires { ⌜ Known k ⌝ }
     ensures answer { λ r. ⌜ r ≡ toBitsOf k (now (index .entry)) (now (words .entry)) ⌝ }
@@ -123,7 +123,7 @@ pub fn to_bits(k: Card, index: &[u32], words: &mut [u64]) -> Verdict
     Verdict::Refused(arc::refused(20))
 }
 
-// The list of presence bits (02, E7). Refuses 6, 21, the list then staying.
+// Writes the list of presence bits (02, E7). Refuses 6, 21; in a refusal the list stays.
 pub fn to_list(k: Card, words: &[u64], index: &mut [u32]) -> Verdict
     requires { ⌜ Known k ⌝ }
     ensures answer { λ r. ⌜ r ≡ toListOf k (now (words .entry)) (now (index .entry)) ⌝ }
@@ -132,7 +132,7 @@ pub fn to_list(k: Card, words: &[u64], index: &mut [u32]) -> Verdict
     if lengths_wrong(k, index.len(), words.len()) {
         return Verdict::Refused(arc::refused(6));
     }
-    if presence::set_on(words, k.nfl * k.nfc) {
+    if presence::any_set(words, k.nfl * k.nfc) {
         return Verdict::Refused(arc::refused(21));
     }
     set_list(words, index);

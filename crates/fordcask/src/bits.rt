@@ -23,7 +23,7 @@ ghost use Rattle.tiles.specs.Bits.{bitsNumberOf, bitsBandsOf, bitsWindowOf};
 ghost use Rattle.convert.specs.Convert.{toBitsOf, bitsLeft, toListOf, listLeft};
 ghost use Rattle.fordcask.specs.Entry.{verdictParts, bandsBlock, windowBlock, tileParts};
 
-// Writes the presence bits of an index in reading order. Refuses reading's numbers, then 6, 20; then the words stay.
+// Writes the presence bits of an index in reading order. Refuses reading's numbers, then 6, 20; in a refusal the words stay.
 #[no_mangle]
 pub extern "C" fn fordcask_to_bits(
     series: Series,
@@ -48,7 +48,7 @@ pub extern "C" fn fordcask_to_bits(
     }
 }
 
-// Writes the index of presence bits. Refuses reading's numbers, then 6, 21; then the index stays.
+// Writes the index of presence bits. Refuses reading's numbers, then 6, 21; in a refusal the index stays.
 #[no_mangle]
 pub extern "C" fn fordcask_to_list(
     series: Series,

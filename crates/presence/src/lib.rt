@@ -1,12 +1,12 @@
-// Presence bits: one bit a tile, 64 to a word, first tile lowest (02, E7). Every function answers for every list of words.
+// Presence bits: one bit a tile, 64 to a word, first tile lowest (02, E7). Every public function answers for every list of words.
 ghost use mathlib.Core.Path.{_≡_};
 ghost use Prim.Native.Nat.{_+_, _-_, _*_, _/_, _%_, _^_, _≤_, _<_};
 ghost use lib.ListN.{length};
-ghost use Rattle.presence.specs.Presence.{present, counted, numberAt, setFrom, within};
-ghost use Rattle.presence.specs.Steps.{Passes};
+ghost use Rattle.presence.specs.Presence.{present, counted, numberAt, anySetFrom, within};
+ghost use Rattle.presence.specs.Steps.{PassedWords};
 
 // Whole words that were passed, and the ones in them.
-struct Passed {
+struct WordsPassed {
     words: usize,
     ones: u64,
 }
@@ -48,8 +48,8 @@ pub fn number(words: &[u64], tile: u32) -> u64
 }
 
 // Whether a bit is set in a tile's word, from the tile's bit on (02, E7).
-pub fn set_on(words: &[u64], tile: u64) -> bool
-    ensures { λ r. ⌜ r ≡ setFrom (now (words .entry)) tile (64 - tile % 64) ⌝ }
+pub fn any_set(words: &[u64], tile: u64) -> bool
+    ensures { λ r. ⌜ r ≡ anySetFrom (now (words .entry)) tile (64 - tile % 64) ⌝ }
 {
     let word = tile / 64;
     if words.len() as u64 <= word {
@@ -58,10 +58,10 @@ pub fn set_on(words: &[u64], tile: u64) -> bool
     words[word as usize] >> (tile % 64) != 0
 }
 
-// Whole words, up to `most` tiles, as long as the count of ones is not above `count` (02, E7).
-fn pass_words(words: &[u64], count: u64, most: u64) -> Passed
+// How many whole words, up to `most` tiles, the count of ones is not above `count` over (02, E7).
+fn pass_words(words: &[u64], count: u64, most: u64) -> WordsPassed
     requires { ⌜ most < 2 ^ 32 ⌝ }
-    ensures { λ r. ⌜ Passes (now (words .entry)) count most r ⌝ }
+    ensures { λ r. ⌜ PassedWords (now (words .entry)) count most r ⌝ }
 {
     let mut ones: u64 = 0;
     let mut i: usize = 0;
@@ -76,10 +76,10 @@ fn pass_words(words: &[u64], count: u64, most: u64) -> Passed
         ones = more;
         i += 1;
     }
-    Passed { words: i, ones }
+    WordsPassed { words: i, ones }
 }
 
-// How far, up to `most` tiles, the count of ones is not above `count`, from a tile on that it is not above at (02, E7).
+// The same, from a tile on, the ones before it being counted and not above `count` (02, E7).
 fn pass_bits(words: &[u64], count: u64, most: u64, from: u64, before: u64) -> u64
     requires { ⌜ most < 2 ^ 32 ⌝ ∗ ⌜ from ≤ most ⌝ ∗ ⌜ before ≡ counted (now words) from ⌝ ∗ ⌜ before ≤ count ⌝ }
     ensures { λ r. ⌜ r ≡ within (now (words .entry)) count most ⌝ }
@@ -97,7 +97,7 @@ fn pass_bits(words: &[u64], count: u64, most: u64, from: u64, before: u64) -> u6
 }
 
 // How far, up to so many tiles, the count of ones is not above `count` (02, E7).
-pub fn limit(words: &[u64], count: u64, tiles: u32) -> u64
+pub fn within(words: &[u64], count: u64, tiles: u32) -> u64
     ensures { λ r. ⌜ r ≡ within (now (words .entry)) count tiles ⌝ }
 {
     let most = tiles as u64;

@@ -48,9 +48,9 @@ module _ (says : ℕ → Said) where
       rw (row-step (s + c) (width - c) (width - (c + 1)) (omega arith), f, e)
 
   -- ---- row by row: c tiles into a row from s, and r rows into a window
-  pub run-next : (s c width : ℕ) → c < width → (v : Said) → says (s + c) ≡ v
+  pub tile-next : (s c width : ℕ) → c < width → (v : Said) → says (s + c) ≡ v
       → scan says (upFrom (s + c) (width - c)) ≡ scanned (s + c) v (scan says (upFrom (s + (c + 1)) (width - (c + 1))))
-  run-next s c width h v e =
+  tile-next s c width h v e =
       let f : s + c + 1 ≡ s + (c + 1) = omega arith in
       rw (row-step (s + c) (width - c) (width - (c + 1)) (omega arith), f, e)
 

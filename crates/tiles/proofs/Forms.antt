@@ -1,4 +1,4 @@
--- Presence bits: their lengths, and what they say by their count and by a limit. Assumes nothing.
+-- Presence bits: their lengths, and what they say by their count and by where it passes the stated one. Assumes nothing.
 use mathlib.Core.Path.{_≡_, refl, sym, ap, fun-ext, _∙_}
 use mathlib.Core.Bool.{Bool, true, false, cond, not}
 use mathlib.Core.List.{List, [], _∷_}
@@ -9,7 +9,7 @@ use native.Mathlib.Decide.{ℕ-discrete, decLe}
 use borrow.Author.Tests.{eq-eqb, ne-eqb, le-leb, lt-leb, eqb-true, not-false}
 use lib.Dec.{leb, eqb}
 use lib.ListN.{length, getD}
-use Rattle.presence.specs.Presence.{present, numberAt, setFrom, within}
+use Rattle.presence.specs.Presence.{present, numberAt, anySetFrom, within}
 use Rattle.presence.proofs.Counted.{present-in, number-none, number-some, some-number, near, far}
 use Rattle.presence.proofs.Set.{set-past}
 use Rattle.card.specs.declared.Card.{Card}
@@ -20,7 +20,7 @@ use Rattle.tiles.specs.Index.{tiles, countWrong, indexWrong, said, saidO
 use Rattle.tiles.specs.Window.{scanned, scan}
 use Rattle.tiles.specs.Corrections.{saidWith}
 use Rattle.tiles.specs.Bits.{wordsLength, wordsWrong, strayBit, saidBits}
-use Rattle.tiles.specs.Steps.{upTo}
+use Rattle.tiles.specs.Steps.{saidBefore}
 use Rattle.tiles.proofs.Entry.{neither, tiles-small, count-few, said-above, said-stored}
 
 -- with N the bits say what an empty list does
@@ -51,7 +51,7 @@ module _ (k : Card) (words : List ℕ) where
         go false f = omega arith
 
     -- the bits past the last tile are those of its word
-    pub stray-is : strayBit k words ≡ setFrom words (tiles k) (64 - tiles k % 64)
+    pub stray-is : strayBit k words ≡ anySetFrom words (tiles k) (64 - tiles k % 64)
     unfolding strayBit
     stray-is = go (ℕ-discrete (length words * 64 - tiles k) (64 - tiles k % 64))
       where
@@ -61,8 +61,8 @@ module _ (k : Card) (words : List ℕ) where
         past d false f = omega arith
 
         go : Dec (length words * 64 - tiles k ≡ 64 - tiles k % 64)
-            → setFrom words (tiles k) (length words * 64 - tiles k) ≡ setFrom words (tiles k) (64 - tiles k % 64)
-        go (yes f) = ap (setFrom words (tiles k)) f
+            → anySetFrom words (tiles k) (length words * 64 - tiles k) ≡ anySetFrom words (tiles k) (64 - tiles k % 64)
+        go (yes f) = ap (anySetFrom words (tiles k)) f
         go (no d) =
             let h = past d (k .tif) e in
             set-past words (tiles k) (length words * 64 - tiles k) h ∙ sym (set-past words (tiles k) (64 - tiles k % 64) h)
@@ -98,25 +98,25 @@ module _ (f g : ℕ → Said) (h : (t : ℕ) → kind (f t) ≡ kind (g t)) wher
       ∙ ap (λ (says : ℕ → Said). scan says ts) (fun-ext (with-kind corrections corrected))
       ∙ sym (scan-kind (saidWith corrections corrected g) ts)
 
--- the bits say the same by their count and by the limit, the number aside
+-- the bits say the same by their count and by where it passes the stated one, the number aside
 module _ (words : List ℕ) (count : ℕ) where
-  abbrev limit : ℕ
-  limit = within words count (length words * 64)
+  abbrev end : ℕ
+  end = within words count (length words * 64)
 
-  limit-says : (t : ℕ) → kind (upTo limit words t) ≡ kind (said count (numberAt words t))
-  limit-says t = go (ℕ-discrete (present words t) 0) (decLe limit t)
+  end-says : (t : ℕ) → kind (saidBefore end words t) ≡ kind (said count (numberAt words t))
+  end-says t = go (ℕ-discrete (present words t) 0) (decLe end t)
     where
-      go : Dec (present words t ≡ 0) → Dec (limit ≤ t) → kind (upTo limit words t) ≡ kind (said count (numberAt words t))
+      go : Dec (present words t ≡ 0) → Dec (end ≤ t) → kind (saidBefore end words t) ≡ kind (said count (numberAt words t))
       go (yes e) b = rw (eq-eqb (present words t) 0 e, number-none words t e)
       go (no d) (yes h) =
-          rw (ne-eqb (present words t) 0 d, le-leb limit t h)
+          rw (ne-eqb (present words t) 0 d, le-leb end t h)
           (sym (ap kind (said-above count (numberAt words t) (some-number words t d)
           (omega (arith, number-some words t d, far words count (length words * 64) t (omega (arith, present-in words t d)) h)))))
       go (no d) (no h) =
-          rw (ne-eqb (present words t) 0 d, lt-leb limit t (lt-of-not-le h))
+          rw (ne-eqb (present words t) 0 d, lt-leb end t (lt-of-not-le h))
           (sym (ap kind (said-stored count (numberAt words t) (some-number words t d)
           (omega (arith, number-some words t d, near words count (length words * 64) t (lt-of-not-le h))))))
 
-  pub by-limit : (k : Card) → k .tif ≡ true → (t : ℕ) → kind (upTo limit words t) ≡ kind (saidBits k words count t)
+  pub by-end : (k : Card) → k .tif ≡ true → (t : ℕ) → kind (saidBefore end words t) ≡ kind (saidBits k words count t)
   unfolding saidBits
-  by-limit k y t = rw y (limit-says t)
+  by-end k y t = rw y (end-says t)

@@ -3,12 +3,11 @@
 --     Forms k index words    the list and the bits are two forms of one index
 use mathlib.Core.Path.{_≡_}
 use Prim.Native.Nat.{ℕ}
-use mathlib.Core.List.{List, [], _∷_}
+use mathlib.Core.List.{List}
 use mathlib.Core.Bool.{false}
 use lib.ListN.{length, getD}
 use lib.IntN.{ℤ}
-use Rattle.whole.specs.Lists.{each}
-use Rattle.presence.specs.Presence.{numberAt}
+use Rattle.presence.specs.Presence.{numberAt, numbersTo}
 use Rattle.card.specs.declared.Card.{Card}
 use Rattle.tiles.specs.Index.{indexLength}
 use Rattle.tiles.specs.LookUp.{numberOf, partOf, bandsOf}
@@ -19,9 +18,9 @@ use Rattle.tiles.specs.Bits.{bitsSourceOf, bitsEitherPartOf, bitsEitherB
 
 -- an entry for each tile: its stored number, 0 where it is not stored; with N the list is empty
 abbrev pub listOf : Card → List ℕ → List ℕ
-listOf k words = each (indexLength k) (λ t. numberAt words t ∷ [])
+listOf k words = numbersTo words (indexLength k)
 
--- both are of the right length, no bit is set past the last tile, and each tile's number by the bits is its entry
+-- both are of the right length, no bit is set past the last tile, and each tile's number by the bits is its entry, both 0 past the last tile
 pub record Forms (k : Card) (index words : List ℕ) : Type 0 where
   pub index-long : length index ≡ indexLength k
   pub words-long : length words ≡ wordsLength k

@@ -1,5 +1,6 @@
 -- The index as presence bits (02, E7): `words` in place of the index list. Definitions only.
 --     wordsWrong k words count    the words or the count are of the wrong length
+--     bitsWrong ..           the words, the count or the store is of the wrong length
 --     strayBit k words       a bit is set past the last tile
 --     saidBits k words count t    what the bits say of tile t
 --     bitsNumberOf ..        what `bits_number` answers
@@ -14,7 +15,7 @@ use lib.Dec.{eqb}
 use lib.ListN.{length}
 use lib.IntN.{ℤ}
 use Rattle.arc.specs.Refusals.{refusal}
-use Rattle.presence.specs.Presence.{numberAt, setFrom}
+use Rattle.presence.specs.Presence.{numberAt, anySetFrom}
 use Rattle.card.specs.declared.Card.{Card}
 use Rattle.tiles.specs.declared.Said.{Said}
 use Rattle.tiles.specs.declared.NumberAnswer.{NumberAnswer}
@@ -34,12 +35,13 @@ wordsLength k = cond (k .tif) ((tiles k + 63) / 64) 0
 unfoldable pub wordsWrong : Card → List ℕ → ℕ → Bool
 wordsWrong k words count = not (eqb (length words) (wordsLength k)) || countWrong k count
 
+-- 6, of the words, the count or the store
 abbrev pub bitsWrong : Card → List ℕ → ℕ → List ℕ → Bool
 bitsWrong k words count store = wordsWrong k words count || not (eqb (length store) (count * tileBytes))
 
 -- 21: from the bit past the last tile's to the end of the words
 unfoldable pub strayBit : Card → List ℕ → Bool
-strayBit k words = setFrom words (tiles k) (length words * 64 - tiles k)
+strayBit k words = anySetFrom words (tiles k) (length words * 64 - tiles k)
 
 -- the stored number is the count of ones up to and including the tile; with N all are stored in reading order
 unfoldable pub saidBits : Card → List ℕ → ℕ → ℕ → Said

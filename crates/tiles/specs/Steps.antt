@@ -1,7 +1,7 @@
 -- What only the code needs: what it is held to on the way. Definitions only.
---     Rows ..                what a window is bounded by
---     Window ..              the same, past the length checks of a list
---     upTo limit words t     what tile t's bit says, the stored tiles being those before the limit
+--     Window ..              what a window is bounded by, past the length checks of a list
+--     WindowRows ..          what a window is bounded by
+--     saidBefore end words t    what tile t's bit says, the stored tiles being those before `end`
 --     Beside beside corrections    where there are no corrections, their list is empty
 --     HeldIn answer store, Held answer store second    a number that is answered lies in its store
 use mathlib.Core.Path.{_≡_}
@@ -19,21 +19,22 @@ use Rattle.tiles.specs.declared.SourceAnswer.{SourceAnswer}
 use Rattle.tiles.specs.Index.{indexWrong}
 use Rattle.tiles.specs.LookUp.{tileBytes}
 
--- a window of an image, the lengths being right
+-- a window of an image, the lengths of the list being right
 pub record Window (k : Card) (index : List ℕ) (count top left height width : ℕ) : Type 0 where
   pub known : Known k
   pub right : indexWrong k index count ≡ false
   pub down : top + height ≤ k .nfl
   pub across : left + width ≤ k .nfc
 
-pub record Rows (k : Card) (top left height width : ℕ) : Type 0 where
+-- a window of an image
+pub record WindowRows (k : Card) (top left height width : ℕ) : Type 0 where
   pub known : Known k
   pub down : top + height ≤ k .nfl
   pub across : left + width ≤ k .nfc
 
 -- the number is not told
-abbrev pub upTo : ℕ → List ℕ → ℕ → Said
-upTo limit words t = cond (eqb (present words t) 0) Said.Missing (cond (leb limit t) Said.Above (Said.Stored 0))
+abbrev pub saidBefore : ℕ → List ℕ → ℕ → Said
+saidBefore end words t = cond (eqb (present words t) 0) Said.Missing (cond (leb end t) Said.Above (Said.Stored 0))
 
 abbrev pub Beside : Bool → List ℕ → Type 0
 Beside true corrections = Unit

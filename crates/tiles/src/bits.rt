@@ -5,6 +5,7 @@ use crate::Said;
 use crate::Source;
 use crate::SourceAnswer;
 use crate::WindowAnswer;
+use crate::bit_rows::bits_view;
 use crate::either::correction_at;
 use crate::either::number_in;
 use crate::either::source_at;
@@ -14,7 +15,6 @@ use crate::look_up::either_part;
 use crate::look_up::number_said;
 use crate::look_up::pixel_tile;
 use crate::number_says;
-use crate::runs::bits_view;
 use arc::Tile;
 use arc::Verdict;
 use card::Card;
@@ -55,7 +55,7 @@ pub fn stray_bit(k: Card, words: &[u64]) -> bool
     requires { ⌜ Known k ⌝ ∗ ⌜ length (now words) ≡ wordsLength k ⌝ }
     ensures { λ r. ⌜ r ≡ strayBit k (now (words .entry)) ⌝ }
 {
-    presence::set_on(words, k.nfl * k.nfc)
+    presence::any_set(words, k.nfl * k.nfc)
 }
 
 // What is said of a tile, corrected first (02, E1, E7).

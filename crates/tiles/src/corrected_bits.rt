@@ -2,6 +2,7 @@
 use crate::BandsAnswer;
 use crate::SourceAnswer;
 use crate::WindowAnswer;
+use crate::bit_rows::bits_view;
 use crate::bits::bits_found;
 use crate::bits::bits_wrong;
 use crate::bits::stray_bit;
@@ -10,7 +11,6 @@ use crate::corrections::corrections_wrong;
 use crate::corrections::list_wrong;
 use crate::look_up::either_bands;
 use crate::look_up::either_part;
-use crate::runs::bits_view;
 use card::Card;
 ghost use mathlib.Core.Path.{_≡_};
 ghost use Rattle.card.specs.Read.{Known};

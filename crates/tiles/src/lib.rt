@@ -1,4 +1,4 @@
-// The tile index, as a list or as presence bits: check, look-up, window (002, 3.8.5; 01, "Tiles"; 02, E7); corrections beside it (02, E1).
+// The tile index (002, 3.8.5; 01, "Tiles"): its check; look-up and window by the list or by presence bits (02, E7); corrections beside it (02, E1).
 use arc::Refusal;
 use card::Card;
 ghost use mathlib.Core.Path.{_≡_};
@@ -9,6 +9,7 @@ ghost use Rattle.arc.specs.Refusals.{refusalAt};
 ghost use Rattle.card.specs.Read.{Known};
 ghost use Rattle.tiles.specs.Index.{tiles, indexWrong, said, saidOf};
 
+mod bit_rows;
 mod bits;
 mod check;
 mod corrected_bits;
@@ -16,7 +17,6 @@ mod corrections;
 mod either;
 mod look_up;
 mod parts;
-mod runs;
 mod scan;
 
 pub use bits::bits_bands;

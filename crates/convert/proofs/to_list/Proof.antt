@@ -9,7 +9,7 @@ use Rattle.card.proofs.Laid.{known-laid}
 use Rattle.tiles.specs.Bits.{strayBit}
 use Rattle.tiles.proofs.Forms.{stray-is}
 use Rattle.convert.specs.Convert.{lengthsWrong, toListOf, listLeft}
-use Rattle.convert.specs.Steps.{numbersOf}
+use Rattle.presence.specs.Presence.{numbersTo}
 use Rattle.convert.proofs.RoundTrip.{lengths-right, index-few}
 use borrow.Author.Needs.{needs}
 use Rattle.convert.proofs.to_list.Statement.{statement}
@@ -20,16 +20,16 @@ right : (c : tie.Else1) → let a = c .before .before .before .before .args in l
 right c = sym (c .before .lengths-wrong .ensures) ∙ c .if1 .left
 
 -- the bits past the last tile
-stray : (c : tie.After-set-on) → let a = c .before .before .before .before .before .before .args in strayBit (a .k) (a .words .now) ≡ c .set-on .result
+stray : (c : tie.After-any-set) → let a = c .before .before .before .before .before .before .args in strayBit (a .k) (a .words .now) ≡ c .any-set .result
 stray c = let a = c .before .before .before .before .before .before .args in
-    stray-is (a .k) (a .words .now) (lengths-right (a .k) (length (a .index .now)) (length (a .words .now)) (right (c .before .before)) .1) ∙ sym (c .set-on .ensures)
+    stray-is (a .k) (a .words .now) (lengths-right (a .k) (length (a .index .now)) (length (a .words .now)) (right (c .before .before)) .1) ∙ sym (c .any-set .ensures)
 
 returns : tie.Need-returns
 unfolding toListOf listLeft
 returns c = rw (sym (c .before .before .lengths-wrong .ensures) ∙ c .before .if1 .taken) (ap Verdict.Refused (c .refused .ensures), refl)
 
-mul-set-on : tie.Need-mul-set-on
-mul-set-on c = let l = known-laid _ (c .before .before .before .before .before .pre) in fits-mul 999 999 tt (l .down-most) (l .across-most)
+mul-any-set : tie.Need-mul-any-set
+mul-any-set c = let l = known-laid _ (c .before .before .before .before .before .pre) in fits-mul 999 999 tt (l .down-most) (l .across-most)
 
 returns-2 : tie.Need-returns-2
 unfolding toListOf listLeft
@@ -44,10 +44,10 @@ unfolding toListOf listLeft
 returns-3 c =
     let a = c .before .before .before .before .before .before .before .before .before .before .before .args in
     rw (right (c .before .before .before .before .before .before .before), stray (c .before .before .before .before .before) ∙ c .before .before .before .before .if2 .left)
-    (refl, c .before .before .set-list .ensures ∙ ap (numbersOf (a .words .now)) (lengths-right (a .k) (length (a .index .now)) (length (a .words .now)) (right (c .before .before .before .before .before .before .before)) .0))
+    (refl, c .before .before .set-list .ensures ∙ ap (numbersTo (a .words .now)) (lengths-right (a .k) (length (a .index .now)) (length (a .words .now)) (right (c .before .before .before .before .before .before .before)) .0))
 
 pub to-list-spec : {M : Type 1} → statement M
 to-list-spec =
     tie.close
-    (tie.spec (λ c κs. search needs) (λ c κs. search needs) returns mul-set-on (λ c κs. search needs) (λ c κs. search needs) returns-2 set-list-requires
+    (tie.spec (λ c κs. search needs) (λ c κs. search needs) returns mul-any-set (λ c κs. search needs) (λ c κs. search needs) returns-2 set-list-requires
     (λ c. search needs) returns-3)

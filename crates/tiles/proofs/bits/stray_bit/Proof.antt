@@ -7,11 +7,11 @@ use borrow.Author.Needs.{needs}
 use Rattle.tiles.proofs.bits.stray_bit.Statement.{statement}
 use Rattle.tiles.proofs.bits.stray_bit.Tie as tie
 
-mul-set-on : tie.Need-mul-set-on
-mul-set-on c = let l = known-laid _ (c .before .before .pre .0) in fits-mul 999 999 tt (l .down-most) (l .across-most)
+mul-any-set : tie.Need-mul-any-set
+mul-any-set c = let l = known-laid _ (c .before .before .pre .0) in fits-mul 999 999 tt (l .down-most) (l .across-most)
 
 returns : tie.Need-returns
-returns c = c .set-on .ensures ∙ sym (stray-is _ _ (c .before .before .before .pre .1))
+returns c = c .any-set .ensures ∙ sym (stray-is _ _ (c .before .before .before .pre .1))
 
 pub stray-bit-spec : {M : Type 1} → statement M
-stray-bit-spec = tie.close (tie.spec mul-set-on (λ c κs. search needs) returns)
+stray-bit-spec = tie.close (tie.spec mul-any-set (λ c κs. search needs) returns)
