@@ -1,5 +1,6 @@
 //! Benchmarks of libfordcask.a against the plain rule in Rust.
 
+mod bit_windows;
 mod bits;
 mod cards;
 mod corrections;
@@ -36,7 +37,7 @@ const QUESTIONS: [Question; 13] = [
     ("i", corrections::lookup),
     ("i", corrections::window),
     ("j", bits::lookup),
-    ("j", bits::window),
+    ("j", bit_windows::window),
 ];
 
 /// Runs the questions named by letter, or all.

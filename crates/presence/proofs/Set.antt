@@ -59,7 +59,8 @@ module _ (words : List ℕ) where
   pub none-set : (t n : ℕ) → anySetFrom words t n ≡ false → (j : ℕ) → t ≤ j → j < t + n → present words j ≡ 0
   unfolding anySetFrom
   none-set t zero e j p q = absurd (omega arith)
-  none-set t (suc n) e j p q = go (eqb (present words t) 0) (anySetFrom words (t + 1) n) refl refl e (ℕ-discrete j t) (λ g d. none-set (t + 1) n g j (omega arith) (omega arith))
+  none-set t (suc n) e j p q = go (eqb (present words t) 0) (anySetFrom words (t + 1) n) refl refl e (ℕ-discrete j t)
+      (λ g d. none-set (t + 1) n g j (omega arith) (omega arith))
     where
       go : (a b : Bool) → eqb (present words t) 0 ≡ a → anySetFrom words (t + 1) n ≡ b → not a || b ≡ false → Dec (j ≡ t)
           → (anySetFrom words (t + 1) n ≡ false → (j ≡ t → ⊥) → present words j ≡ 0) → present words j ≡ 0

@@ -21,15 +21,18 @@ abbrev μ-loop : tie.MeasureT-loop
 μ-loop index n₀ i₀ n i = length index - i
 
 -- the entry is the first of what is left
-here : (c : tie.After-bit-at Inv-loop μ-loop) → let s = c .before .before .before .before .before .args .index .now in let l = c .before .before .before .loop in
+here : (c : tie.After-bit-at Inv-loop μ-loop) → let s = c .before .before .before .before .before .args .index .now in let l = c .before .before .before
+    .loop in
     inOrder 0 s ≡ inOrder (l .n) (getD s (l .i) 0 ∷ drop (suc (l .i)) s)
 here c =
     let l = c .before .before .before .loop in
     l .inv .2 ∙ ap (inOrder (l .n)) (drop-cons (c .before .before .before .before .before .args .index .now) (l .i) 0 (c .before .before .loop-test .taken))
 
 -- the test is that of the entry
-test : (c : tie.After-bit-at Inv-loop μ-loop) (b : Bool) → let e = getD (c .before .before .before .before .before .args .index .now) (c .before .before .before .loop .i) 0 in
-    not (eqb e 0) && not (eqb e (c .before .before .before .loop .n + c .bit-at .result)) ≡ b → not (eqb e 0) && not (eqb e (c .before .before .before .loop .n + bitOf e)) ≡ b
+test : (c : tie.After-bit-at Inv-loop μ-loop) (b : Bool) → let e = getD (c .before .before .before .before .before .args .index .now)
+    (c .before .before .before .loop .i) 0 in
+    not (eqb e 0) && not (eqb e (c .before .before .before .loop .n + c .bit-at .result)) ≡ b → not (eqb e 0) && not
+    (eqb e (c .before .before .before .loop .n + bitOf e)) ≡ b
 test c b h =
     let e = getD (c .before .before .before .before .before .args .index .now) (c .before .before .before .loop .i) 0 in
     ap (λ (m : ℕ). not (eqb e 0) && not (eqb e (c .before .before .before .loop .n + m))) (sym (c .bit-at .ensures)) ∙ h

@@ -21,10 +21,12 @@ abbrev μ-loop : tie.MeasureT-loop
 
 -- the list keeps its length
 long : (c : tie.At-loop Inv-loop μ-loop) → length (c .loop .index) ≡ length (c .before .before .before .args .index .now)
-long c = let l = c .loop in written-length (numberAt (c .before .before .before .args .words .now)) (l .t) (c .before .before .before .args .index .now) (l .index) (l .inv .0) (l .inv .2)
+long c = let l = c .loop in written-length (numberAt (c .before .before .before .args .words .now)) (l .t) (c .before .before .before .args .index .now)
+    (l .index) (l .inv .0) (l .inv .2)
 
 -- the count with the next bit
-more : (c : tie.After-bit Inv-loop μ-loop) → c .before .before .loop .n + c .bit .result ≡ counted (c .before .before .before .before .before .args .words .now) (c .before .before .loop .t + 1)
+more : (c : tie.After-bit Inv-loop μ-loop) → c .before .before .loop .n + c .bit .result ≡ counted
+    (c .before .before .before .before .before .args .words .now) (c .before .before .loop .t + 1)
 more c =
     let ws = c .before .before .before .before .before .args .words .now in
     let l = c .before .before .loop in

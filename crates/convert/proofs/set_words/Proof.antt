@@ -20,7 +20,8 @@ abbrev μ-loop : tie.MeasureT-loop
 
 -- the words keep their length
 long : (c : tie.At-loop Inv-loop μ-loop) → length (c .loop .words) ≡ length (c .before .before .before .args .words .now)
-long c = let l = c .loop in written-length (wordOf (c .before .before .before .args .index .now)) (l .i) (c .before .before .before .args .words .now) (l .words) (l .inv .0) (l .inv .1)
+long c = let l = c .loop in written-length (wordOf (c .before .before .before .args .index .now)) (l .i) (c .before .before .before .args .words .now)
+    (l .words) (l .inv .0) (l .inv .1)
 
 loop-holds : tie.Need-loop-holds Inv-loop μ-loop
 loop-holds c = (omega arith, refl)

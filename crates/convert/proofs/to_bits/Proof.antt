@@ -21,15 +21,21 @@ returns c = rw (sym (c .before .before .lengths-wrong .ensures) ∙ c .before .i
 
 set-words-requires : tie.Need-set-words-requires
 set-words-requires c κs = let s = c .before .before .before .before .before .before .before in
-    words-few (s .args .k) (s .args .words .now) (lengths-right (s .args .k) (length (s .args .index .now)) (length (s .args .words .now)) (right (c .before .before .before)) .1) (s .pre)
+    words-few (s .args .k) (s .args .words .now) (lengths-right (s .args .k) (length (s .args .index .now)) (length (s .args .words .now))
+    (right (c .before .before .before)) .1) (s .pre)
 
 returns-2 : tie.Need-returns-2
 unfolding toBitsOf bitsLeft
-returns-2 c = rw (right (c .before .before .before .before .before .before), sym (c .before .before .before .before .before .in-order .ensures) ∙ c .before .before .before .before .if2 .taken) (refl, c .before .before .set-words .ensures)
+returns-2 c = rw (
+  right (c .before .before .before .before .before .before),
+  sym (c .before .before .before .before .before .in-order .ensures)
+      ∙ c .before .before .before .before .if2 .taken,
+) (refl, c .before .before .set-words .ensures)
 
 returns-3 : tie.Need-returns-3
 unfolding toBitsOf bitsLeft
-returns-3 c = rw (right (c .before .before .before), sym (c .before .before .in-order .ensures) ∙ c .before .if2 .left) (ap Verdict.Refused (c .refused2 .ensures), refl)
+returns-3 c = rw (right (c .before .before .before), sym (c .before .before .in-order .ensures) ∙ c .before .if2 .left)
+    (ap Verdict.Refused (c .refused2 .ensures), refl)
 
 pub to-bits-spec : {M : Type 1} → statement M
 to-bits-spec =

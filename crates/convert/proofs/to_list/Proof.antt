@@ -22,7 +22,8 @@ right c = sym (c .before .lengths-wrong .ensures) ∙ c .if1 .left
 -- the bits past the last tile
 stray : (c : tie.After-any-set) → let a = c .before .before .before .before .before .before .args in strayBit (a .k) (a .words .now) ≡ c .any-set .result
 stray c = let a = c .before .before .before .before .before .before .args in
-    stray-is (a .k) (a .words .now) (lengths-right (a .k) (length (a .index .now)) (length (a .words .now)) (right (c .before .before)) .1) ∙ sym (c .any-set .ensures)
+    stray-is (a .k) (a .words .now) (lengths-right (a .k) (length (a .index .now)) (length (a .words .now)) (right (c .before .before)) .1)
+    ∙ sym (c .any-set .ensures)
 
 returns : tie.Need-returns
 unfolding toListOf listLeft
@@ -33,18 +34,31 @@ mul-any-set c = let l = known-laid _ (c .before .before .before .before .before 
 
 returns-2 : tie.Need-returns-2
 unfolding toListOf listLeft
-returns-2 c = rw (right (c .before .before .before .before), stray (c .before .before) ∙ c .before .if2 .taken) (ap Verdict.Refused (c .refused2 .ensures), refl)
+returns-2 c = rw (right (c .before .before .before .before), stray (c .before .before) ∙ c .before .if2 .taken)
+    (ap Verdict.Refused (c .refused2 .ensures), refl)
 
 set-list-requires : tie.Need-set-list-requires
 set-list-requires c κs = let s = c .before .before .before .before .before .before .before .before in
-    omega (arith, index-few (s .args .k) (s .pre), lengths-right (s .args .k) (length (s .args .index .now)) (length (s .args .words .now)) (right (c .before .before .before .before)) .0)
+    omega (
+      arith,
+      index-few (s .args .k) (s .pre),
+      lengths-right (s .args .k) (length (s .args .index .now)) (length (s .args .words .now))
+          (right (c .before .before .before .before)) .0,
+    )
 
 returns-3 : tie.Need-returns-3
 unfolding toListOf listLeft
 returns-3 c =
     let a = c .before .before .before .before .before .before .before .before .before .before .before .args in
-    rw (right (c .before .before .before .before .before .before .before), stray (c .before .before .before .before .before) ∙ c .before .before .before .before .if2 .left)
-    (refl, c .before .before .set-list .ensures ∙ ap (numbersTo (a .words .now)) (lengths-right (a .k) (length (a .index .now)) (length (a .words .now)) (right (c .before .before .before .before .before .before .before)) .0))
+    rw (
+      right (c .before .before .before .before .before .before .before),
+      stray (c .before .before .before .before .before)
+          ∙ c .before .before .before .before .if2 .left,
+    ) (
+      refl,
+      c .before .before .set-list .ensures ∙ ap (numbersTo (a .words .now))
+          (lengths-right (a .k) (length (a .index .now)) (length (a .words .now)) (right (c .before .before .before .before .before .before .before)) .0),
+    )
 
 pub to-list-spec : {M : Type 1} → statement M
 to-list-spec =

@@ -19,7 +19,8 @@ abbrev μ-loop : tie.MeasureT-loop
 
 -- a word has at most 64 ones
 few : (c : tie.After-shared-slice-known Inv-loop μ-loop) → ones (getD (c .before .before .before .args .words .now) (c .before .before .loop .i) 0) ≤ 64
-few c = ones-le 64 (getD (c .before .before .before .args .words .now) (c .before .before .loop .i) 0) (c .shared-slice-known .given (c .before .before .loop .i) .fits)
+few c = ones-le 64 (getD (c .before .before .before .args .words .now) (c .before .before .loop .i) 0)
+    (c .shared-slice-known .given (c .before .before .loop .i) .fits)
 
 -- what the loop leaves and the masked last word make the count
 sum : (c : tie.After-shared-slice-known2 Inv-loop μ-loop) → let a = c .before .before .before .args in

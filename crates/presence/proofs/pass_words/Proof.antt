@@ -17,8 +17,10 @@ abbrev μ-loop : tie.MeasureT-loop
 μ-loop words count most ones₀ i₀ ones i = length words - i
 
 -- a word has at most 64 ones
-few : (c : tie.After-shared-slice-known Inv-loop μ-loop) → ones (getD (c .before .before .before .before .args .words .now) (c .before .before .before .loop .i) 0) ≤ 64
-few c = ones-le 64 (getD (c .before .before .before .before .args .words .now) (c .before .before .before .loop .i) 0) (c .shared-slice-known .given (c .before .before .before .loop .i) .fits)
+few : (c : tie.After-shared-slice-known Inv-loop μ-loop) → ones (getD (c .before .before .before .before .args .words .now)
+    (c .before .before .before .loop .i) 0) ≤ 64
+few c = ones-le 64 (getD (c .before .before .before .before .args .words .now) (c .before .before .before .loop .i) 0)
+    (c .shared-slice-known .given (c .before .before .before .loop .i) .fits)
 
 loop-holds : tie.Need-loop-holds Inv-loop μ-loop
 loop-holds c = (omega arith, omega arith, sym (counted-none _), omega arith)

@@ -19,11 +19,13 @@ use Rattle.fordcask.proofs.bits.fordcask_bits_tile.Tie as tie
 
 -- what is asked of a card
 abbrev asked : tie.After-bits-number → Card → NumberAnswer
-asked c k = let a = c .before .before .before .before .before .before .before .before .args in bitsNumberOf k (a .words .now) (a .count) (a .store .now) (a .row) (a .column)
+asked c k = let a = c .before .before .before .before .before .before .before .before .args in bitsNumberOf k (a .words .now) (a .count) (a .store .now)
+    (a .row) (a .column)
 
 -- the answer, of row and column as they are held
 plain : (c : tie.After-bits-number) → c .bits-number .result ≡ asked c (c .before .before .before .before .read-card .result .card)
-plain c = let s = c .before .before .before .before .before .before .before .before in c .bits-number .ensures ∙ pair-asked (bitsNumberOf _ _ _ _) (s .fits .row) (s .fits .column)
+plain c = let s = c .before .before .before .before .before .before .before .before in c .bits-number .ensures
+    ∙ pair-asked (bitsNumberOf _ _ _ _) (s .fits .row) (s .fits .column)
 
 bits-number-requires : tie.Need-bits-number-requires
 bits-number-requires c κs = let s = c .before .before .before .before .before .before .before in
@@ -42,7 +44,8 @@ returns c =
     let a = c .before .before .before .before .before .before .before .before .before .args in
     c .number-tile .ensures
     ∙ ap₂ tileParts (ap (λ (x : Reading). x .blanks) (c .before .before .before .before .before .read-card .ensures))
-    (plain d ∙ card-answers (a .series) (a .card .now) (c .before .before .before .before .before .read-card .ensures) NumberAnswer.Refused (asked d) (c .before .before .enum-told .given .1))
+    (plain d ∙ card-answers (a .series) (a .card .now) (c .before .before .before .before .before .read-card .ensures) NumberAnswer.Refused (asked d)
+    (c .before .before .enum-told .given .1))
 
 returns-2 : tie.Need-returns-2
 returns-2 c = rw (← c .before .before .before .before .before .read-card .ensures, c .before .before .verdict .given .1) (c .number-tile2 .ensures)

@@ -19,11 +19,13 @@ use Rattle.fordcask.proofs.indexes.fordcask_tile.Tie as tie
 
 -- what is asked of a card
 abbrev asked : tie.After-stored-number → Card → NumberAnswer
-asked c k = let a = c .before .before .before .before .before .before .before .before .args in numberOf k (a .index .now) (a .count) (a .store .now) (a .row) (a .column)
+asked c k = let a = c .before .before .before .before .before .before .before .before .args in numberOf k (a .index .now) (a .count) (a .store .now)
+    (a .row) (a .column)
 
 -- the answer, of row and column as they are held
 plain : (c : tie.After-stored-number) → c .stored-number .result ≡ asked c (c .before .before .before .before .read-card .result .card)
-plain c = let s = c .before .before .before .before .before .before .before .before in c .stored-number .ensures ∙ pair-asked (numberOf _ _ _ _) (s .fits .row) (s .fits .column)
+plain c = let s = c .before .before .before .before .before .before .before .before in c .stored-number .ensures
+    ∙ pair-asked (numberOf _ _ _ _) (s .fits .row) (s .fits .column)
 
 stored-number-requires : tie.Need-stored-number-requires
 stored-number-requires c κs = let s = c .before .before .before .before .before .before .before in
@@ -42,7 +44,8 @@ returns c =
     let a = c .before .before .before .before .before .before .before .before .before .args in
     c .number-tile .ensures
     ∙ ap₂ tileParts (ap (λ (x : Reading). x .blanks) (c .before .before .before .before .before .read-card .ensures))
-    (plain d ∙ card-answers (a .series) (a .card .now) (c .before .before .before .before .before .read-card .ensures) NumberAnswer.Refused (asked d) (c .before .before .enum-told .given .1))
+    (plain d ∙ card-answers (a .series) (a .card .now) (c .before .before .before .before .before .read-card .ensures) NumberAnswer.Refused (asked d)
+    (c .before .before .enum-told .given .1))
 
 returns-2 : tie.Need-returns-2
 returns-2 c = rw (← c .before .before .before .before .before .read-card .ensures, c .before .before .verdict .given .1) (c .number-tile2 .ensures)

@@ -19,4 +19,5 @@ pub source-tile-spec : {M : Type 1} → statement M
 source-tile-spec =
     tie.close
     (tie.spec (λ c. search needs) (λ c κs. subst Sourced (c .before .answer .given .1) (c .before .before .before .pre)) (λ c. search needs)
-    (λ c κs. subst Sourced (c .before .answer2 .given .1) (c .before .before .before .pre)) (λ c. search needs) (λ c κs. search needs) returns returns-2 returns-3)
+    (λ c κs. subst Sourced (c .before .answer2 .given .1) (c .before .before .before .pre)) (λ c. search needs)
+    (λ c κs. search needs) returns returns-2 returns-3)

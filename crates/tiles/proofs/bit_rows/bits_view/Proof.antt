@@ -61,7 +61,8 @@ returns-3 c =
     rw (past (c .before .before .before) ∙ c .before .before .if2 .left)
     (c .rows-missing .ensures
     ∙ ap (λ (m : ℕ). scan (saidWith (a .corrections .now) (a .corrected) (saidBefore m (a .words .now))) ts) (c .before .within .ensures)
-    ∙ scan-alike _ _ (by-end (a .words .now) (a .count) (a .k) (not-false (a .k .tif) (c .before .before .before .before .before .if1 .left))) (a .corrections .now) (a .corrected) ts)
+    ∙ scan-alike _ _ (by-end (a .words .now) (a .count) (a .k) (not-false (a .k .tif) (c .before .before .before .before .before .if1 .left)))
+    (a .corrections .now) (a .corrected) ts)
 
 pub bits-view-spec : {M : Type 1} → statement M
 bits-view-spec =

@@ -15,7 +15,8 @@ use Rattle.tiles.proofs.bit_rows.row_says.Tie as tie
 returns : tie.Need-returns
 returns c =
     let s = c .before .before .before .before in
-    let e : s .args .corrections .now ≡ [] = subst (λ (b : Bool). Beside b (s .args .corrections .now)) (not-true (s .args .beside) (c .before .if1 .taken)) (s .pre) in
+    let e : s .args .corrections .now ≡ [] = subst (λ (b : Bool). Beside b (s .args .corrections .now)) (not-true (s .args .beside) (c .before .if1 .taken))
+    (s .pre) in
     c .bit-says .ensures ∙ sym (with-none (s .args .corrections .now) (s .args .tile) (s .args .corrected) _ (ap (λ (l : List ℕ). getD l (s .args .tile) 0) e))
 
 returns-2 : tie.Need-returns-2

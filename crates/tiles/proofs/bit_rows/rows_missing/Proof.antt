@@ -22,7 +22,8 @@ abbrev μ-loop : tie.MeasureT-loop
 μ-loop k words end beside corrections corrected top left height width r₀ r = height - r
 
 -- the row's tiles are those of an image
-small : (c : tie.After-struct-known Inv-loop μ-loop) → let a = c .before .before .before .before .before .args in (a .top + c .before .before .loop .r) * a .k .nfc + a .left + a .width ≤ 998001
+small : (c : tie.After-struct-known Inv-loop μ-loop) → let a = c .before .before .before .before .before .args in
+    (a .top + c .before .before .loop .r) * a .k .nfc + a .left + a .width ≤ 998001
 small c =
     let s = c .before .before .before .before .before in
     let l = known-laid _ (s .pre .1 .known) in
@@ -86,5 +87,6 @@ returns-3 c =
 pub rows-missing-spec : {M : Type 1} → statement M
 rows-missing-spec =
     tie.close
-    (tie.spec Inv-loop μ-loop loop-holds add-start mul-start add-start-2 row-missing-requires (λ c. search needs) (λ c. search needs) returns (λ c. search needs)
+    (tie.spec Inv-loop μ-loop loop-holds add-start mul-start add-start-2 row-missing-requires (λ c. search needs) (λ c. search needs) returns
+    (λ c. search needs)
     returns-2 add-r loop-less loop-again returns-3)

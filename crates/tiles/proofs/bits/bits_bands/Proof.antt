@@ -23,7 +23,8 @@ asked c = let s = c .before .before .before .before in
 either-bands-requires : tie.Need-either-bands-requires
 either-bands-requires c κs = let a = c .before .before .before .before .args in
     subst (λ (x : SourceAnswer). Held x (a .store .now) (a .store .now)) (sym (asked c))
-    (held-base (bitsNumberOf (a .k) (a .words .now) (a .count) (a .store .now) (a .row) (a .column)) (a .store .now) (a .store .now) (bits-number-in-store _ _ _ _ _ _))
+    (held-base (bitsNumberOf (a .k) (a .words .now) (a .count) (a .store .now) (a .row) (a .column)) (a .store .now) (a .store .now)
+    (bits-number-in-store _ _ _ _ _ _))
 
 returns : tie.Need-returns
 unfolding bitsBandsOf bitsPartOf

@@ -26,14 +26,19 @@ stray-bit-requires c κs = (c .before .before .before .before .pre, words-right 
 
 returns-2 : tie.Need-returns-2
 unfolding bitsNumberOf
-returns-2 c = rw (right (c .before .before .before), sym (c .before .before .stray-bit .ensures) ∙ c .before .if2 .taken) (ap NumberAnswer.Refused (c .refused2 .ensures))
+returns-2 c = rw (right (c .before .before .before), sym (c .before .before .stray-bit .ensures) ∙ c .before .if2 .taken)
+    (ap NumberAnswer.Refused (c .refused2 .ensures))
 
 returns-3 : tie.Need-returns-3
 unfolding bitsNumberOf
 returns-3 c =
     let s = c .before .before .before .before .before .before .before .before .before .before in
     let says = saidBits (s .args .k) (s .args .words .now) (s .args .count) in
-    rw (right (c .before .before .before .before .before .before), sym (c .before .before .before .before .before .stray-bit .ensures) ∙ c .before .before .before .before .if2 .left)
+    rw (
+      right (c .before .before .before .before .before .before),
+      sym (c .before .before .before .before .before .stray-bit .ensures)
+          ∙ c .before .before .before .before .if2 .left,
+    )
     (c .number-in .ensures ∙ ap numberAlone (c .before .bits-found .ensures) ∙ none-found (s .args .k) 0 says _ _
     ∙ pair-asked (foundOf (s .args .k) says) (s .fits .row) (s .fits .column))
 

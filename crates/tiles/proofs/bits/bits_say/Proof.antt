@@ -19,7 +19,8 @@ add-t9 c = omega (arith, tiles-small _ (c .before .before .before .before .befor
 
 returns-2 : tie.Need-returns-2
 unfolding saidBits
-returns-2 c = sym (with-none _ _ _ _ (sym (c .before .before .before .correction-at .ensures) ∙ c .before .before .if1 .left) ∙ rw (not-true (c .before .before .before .before .before .before .args .k .tif) (c .if2 .taken)))
+returns-2 c = sym (with-none _ _ _ _ (sym (c .before .before .before .correction-at .ensures) ∙ c .before .before .if1 .left)
+    ∙ rw (not-true (c .before .before .before .before .before .before .args .k .tif) (c .if2 .taken)))
 
 cast-number : tie.Need-cast-number
 cast-number c = omega (arith, tiles-small _ (c .before .before .before .before .before .before .pre .0))
@@ -28,7 +29,8 @@ returns-3 : tie.Need-returns-3
 unfolding saidBits
 returns-3 c =
     c .number-says2 .ensures ∙ ap (said _) (c .before .number .ensures)
-    ∙ sym (with-none _ _ _ _ (sym (c .before .before .before .before .before .correction-at .ensures) ∙ c .before .before .before .before .if1 .left) ∙ rw (not-false (c .before .before .before .before .before .before .before .before .args .k .tif) (c .before .before .if2 .left)))
+    ∙ sym (with-none _ _ _ _ (sym (c .before .before .before .before .before .correction-at .ensures) ∙ c .before .before .before .before .if1 .left)
+    ∙ rw (not-false (c .before .before .before .before .before .before .before .before .args .k .tif) (c .before .before .if2 .left)))
 
 pub bits-say-spec : {M : Type 1} → statement M
 bits-say-spec =

@@ -22,14 +22,19 @@ stray-bit-requires c κs = (c .before .before .before .pre, words-right _ _ _ (r
 
 returns-2 : tie.Need-returns-2
 unfolding bitsWindowOf
-returns-2 c = rw (right (c .before .before .before), sym (c .before .before .stray-bit .ensures) ∙ c .before .if2 .taken) (ap WindowAnswer.Refused (c .refused2 .ensures))
+returns-2 c = rw (right (c .before .before .before), sym (c .before .before .stray-bit .ensures) ∙ c .before .if2 .taken)
+    (ap WindowAnswer.Refused (c .refused2 .ensures))
 
 bits-view-requires : tie.Need-bits-view-requires
 bits-view-requires c κs = (c .before .before .before .before .before .before .before .pre, (right (c .before .before .before .before), refl))
 
 returns-3 : tie.Need-returns-3
 unfolding bitsWindowOf
-returns-3 c = rw (right (c .before .before .before .before .before), sym (c .before .before .before .before .stray-bit .ensures) ∙ c .before .before .before .if2 .left)
+returns-3 c = rw (
+  right (c .before .before .before .before .before),
+  sym (c .before .before .before .before .stray-bit .ensures)
+      ∙ c .before .before .before .if2 .left,
+)
     (c .bits-view .ensures ∙ none-view (c .before .before .before .before .before .before .before .before .args .k) 0 _ _ _ _ _)
 
 pub bits-window-spec : {M : Type 1} → statement M

@@ -22,21 +22,32 @@ returns c = rw (sym (c .before .before .words-wrong .ensures) ∙ c .before .if1
 
 returns-2 : tie.Need-returns-2
 unfolding correctedBitsWindowOf
-returns-2 c = rw (right (c .before .before .before), sym (c .before .before .list-wrong .ensures) ∙ c .before .if2 .taken) (ap WindowAnswer.Refused (c .refused2 .ensures))
+returns-2 c = rw (right (c .before .before .before), sym (c .before .before .list-wrong .ensures) ∙ c .before .if2 .taken)
+    (ap WindowAnswer.Refused (c .refused2 .ensures))
 
 stray-bit-requires : tie.Need-stray-bit-requires
 stray-bit-requires c κs = (c .before .before .before .before .before .before .pre, words-right _ _ _ (right (c .before .before)))
 
 returns-3 : tie.Need-returns-3
 unfolding correctedBitsWindowOf
-returns-3 c = rw (right (c .before .before .before .before .before), beside (c .before .before .before), sym (c .before .before .stray-bit .ensures) ∙ c .before .if3 .taken) (ap WindowAnswer.Refused (c .refused3 .ensures))
+returns-3 c = rw (
+  right (c .before .before .before .before .before),
+  beside (c .before .before .before),
+  sym (c .before .before .stray-bit .ensures)
+      ∙ c .before .if3 .taken,
+) (ap WindowAnswer.Refused (c .refused3 .ensures))
 
 bits-view-requires : tie.Need-bits-view-requires
 bits-view-requires c κs = (c .before .before .before .before .before .before .before .before .pre, (right (c .before .before .before .before), tt))
 
 returns-4 : tie.Need-returns-4
 unfolding correctedBitsWindowOf
-returns-4 c = rw (right (c .before .before .before .before .before), beside (c .before .before .before), sym (c .before .before .stray-bit .ensures) ∙ c .before .if3 .left) (c .bits-view .ensures)
+returns-4 c = rw (
+  right (c .before .before .before .before .before),
+  beside (c .before .before .before),
+  sym (c .before .before .stray-bit .ensures)
+      ∙ c .before .if3 .left,
+) (c .bits-view .ensures)
 
 pub corrected-bits-window-spec : {M : Type 1} → statement M
 corrected-bits-window-spec =

@@ -22,7 +22,8 @@ here : (c : tie.After-size2) → let a = c .before .before .before .args in
     c .before .before .size .result / 128 * a .k .nfc + c .size2 .result / 128 ≡ tileOf (a .k) (natAbs (a .row)) (natAbs (a .column))
 here c =
     let s = c .before .before .before in
-    ap₂ (λ (x y : ℕ). x / 128 * s .args .k .nfc + y / 128) (rows (c .before .before)) (c .size2 .ensures ∙ ap natAbs (toZ-ofZ w64 (s .args .column) (s .fits .column)))
+    ap₂ (λ (x y : ℕ). x / 128 * s .args .k .nfc + y / 128) (rows (c .before .before))
+    (c .size2 .ensures ∙ ap natAbs (toZ-ofZ w64 (s .args .column) (s .fits .column)))
 
 mul-result : tie.Need-mul-result
 mul-result c = let a = c .before .before .args in omega (arith, small (c .before), ap (λ (x : ℕ). x / 128 * a .k .nfc) (rows (c .before)))
