@@ -1,10 +1,7 @@
 //! The questions on presence bits, put to padded cards: as on the cards without blanks, with the
 //! total, and no total in a refusal (02, E2 and E7).
 
-mod bits_support;
-mod rule;
-mod support;
-
+use crate::{bits_support, support};
 use bits_support::any_bits;
 use fordcask::{Bits, Corrections, OnCard, Pixel, Refusal, Series, Source, Window, TILE_LENGTH};
 use support::blanks::Twins;

@@ -1,10 +1,7 @@
 //! The questions on presence bits, put to damaged cards: reading's refusals come first, and the
 //! buffers stay (02, E7).
 
-mod bits_support;
-mod rule;
-mod support;
-
+use crate::{bits_support, rule, support};
 use bits_support::{right_bits, stray, BitHeld};
 use fordcask::{Pixel, Refusal, Series, Sheet, Window};
 use support::blanks::pad_some;

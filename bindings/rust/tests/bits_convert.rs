@@ -1,9 +1,6 @@
 //! List to presence bits and back, all words and entries compared (02, E7).
 
-mod bits_support;
-mod rule;
-mod support;
-
+use crate::{bits_support, support};
 use bits_support::{list_of, sized, some_present, stray, words_of};
 use fordcask::{Refusal, Series, Sheet};
 use support::index::{good_index, spoil};

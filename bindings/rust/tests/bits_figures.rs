@@ -1,8 +1,6 @@
 //! Presence bits of hand-made images: each answer and refusal written out (02, E7).
 
-mod rule;
-mod support;
-
+use crate::support;
 use fordcask::TILE_LENGTH;
 use fordcask::{Bands, Bits, Corrections, Pixel, Refusal, Series, Sheet, Source, Tiles, Window};
 use support::make::{all_chart, card};

@@ -1,9 +1,6 @@
 //! Presence bits of the largest images, 999 × 999 tiles, and of others of many words (02, E7).
 
-mod bits_support;
-mod rule;
-mod support;
-
+use crate::{bits_support, support};
 use bits_support::{list_of, some_present, words_of, BitImage};
 use fordcask::{Bits, Corrections, Pixel, Refusal, Series, Sheet, Tiles, Window, TILE_LENGTH};
 use support::corrections::Image;

@@ -1,10 +1,7 @@
 //! Numbers of words, counts and lengths of all buffers beside presence bits, right and wrong,
 //! alone and together: 6, and nothing else is looked at before it (02, E7).
 
-mod bits_support;
-mod rule;
-mod support;
-
+use crate::{bits_support, support};
 use bits_support::BitImage;
 use fordcask::{Bits, Corrections, Pixel, Refusal, Series, Sheet, Window, TILE_LENGTH};
 use support::make::{all_chart, card};

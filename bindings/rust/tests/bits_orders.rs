@@ -1,9 +1,7 @@
 //! The order of the refusals of look-ups from presence bits: reading's, the base's 6, the
 //! corrections' 6, 21, 12, 13, 15 of the correction, 14, 15 of the bits (02, E7).
 
-mod rule;
-mod support;
-
+use crate::support;
 use fordcask::{Bits, Corrections, Pixel, Record, Refusal, Series, Sheet, TILE_LENGTH};
 use support::make::{all_chart, card};
 

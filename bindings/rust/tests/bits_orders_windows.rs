@@ -1,9 +1,7 @@
 //! The order of the refusals of windows over presence bits: reading's, the base's 6, the
 //! corrections' 6, 21, 12, 15; and of the conversions: reading's, 6, then 20 or 21 (02, E7).
 
-mod rule;
-mod support;
-
+use crate::support;
 use fordcask::{Bits, Corrections, Refusal, Series, Sheet, Window};
 use support::make::{all_chart, card};
 use support::no_blanks;

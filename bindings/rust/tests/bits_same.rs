@@ -1,10 +1,7 @@
 //! Every answer from presence bits is the one from the list; the library is compared with itself
 //! (02, E7).
 
-mod bits_support;
-mod rule;
-mod support;
-
+use crate::{bits_support, support};
 use bits_support::{right_bits, sized, BitHeld};
 use fordcask::{Bits, Refusal, Sheet, Tiles};
 use support::corrections::{every_window, pixel_of_each, store_bytes, store_of};

@@ -1,10 +1,7 @@
 //! Look-up and bands from presence bits, with corrections and without, over words, counts, lists
 //! and stores of every kind, compared with the rule (02, E7).
 
-mod bits_support;
-mod rule;
-mod support;
-
+use crate::{bits_support, support};
 use bits_support::{any_bits, right_bits, words_of, BitImage};
 use fordcask::{Bits, Corrections, Pixel, Series, Sheet, TILE_LENGTH};
 use support::corrections::{pixel_of_each, store_bytes, store_of};

@@ -1,10 +1,7 @@
 //! Windows over presence bits, with corrections and without, over words, counts and lists of every
 //! kind, compared with the rule (02, E7).
 
-mod bits_support;
-mod rule;
-mod support;
-
+use crate::{bits_support, support};
 use bits_support::{any_bits, right_bits, words_of, BitImage};
 use fordcask::{Bits, Corrections, Series, Sheet, Window};
 use support::corrections::every_window;

@@ -1,9 +1,7 @@
 //! Every question on a padded card answers as on the card without blanks, with the total; where it
 //! refuses there is no total (02, E2).
 
-mod rule;
-mod support;
-
+use crate::support;
 use fordcask::{Pair, Pixel, Position, Refusal, Series, Sheet};
 use support::ask_all::{ask_all, QUESTIONS};
 use support::ask_lists::{pixels, positions, OLD_POSITION};

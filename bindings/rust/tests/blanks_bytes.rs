@@ -1,9 +1,7 @@
 //! Bytes that are no blanks in place of one, every one-byte change of padded cards, and every text
 //! of some bytes in each number (02, E2).
 
-mod rule;
-mod support;
-
+use crate::support;
 use fordcask::{OnCard, Refusal, Series, Sheet};
 use support::blanks::{leading_blanks, pad_all, BLANK, NUMBERS};
 use support::make::{all_chart, card, changes_of};

@@ -1,9 +1,7 @@
 //! Random cards of every scale, factor and zone with any number of their leading zeros turned into
 //! blanks: the same record, and the total is the number put in (02, E2). Then damaged.
 
-mod rule;
-mod support;
-
+use crate::{rule, support};
 use fordcask::{read_card, OnCard, Record, Refusal, Series};
 use support::blanks::{leading_zeros, pad, pad_all, pad_some, total, Twins, NUMBERS};
 use support::damage::{blank_damage, change_some, damage};

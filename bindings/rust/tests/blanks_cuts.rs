@@ -1,9 +1,7 @@
 //! Demand 3 down lists of cards with blanks and without, in each pair alone: a pixel's position
 //! goes from card to card with no drift (01, "Origins and the zone grid"; 02, E2, E4 and E8).
 
-mod rule;
-mod support;
-
+use crate::{rule, support};
 use fordcask::{Pixel, Series, Sheet};
 use support::blanks::{pad_all, pad_some, total};
 use support::cuts::{common_pixels, cut, padded_list, walk, Ends};

@@ -1,9 +1,7 @@
 //! The order of the refusals with blanks about: what is stated, the length, subfields left to right
 //! with 7 before 8 in each, then 9, 10, 11 (01, "Numbers given in refusal"; 02, E2).
 
-mod rule;
-mod support;
-
+use crate::support;
 use fordcask::{Refusal, Series};
 use support::blank_faults::{refusal, some_faults, with_faults, FAULTS, STATED};
 use support::blanks::pad_all;

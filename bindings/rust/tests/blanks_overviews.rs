@@ -1,9 +1,7 @@
 //! The overview question reads two cards and tells the total of each; with blanks in neither, one
 //! or both it gives one pixel or one refusal (02, E2 and E4).
 
-mod rule;
-mod support;
-
+use crate::support;
 use fordcask::{OverviewPixel, Pair, Pixel, Refusal, Series, Sheet};
 use support::blank_faults::{refusal, some_faults, with_faults};
 use support::blanks::{pad_some, total, Twins};

@@ -1,9 +1,7 @@
 //! Reading as 01 has it, where no blank leads a number: as the other reading on cards without such
 //! blanks, else 7 at the first of them unless something is refused before it (02, E2).
 
-mod rule;
-mod support;
-
+use crate::support;
 use fordcask::{read_card, read_strict, Refusal, Series};
 use support::blank_faults::{refusal, some_faults, with_faults, FAULTS, STATED};
 use support::blanks::{leading_zeros, pad, strict_of, total, with_zeros, Twins, NUMBERS};

@@ -1,8 +1,6 @@
 //! Each number subfield with blanks in every place, and blanks in the other subfields (02, E2).
 
-mod rule;
-mod support;
-
+use crate::support;
 use fordcask::{OnCard, Refusal, Series, Sheet};
 use support::blanks::{leading_zeros, no_blanks, pad, BLANK, NUMBERS};
 use support::make::{all_chart, card, record};

@@ -1,9 +1,7 @@
 //! Index check, look-up, bands and windows on padded cards: as on the cards without blanks, with
 //! the total, and no total in 6, 12, 13, 14 and 15 (01, "Tiles"; 02, E2).
 
-mod rule;
-mod support;
-
+use crate::support;
 use fordcask::{OnCard, Pixel, Record, Refusal, Series, Tiles, Window};
 use support::blanks::Twins;
 use support::index::{good_index, index_of, small};

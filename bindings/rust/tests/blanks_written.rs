@@ -1,9 +1,7 @@
 //! Writing what was read gives the bytes back exactly where the total of blanks is 0; reading it
 //! again gives the record with total 0 (02, E2). From 10,000 up; below there is 24 (02, E13).
 
-mod rule;
-mod support;
-
+use crate::support;
 use fordcask::{read_card, write_card, OnCard, Series};
 use support::blanks::{total, with_zeros, Twins};
 use support::damage::{blank_damage, damage};

@@ -1,8 +1,6 @@
 //! Random cards at every scale and zone: read and written by both, then damaged.
 
-mod rule;
-mod support;
-
+use crate::{rule, support};
 use fordcask::Series;
 use support::damage::{change_some, damage};
 use support::make::{card, chart, overview, record, town_chart, town_overview, Maker};

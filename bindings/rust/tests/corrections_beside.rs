@@ -2,9 +2,7 @@
 //! 01's answers, a correction hides the base entry, and no other entry matters. The library is
 //! compared with itself.
 
-mod rule;
-mod support;
-
+use crate::support;
 use fordcask::{OnCard, Source, TILE_LENGTH};
 use support::ask_corrections::{look_ups, missing};
 use support::corrections::{any_held, every_window, has_tile, pixel_of_each, right_held};

@@ -1,9 +1,7 @@
 //! The questions on corrections, put to padded cards: as on the cards without blanks, with the
 //! total, and no total in a refusal (02, E1 and E2).
 
-mod rule;
-mod support;
-
+use crate::support;
 use fordcask::{Corrections, OnCard, Pixel, Refusal, Series, Source, Tiles, TILE_LENGTH};
 use support::ask_corrections::look_ups;
 use support::blanks::Twins;

@@ -1,9 +1,7 @@
 //! The questions on corrections, put to damaged cards: reading's refusals come first, and the list
 //! stays (02, E1).
 
-mod rule;
-mod support;
-
+use crate::{rule, support};
 use fordcask::{Pixel, Refusal, Series, Sheet, Window};
 use support::blanks::pad_some;
 use support::corrections::{right_held, store_bytes, Held, Image};

@@ -1,8 +1,6 @@
 //! Corrections of hand-made images: each answer and refusal written out (02, E1).
 
-mod rule;
-mod support;
-
+use crate::support;
 use fordcask::{Bands, Corrections, Pixel, Refusal, Series, Sheet, Source, Tiles, Window};
 use fordcask::{CARD_LENGTH, TILE_LENGTH};
 use support::make::{all_chart, card};

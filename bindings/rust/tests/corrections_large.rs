@@ -1,8 +1,6 @@
 //! Corrections of the largest images, 999 × 999 tiles (02, E1).
 
-mod rule;
-mod support;
-
+use crate::support;
 use fordcask::{Corrections, Pixel, Series, Sheet, Tiles, Window, TILE_LENGTH};
 use support::corrections::Image;
 use support::index::{any_window, good_index};

@@ -1,9 +1,7 @@
 //! Lengths and counts of all buffers, right and wrong, alone and together: 6, and nothing else is
 //! looked at before it (02, E1).
 
-mod rule;
-mod support;
-
+use crate::support;
 use fordcask::{Corrections, Pixel, Refusal, Series, Sheet, Tiles, Window, TILE_LENGTH};
 use support::corrections::Image;
 use support::make::{all_chart, card};

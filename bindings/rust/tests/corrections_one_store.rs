@@ -1,9 +1,7 @@
 //! Corrections as one list and one store: the corrected tiles first, the base's after them.
 //! Document 01's questions on these must answer what the new ones do (02, E1).
 
-mod rule;
-mod support;
-
+use crate::support;
 use fordcask::{Sheet, Source, Tiles, TILE_LENGTH};
 use support::ask_corrections::{look_ups, missing};
 use support::corrections::{every_window, pixel_of_each, right_held, store_bytes, Held};

@@ -1,9 +1,7 @@
 //! The order of the refusals with corrections: reading's, the base's 6, the corrections' 6, 12, 13,
 //! 15 of the correction, 14, 15 of the index (02, E1).
 
-mod rule;
-mod support;
-
+use crate::support;
 use fordcask::{Corrections, Pixel, Record, Refusal, Series, Sheet, Tiles, Window, TILE_LENGTH};
 use support::make::{all_chart, card};
 use support::no_blanks;

@@ -1,8 +1,6 @@
 //! Setting one entry, the list compared whole (02, E1).
 
-mod rule;
-mod support;
-
+use crate::support;
 use fordcask::{Series, Sheet};
 use support::corrections::{any_held, right_held};
 use support::make::{all_chart, card, chart, overview, town_chart, Maker};

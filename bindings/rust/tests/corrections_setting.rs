@@ -1,9 +1,7 @@
 //! Setting one entry touches that entry only and changes look-ups in that tile only; these answer
 //! from the new entry (02, E1). The library is compared with itself, before and after.
 
-mod rule;
-mod support;
-
+use crate::support;
 use fordcask::{Pixel, Source, Window, TILE_LENGTH};
 use support::ask_corrections::{look_ups, missing, Part};
 use support::corrections::{every_window, has_tile, pixel_of_each, right_held, store_bytes};

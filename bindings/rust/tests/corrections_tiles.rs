@@ -1,9 +1,7 @@
 //! Look-up and bands, corrected first, over lists and stores of every kind, compared with the rule
 //! (02, E1).
 
-mod rule;
-mod support;
-
+use crate::support;
 use fordcask::{Corrections, Pixel, Series, Sheet, Source, Tiles, TILE_LENGTH};
 use support::corrections::{any_held, pixel_of_each, store_bytes, store_of, Image};
 use support::make::{all_chart, card, chart, overview, pixel, town_chart, Maker};

@@ -1,8 +1,6 @@
 //! Windows over lists of every kind, corrected first, compared with the rule (02, E1).
 
-mod rule;
-mod support;
-
+use crate::support;
 use fordcask::{Corrections, Record, Series, Sheet, Tiles, Window};
 use support::corrections::{any_held, Image};
 use support::index::any_window;

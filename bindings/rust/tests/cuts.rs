@@ -1,8 +1,6 @@
 //! Demand 3 by running, and the part two cards have in common, in each pair alone (02, E8).
 
-mod rule;
-mod support;
-
+use crate::{rule, support};
 use fordcask::{OnCard, Series, Sheet};
 use support::cuts::{common_pixels, cut, list, pixel_with, Ends};
 use support::make::{all_chart, card, chart, overview, pixel, record, scale, town_chart};

@@ -1,8 +1,6 @@
 //! Index check and windows over indexes of every kind, compared with the rule.
 
-mod rule;
-mod support;
-
+use crate::support;
 use fordcask::{Series, Sheet, Tiles, Window};
 use support::index::{any_window, good_index, index_of, small};
 use support::make::{all_chart, card, chart, overview, town_chart, Maker};

@@ -1,8 +1,6 @@
 //! The list calls in both pairs: equal to the single calls, with lengths of every kind.
 
-mod rule;
-mod support;
-
+use crate::support;
 use fordcask::{Pixel, Position, Series, Sheet};
 use support::ask_lists::{pixels, positions, OLD_POSITION};
 use support::make::{all_chart, card, chart, overview, pixel, record, town_chart, Maker};

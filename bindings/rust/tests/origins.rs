@@ -1,8 +1,6 @@
 //! Alignment, which refuses 24 at the town scales (02, E13), and offset, compared with the rule.
 
-mod rule;
-mod support;
-
+use crate::{rule, support};
 use fordcask::{Position, Series};
 use support::angles::{any_latitude, any_longitude, latitudes, longitudes};
 use support::make::{chart, BAD_SCALES, BAD_ZONES};

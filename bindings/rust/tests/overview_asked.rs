@@ -1,8 +1,6 @@
 //! Every question on cards of factors other than 1, good and damaged (02, E4).
 
-mod rule;
-mod support;
-
+use crate::{rule, support};
 use fordcask::{Pixel, Position, Series, Sheet, Tiles, Window};
 use support::ask_all::{ask_all, QUESTIONS};
 use support::ask_lists::{pixels, positions};

@@ -1,9 +1,7 @@
 //! Cards of factors other than 1: read, written, both round trips, and 9 where the factor stated
 //! is another one (02, E4).
 
-mod rule;
-mod support;
-
+use crate::{rule, support};
 use fordcask::{read_card, write_card, Refusal, Series};
 use support::edges::greatest_scale;
 use support::make::{all_chart, card, changes_of, overview, record, scale, town_overview};

@@ -1,9 +1,7 @@
 //! Demand 3 for cards of one scale, one zone and one factor other than 1, in each pair alone
 //! (02, E4 and E8).
 
-mod rule;
-mod support;
-
+use crate::support;
 use fordcask::{Series, Sheet};
 use support::cuts::{common_pixels, list, Ends};
 use support::edges::greatest_scale;

@@ -2,9 +2,7 @@
 //! position, both in the corner pair: distances are compared exactly, by trying places (02, E4 and
 //! E8; 01, "Origins").
 
-mod rule;
-mod support;
-
+use crate::{rule, support};
 use fordcask::{Card, OnCard, Pair, Pixel, Position, Series, Sheet};
 use support::cuts::{over, place_at};
 use support::make::{all_chart, card, chart, overview, pixel, record, ZONES};

@@ -1,8 +1,6 @@
 //! Each refusal against all that follow it, in reading and writing (02, E4 and E13).
 
-mod rule;
-mod support;
-
+use crate::{rule, support};
 use fordcask::{Record, Series};
 use support::faults::{compatible, faults_of, spoil_all, FAULTS};
 use support::make::{all_chart, card, overview, record, BAD_FACTORS, BAD_SCALES, BAD_ZONES};

@@ -1,9 +1,7 @@
 //! The overview question's refusals, each against those that follow it: the chart's card, the
 //! overview's card, 12 and 13 of the chart, 12 and 13 of the overview (02, E4).
 
-mod rule;
-mod support;
-
+use crate::{rule, support};
 use fordcask::{Pair, Pixel, Position, Record, Series, Sheet};
 use support::cuts::place_at;
 use support::faults::{compatible, spoil_all, FAULTS};

@@ -1,9 +1,7 @@
 //! The overview pixel of a chart's pixel, compared with the rule and with its two steps in the
 //! corner pair (02, E4 and E8).
 
-mod rule;
-mod support;
-
+use crate::{rule, support};
 use fordcask::{OverviewPixel, Pair, Pixel, Position, Record, Series, Sheet};
 use support::cuts::{over, place_at};
 use support::edges::greatest_scale;

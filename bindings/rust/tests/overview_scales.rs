@@ -1,9 +1,7 @@
 //! Scale, factor and product on both sides of each edge in every question that takes them, and
 //! the order of the refusals: 1, 24, 17, 1 again, then the question's own (02, E4 and E13).
 
-mod rule;
-mod support;
-
+use crate::{rule, support};
 use fordcask::{Pixel, Series, Sheet};
 use support::ask_all::{ask_all, QUESTIONS};
 use support::edges::{first, of_scale, of_series, of_zone, scales_at, FACTOR_EDGES};

@@ -1,8 +1,6 @@
 //! The spacing of an overview, that of scale 1:(S × k), and what is read from it (02, E4).
 
-mod rule;
-mod support;
-
+use crate::{rule, support};
 use fordcask::{align, cover, rectangle, spacing, Series, Spacing};
 use support::angles::{any_latitude, any_longitude, cover_ends};
 use support::edges::greatest_scale;

@@ -1,8 +1,6 @@
 //! The corner pair and the centre pair (02, E8): the worked card, ties, and where the two differ.
 
-mod rule;
-mod support;
-
+use crate::{rule, support};
 use fordcask::{OverviewPixel, Pair, Pixel, Position, Refusal, Series, Sheet};
 use support::cuts::over;
 use support::make::{all_chart, card, chart, overview, pixel, record};

@@ -1,8 +1,6 @@
 //! Each pair alone gives a pixel back from its position, and no drift down long lists (02, E8).
 
-mod rule;
-mod support;
-
+use crate::{rule, support};
 use fordcask::{OnCard, Pixel, Series, Sheet};
 use support::cuts::{cut, near_place, walk, Ends};
 use support::make::{all_chart, card, overview, record, toward_ends, town_overview, with_edges};

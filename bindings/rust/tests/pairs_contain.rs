@@ -1,8 +1,6 @@
 //! The centre pair's pixel is the one that contains the position (02, E8), held to inequalities.
 
-mod rule;
-mod support;
-
+use crate::{rule, support};
 use fordcask::{Card, Pair, Pixel, Position, Record, Series, Sheet};
 use support::contain::{contains, of_chart, tried};
 use support::make::{chart, overview, record, toward_ends, town_chart, town_overview, Maker};

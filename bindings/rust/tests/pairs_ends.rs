@@ -1,8 +1,6 @@
 //! The date line and the poles in the corner pair and the centre pair (02, E8).
 
-mod rule;
-mod support;
-
+use crate::{rule, support};
 use fordcask::{Pair, Pixel, Position, Refusal, Series, Sheet};
 use support::make::{all_chart, card, scale, ZONES};
 use support::{no_blanks, seeded, Ask, Random};

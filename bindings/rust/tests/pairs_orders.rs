@@ -1,8 +1,6 @@
 //! The order of the refusals in both pairs (02, E8): reading's, then 4, 5, then 12 or 13.
 
-mod rule;
-mod support;
-
+use crate::{rule, support};
 use fordcask::{Pixel, Position, Record, Refusal, Series, Sheet};
 use support::make::{all_chart, card};
 use support::{no_blanks, PAIRS};

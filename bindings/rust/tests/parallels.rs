@@ -1,8 +1,6 @@
 //! Cards round a whole parallel, compared with the rule.
 
-mod rule;
-mod support;
-
+use crate::{rule, support};
 use fordcask::{Pixel, Position, Series, Sheet};
 use support::make::{all_chart, card};
 use support::Ask;

@@ -1,9 +1,7 @@
 //! Place, pixel to position and position to pixel at every edge, compared with the rule in both
 //! pairs.
 
-mod rule;
-mod support;
-
+use crate::{rule, support};
 use fordcask::{Pixel, Position, Record, Series, Sheet};
 use support::make::{around, card, chart, edge_columns, edge_rows, overview, pixel, record};
 use support::make::{town_chart, with_edges, Maker, SCALES, ZONES};

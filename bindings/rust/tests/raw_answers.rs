@@ -1,9 +1,7 @@
 //! The C answers field by field: value parts are 0 in a refusal, the total of blanks too (02, E2),
 //! and unused slots are 0.
 
-mod rule;
-mod support;
-
+use crate::{rule, support};
 use fordcask::{raw, Card, OnCard, Refusal, Series};
 use support::blanks::pad_all;
 use support::make::{all_chart, card, changes_of, scale, town_scale};

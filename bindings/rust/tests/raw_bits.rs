@@ -1,10 +1,7 @@
 //! The C answers of the questions on presence bits, field by field: all but number and place is 0
 //! in a refusal, the total of blanks too; offset and length are those of the tile (02, E2 and E7).
 
-mod bits_support;
-mod rule;
-mod support;
-
+use crate::{bits_support, rule, support};
 use std::collections::BTreeSet;
 
 use bits_support::{any_bits, BitImage};

@@ -1,9 +1,7 @@
 //! The total of blanks in each block of the C entry points: told in an answer, 0 in each refusal of
 //! the card or of the question, with all else (02, E2). The layout is the header's.
 
-mod rule;
-mod support;
-
+use crate::support;
 use std::collections::BTreeSet;
 use std::mem::{offset_of, size_of};
 

@@ -1,9 +1,7 @@
 //! The C answers of the questions on corrections, field by field: all but number and place is 0 in
 //! a refusal, the total of blanks too; offset and length are those of the tile (02, E1 and E2).
 
-mod rule;
-mod support;
-
+use crate::{rule, support};
 use std::collections::BTreeSet;
 use std::mem::{offset_of, size_of};
 

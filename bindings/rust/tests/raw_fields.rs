@@ -1,9 +1,7 @@
 //! The C answers of the questions in both pairs, field by field: all but number and place is 0 in a
 //! refusal, the total of blanks too (02, E2 and E8).
 
-mod rule;
-mod support;
-
+use crate::{rule, support};
 use fordcask::{raw, OnCard, Pair, Pixel, Place, Position, Refusal, Sheet};
 use support::blanks::pad_some;
 use support::damage::change_some;

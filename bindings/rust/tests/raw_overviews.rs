@@ -1,9 +1,7 @@
 //! The C answers with factors other than 1, field by field: in a refusal all but number and place
 //! is 0, and lent buffers stay (02, E4).
 
-mod rule;
-mod support;
-
+use crate::{rule, support};
 use fordcask::{raw, OverviewPixel, Pair, Pixel, Refusal, Series};
 use support::blanks::pad_some;
 use support::cuts::over;

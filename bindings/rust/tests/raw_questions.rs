@@ -1,9 +1,7 @@
 //! The C answers of the questions on a card, field by field, and lists of odd length; the total of
 //! blanks is told in an answer and is 0 in a refusal (02, E2).
 
-mod rule;
-mod support;
-
+use crate::{rule, support};
 use fordcask::{raw, Pair, Series};
 use support::blanks::pad_all;
 use support::make::{all_chart, card, changes, changes_of};

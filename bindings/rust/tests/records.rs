@@ -1,8 +1,6 @@
 //! Records to be written, good and broken in each way; 24 at the town scales (02, E13).
 
-mod rule;
-mod support;
-
+use crate::{rule, support};
 use fordcask::{Record, Series};
 use support::make::{chart, name, record};
 use support::{seeded, Ask, Random};

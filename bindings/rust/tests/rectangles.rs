@@ -1,8 +1,6 @@
 //! Rectangles, compared with the rule at both sides of every edge, and by their meaning (02, E3).
 
-mod rule;
-mod support;
-
+use crate::{rule, support};
 use std::collections::BTreeSet;
 
 use fordcask::Refusal;

@@ -1,8 +1,6 @@
 //! Look-up and bands over indexes and stores of every kind, compared with the rule.
 
-mod rule;
-mod support;
-
+use crate::support;
 use fordcask::{Pixel, Series, Sheet, Tiles};
 use support::index::{index_of, small};
 use support::make::{all_chart, card, chart, overview, pixel, town_chart, Maker};

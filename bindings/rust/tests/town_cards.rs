@@ -1,8 +1,6 @@
 //! Cards at the town scales open and keep their answers; round trips from 10,000 up (02, E13).
 
-mod rule;
-mod support;
-
+use crate::support;
 use fordcask::{read_card, write_card, Refusal, Series};
 use support::angles::{any_latitude, cover_ends};
 use support::make::{card, record, scale, town_scale, SCALES, ZONES};

@@ -1,8 +1,6 @@
 //! At the town scales, 1:5,000 to 1:9,999, writing and alignment refuse 24 after 1 (02, E13).
 
-mod rule;
-mod support;
-
+use crate::{rule, support};
 use fordcask::{Record, Series};
 use support::make::{all_chart, card, record, town_chart, BAD_ZONES, ZONES};
 use support::{seeded, Ask, Random, RETIRED};

@@ -1,8 +1,6 @@
 //! The worked card of document 01: every one-byte change and every length.
 
-mod rule;
-mod support;
-
+use crate::support;
 use fordcask::Series;
 use support::make::{all_chart, card, changes, changes_of};
 use support::{seeded, Ask, WORKED, WORKED_SERIES};

@@ -1,8 +1,6 @@
 //! Questions on damaged cards: reading's refusals come first. And every pixel of the worked card.
 
-mod rule;
-mod support;
-
+use crate::{rule, support};
 use fordcask::{Pixel, Position, Series, Sheet, Tiles, Window};
 use support::damage::change_some;
 use support::make::{all_chart, card, changes_of, chart, record, town_chart, Maker};

@@ -1,8 +1,6 @@
 //! Spacing, basic zone and cover, compared with the rule; the rows of the zone table.
 
-mod rule;
-mod support;
-
+use crate::support;
 use fordcask::{Refusal, Series};
 use support::angles::{any_latitude, cover_ends, latitudes};
 use support::make::{around, scale, BAD_SCALES, BAD_ZONES, SCALES};

@@ -3,7 +3,6 @@ use crate::Said;
 use crate::WindowAnswer;
 use crate::bad_entry;
 use crate::either::correction_at;
-use crate::number_says;
 use crate::scan::reaches_past;
 use crate::scan::view;
 use card::Card;
@@ -47,8 +46,11 @@ fn row_says(
         return bit_says(words, end, tile);
     }
     let correction = correction_at(corrections, tile);
+    if corrected < correction {
+        return Said::Above;
+    }
     if correction != 0 {
-        return number_says(corrected, correction);
+        return Said::Stored(correction);
     }
     bit_says(words, end, tile)
 }

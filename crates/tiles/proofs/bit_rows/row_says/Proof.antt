@@ -3,11 +3,12 @@ use mathlib.Core.Path.{_≡_, sym, ap, subst, _∙_}
 use mathlib.Core.Bool.{Bool}
 use mathlib.Core.List.{List, []}
 use Prim.Native.Nat.{ℕ}
+use native.Mathlib.Omega.{arith}
 use borrow.Author.Tests.{not-true}
 use lib.ListN.{getD}
-use Rattle.tiles.specs.Index.{said}
+use Rattle.tiles.specs.declared.Said.{Said}
 use Rattle.tiles.specs.Steps.{Beside}
-use Rattle.tiles.proofs.Sources.{with-none, with-some}
+use Rattle.tiles.proofs.Sources.{with-none, with-above, with-stored}
 use borrow.Author.Needs.{needs}
 use Rattle.tiles.proofs.bit_rows.row_says.Statement.{statement}
 use Rattle.tiles.proofs.bit_rows.row_says.Tie as tie
@@ -20,15 +21,22 @@ returns c =
     c .bit-says .ensures ∙ sym (with-none (s .args .corrections .now) (s .args .tile) (s .args .corrected) _ (ap (λ (l : List ℕ). getD l (s .args .tile) 0) e))
 
 returns-2 : tie.Need-returns-2
-returns-2 c = let e = c .before .before .correction-at .ensures in
-    c .number-says .ensures ∙ ap (said _) e ∙ sym (with-some _ _ _ _ (λ z. c .before .if2 .taken (e ∙ z)))
+returns-2 c = let a = c .before .before .before .before .before .args in
+    sym (with-above (a .corrections .now) (a .tile) (a .corrected) _ (omega (arith, c .if2 .taken, c .before .correction-at .ensures)))
 
 returns-3 : tie.Need-returns-3
-returns-3 c = let a = c .before .before .before .before .before .before .args in
+returns-3 c =
+    let a = c .before .before .before .before .before .before .args in
+    let e = c .before .before .correction-at .ensures in
+    sym (with-stored (a .corrections .now) (a .tile) (a .corrected) _ (λ z. c .if3 .taken (e ∙ z)) (omega (arith, c .before .if2 .left, e))
+    ∙ ap Said.Stored (sym e))
+
+returns-4 : tie.Need-returns-4
+returns-4 c = let a = c .before .before .before .before .before .before .before .args in
     c .bit-says2 .ensures
-    ∙ sym (with-none (a .corrections .now) (a .tile) (a .corrected) _ (sym (c .before .before .correction-at .ensures) ∙ c .before .if2 .left))
+    ∙ sym (with-none (a .corrections .now) (a .tile) (a .corrected) _ (sym (c .before .before .before .correction-at .ensures) ∙ c .before .if3 .left))
 
 pub row-says-spec : {M : Type 1} → statement M
 row-says-spec =
     tie.close
-    (tie.spec (λ c κs. search needs) returns (λ c κs. search needs) (λ c κs. search needs) returns-2 (λ c κs. search needs) returns-3)
+    (tie.spec (λ c κs. search needs) returns (λ c κs. search needs) returns-2 returns-3 (λ c κs. search needs) returns-4)
