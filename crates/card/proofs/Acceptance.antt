@@ -79,7 +79,8 @@ module _ (fill : Fill) (series : Series) (s : List ℕ) (k : Card) (blanks : ℕ
   by-origin a b sp po wh ju co (some n) (some m) f g e = go (extentsIn a b n s) refl e
     where
       go : (t : Bool) → extentsIn a b n s ≡ t
-          → cond t (acceptedCard (cardOf series a b n m s) (totalBlanks layout s)) (refusedCard (refusal 11)) ≡ acceptedCard k blanks → ReadTo fill series s k blanks
+          → cond t (acceptedCard (cardOf series a b n m s) (totalBlanks layout s)) (refusedCard (refusal 11))
+          ≡ acceptedCard k blanks → ReadTo fill series s k blanks
       go false t e = never (refusal 11) k blanks e
       go true t e =
           let c = and-eq-true-iff (eqb (numberIn ARV s) a) (eqb (numberIn BRV s) b) .0 co in

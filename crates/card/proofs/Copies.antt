@@ -183,7 +183,8 @@ module _ (s t : List ℕ) where
       let first = orElse-both (judgeField Fill.Blanks STR s) _ e in
       let second = orElse-both (judgeField Fill.Blanks ARV s) _ (first .1) in
       let third = orElse-both (judgeField Fill.Blanks BRV s) _ (second .1) in
-      let past = sym (walk-same (drop 3 others) rest) ∙ orElse-both (judgeField Fill.Blanks PSO s) _ (orElse-both (judgeField Fill.Blanks LSO s) _ (third .1) .1) .1 in
+      let past = sym (walk-same (drop 3 others) rest)
+      ∙ orElse-both (judgeField Fill.Blanks PSO s) _ (orElse-both (judgeField Fill.Blanks LSO s) _ (third .1) .1) .1 in
       ap₂ orElse (sym (judged-same STR str) ∙ first .0)
       (ap₂ orElse (sym (judged-same ARV arv) ∙ second .0)
       (ap₂ orElse (sym (judged-same BRV brv) ∙ third .0)

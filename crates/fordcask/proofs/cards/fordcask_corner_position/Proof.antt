@@ -18,13 +18,17 @@ returns : tie.Need-returns
 returns c =
     let s = c .before .before .before .before .before .before .before .before in
     rw (← c .before .before .before .before .before .before .read-card .ensures, c .before .before .before .enum-told .given .1)
-    (c .position-on .ensures ∙ ap (withTotal _) (c .before .into-parts .ensures ∙ ap positionReport (c .before .before .position-in .ensures ∙ pair-asked (positionOf Pair.Corner _) (s .fits .row) (s .fits .column))))
+    (c .position-on .ensures
+    ∙ ap (withTotal _) (c .before .into-parts .ensures ∙ ap positionReport (c .before .before .position-in .ensures ∙ pair-asked (positionOf Pair.Corner _) (s .fits .row) (s .fits .column))))
 
 returns-2 : tie.Need-returns-2
-returns-2 c = rw (← c .before .before .before .before .before .before .read-card .ensures, c .before .before .before .verdict .given .1) (c .position-on2 .ensures ∙ ap (withTotal _) (c .before .into-parts2 .ensures))
+returns-2 c =
+    rw (← c .before .before .before .before .before .before .read-card .ensures, c .before .before .before .verdict .given .1)
+    (c .position-on2 .ensures ∙ ap (withTotal _) (c .before .into-parts2 .ensures))
 
 pub fordcask-corner-position-spec : {M : Type 1} → statement M
 fordcask-corner-position-spec =
     tie.close
-    (tie.spec (λ c κs. search needs) (λ c. search needs) position-in-requires (λ c κs. search needs) (λ c κs. search needs) (λ c. search needs) (λ c κs. search needs) (λ c κs. search needs)
+    (tie.spec (λ c κs. search needs) (λ c. search needs) position-in-requires (λ c κs. search needs) (λ c κs. search needs) (λ c. search needs)
+    (λ c κs. search needs) (λ c κs. search needs)
     returns returns-2)

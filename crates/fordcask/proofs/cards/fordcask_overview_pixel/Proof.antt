@@ -46,7 +46,8 @@ returns c =
 returns-2 : tie.Need-returns-2
 returns-2 c =
     rw (← c .before .before .before .before .before .before .read-card .ensures, c .before .before .before .verdict .given .1)
-    (c .overview-on .ensures ∙ ap (withTotal 0) (ap (withTotal 0) (c .before .into-parts .ensures)) ∙ rw (none-passed (c .before .before .before .verdict .given .0 .0 .number)))
+    (c .overview-on .ensures
+    ∙ ap (withTotal 0) (ap (withTotal 0) (c .before .into-parts .ensures)) ∙ rw (none-passed (c .before .before .before .verdict .given .0 .0 .number)))
 
 pub fordcask-overview-pixel-spec : {M : Type 1} → statement M
 fordcask-overview-pixel-spec =

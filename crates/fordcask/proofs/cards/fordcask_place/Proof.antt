@@ -17,13 +17,17 @@ returns : tie.Need-returns
 returns c =
     let s = c .before .before .before .before .before .before .before .before in
     rw (← c .before .before .before .before .before .before .read-card .ensures, c .before .before .before .enum-told .given .1)
-    (c .place-on .ensures ∙ ap (withTotal _) (c .before .into-parts .ensures ∙ ap placeReport (c .before .before .place .ensures ∙ pair-asked (placeOf _) (s .fits .row) (s .fits .column))))
+    (c .place-on .ensures
+    ∙ ap (withTotal _) (c .before .into-parts .ensures ∙ ap placeReport (c .before .before .place .ensures ∙ pair-asked (placeOf _) (s .fits .row) (s .fits .column))))
 
 returns-2 : tie.Need-returns-2
-returns-2 c = rw (← c .before .before .before .before .before .before .read-card .ensures, c .before .before .before .verdict .given .1) (c .place-on2 .ensures ∙ ap (withTotal _) (c .before .into-parts2 .ensures))
+returns-2 c =
+    rw (← c .before .before .before .before .before .before .read-card .ensures, c .before .before .before .verdict .given .1)
+    (c .place-on2 .ensures ∙ ap (withTotal _) (c .before .into-parts2 .ensures))
 
 pub fordcask-place-spec : {M : Type 1} → statement M
 fordcask-place-spec =
     tie.close
-    (tie.spec (λ c κs. search needs) (λ c. search needs) place-requires (λ c κs. search needs) (λ c κs. search needs) (λ c. search needs) (λ c κs. search needs) (λ c κs. search needs)
+    (tie.spec (λ c κs. search needs) (λ c. search needs) place-requires (λ c κs. search needs) (λ c κs. search needs) (λ c. search needs)
+    (λ c κs. search needs) (λ c κs. search needs)
     returns returns-2)

@@ -18,10 +18,13 @@ returns c =
     (c .window-on .ensures ∙ ap (withTotal _) (c .before .into-parts .ensures ∙ ap windowReport (c .before .before .window .ensures)))
 
 returns-2 : tie.Need-returns-2
-returns-2 c = rw (← c .before .before .before .before .before .before .read-card .ensures, c .before .before .before .verdict .given .1) (c .window-on2 .ensures ∙ ap (withTotal _) (c .before .into-parts2 .ensures))
+returns-2 c =
+    rw (← c .before .before .before .before .before .before .read-card .ensures, c .before .before .before .verdict .given .1)
+    (c .window-on2 .ensures ∙ ap (withTotal _) (c .before .into-parts2 .ensures))
 
 pub fordcask-window-spec : {M : Type 1} → statement M
 fordcask-window-spec =
     tie.close
-    (tie.spec (λ c κs. search needs) (λ c. search needs) window-requires (λ c κs. search needs) (λ c κs. search needs) (λ c. search needs) (λ c κs. search needs) (λ c κs. search needs)
+    (tie.spec (λ c κs. search needs) (λ c. search needs) window-requires (λ c κs. search needs) (λ c κs. search needs) (λ c. search needs)
+    (λ c κs. search needs) (λ c κs. search needs)
     returns returns-2)
