@@ -19,7 +19,8 @@ returns c =
     let s = c .before .before .before .before .before .before .before .before in
     rw (← c .before .before .before .before .before .before .read-card .ensures, c .before .before .before .enum-told .given .1)
     (c .pixel-on .ensures
-    ∙ ap (withTotal _) (c .before .into-parts .ensures ∙ ap pixelReport (c .before .before .pixel-in .ensures ∙ pair-asked (pixelOf Pair.Corner _) (s .fits .lat) (s .fits .lon))))
+    ∙ ap (withTotal _) (c .before .into-parts .ensures
+    ∙ ap pixelReport (c .before .before .pixel-in .ensures ∙ pair-asked (pixelOf Pair.Corner _) (s .fits .lat) (s .fits .lon))))
 
 returns-2 : tie.Need-returns-2
 returns-2 c =
