@@ -1,4 +1,4 @@
--- An accepted card's index is checked, and a refused card leaves the marks. Assumes nothing.
+-- An accepted card's list is converted, and a refused card leaves the words. Assumes nothing.
 use mathlib.Core.Path.{refl, ap, _∙_}
 use Rattle.arc.specs.Refusals.{refusalOf}
 use Rattle.card.proofs.Questions.{card-known}
