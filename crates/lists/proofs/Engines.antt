@@ -2,7 +2,7 @@
 use mathlib.Core.Path.{_≡_, sym, ap, ap₂, _∙_, subst⁻¹}
 use mathlib.Core.Bool.{Bool, true, false}
 use Prim.Native.Nat.{ℕ, _+_, _-_, _*_, _/_, _%_, _≤_, _<_}
-use native.Mathlib.Nat.{mul-le-mul, mul-le-mul-right, lt-of-mul-lt-mul-right, mod-lt, mul-add-div-right, div-add-mod'}
+use native.Mathlib.Nat.{mul-le-mul, mul-le-mul-right, lt-of-mul-lt-mul-right, mod-lt, mul-add-div-right, div-add-mod', div-mul-le-self}
 use native.Mathlib.Omega.{arith}
 use Rattle.whole.specs.Whole.{near}
 use Rattle.whole.proofs.Near.{near-low}
@@ -30,6 +30,11 @@ pub shift-high : (p : Pair) → shiftOf p ≤ 253125
 shift-high Pair.Corner = omega arith
 shift-high Pair.Centre = omega arith
 
+-- ---- what a rounding starts from is below one
+pub start-low : (rest d : ℕ) (off : Bool) → rest < d → startOf rest d off < d
+start-low rest d true h = omega arith
+start-low rest d false h = h
+
 -- ---- a spacing of 512 u, in u
 module _ (x : ℕ) (g : Grid x) where
   pub some : 0 < 2 * (x / 512)
@@ -40,8 +45,7 @@ module _ (x : ℕ) (g : Grid x) where
 
   -- what the rounding starts from is below one part
   pub start-high : (v : ℕ) (off : Bool) → startOf (v % (2 * (x / 512))) (2 * (x / 512)) off < 2 * (x / 512)
-  start-high v true = omega (arith, some)
-  start-high v false = mod-lt v some
+  start-high v off = start-low (v % (2 * (x / 512))) (2 * (x / 512)) off (mod-lt v some)
 
   -- the error over a card's pixels stays below one part
   pub close : (i : ℕ) → i < 127872 → (i + 1) * (2 * (x / 512)) ≤ 68719476736
@@ -50,18 +54,22 @@ module _ (x : ℕ) (g : Grid x) where
   pub by-unit : (p : ℕ) → p * x ≡ 512 * (x / 512 * p)
   by-unit p = ap (λ (y : ℕ). p * y) (g .whole) ∙ omega arith
 
-  -- a product of the engine fits 64 bits
-  pub reach : (i R : ℕ) → i ≤ x → R < 2 * (x / 512)
-      → i * scaleUp coarse 506250 (2 * (x / 512)) + scaleUp coarse R (2 * (x / 512)) < 18446744073709551616
-  reach i R h hR =
+  -- a product of the engine fits 63 bits
+  pub reach : (i : ℕ) → i ≤ x → i * scaleUp coarse 506250 (2 * (x / 512)) < 9223372036854775808
+  reach i h =
       let n : ℕ = 2 * (x / 512) in
       let rate : ℕ = scaleUp coarse 506250 n in
-      let start : ℕ = scaleUp coarse R n in
       let p : i * rate ≤ 256 * n * rate = mul-le-mul-right rate (omega (arith, g .whole)) in
       let r : rate * n < 506250 * 68719476736 + n = scale-high coarse n some 506250 in
-      let s : start * n < R * 68719476736 + n = scale-high coarse n some R in
-      let t : start < 68719476737 = lt-of-mul-lt-mul-right n (omega arith) in
       omega (arith, most)
+
+  -- less than a whole hundredth, in parts of it
+  pub part-low : (R : ℕ) → R < 2 * (x / 512) → scaleUp coarse R (2 * (x / 512)) < 68719476736
+  part-low R h =
+      let n : ℕ = 2 * (x / 512) in
+      let start : ℕ = scaleUp coarse R n in
+      let s : start * n < R * 68719476736 + n = scale-high coarse n some R in
+      lt-of-mul-lt-mul-right n (omega (arith, most))
 
 -- ---- what `engine_of` answered
 pub engine-card : (p : Pair) (k : Card) {e : Engine} → e ≡ engineOf p k → e .card ≡ k
@@ -118,22 +126,45 @@ module _ (e : Engine) (made : Made e) where
     le : r < k .north
     le = omega (arith, down-high k laid)
 
-    steps : (r * e .rows .rate + e .rows .start) / 68719476736 ≡ (n - 1 - top % n + 506250 * r) / n
-    steps =
-        ap (λ (x : Axis). (r * x .rate + x .start) / 68719476736) rows-are
-        ∙ fixed coarse n (some (k .b) (laid .rows)) 506250 (n - 1 - top % n) r (close (k .b) (laid .rows) r (omega (arith, laid .down-most)))
+    abbrev rowPart : ℕ
+    rowPart = scaleUp coarse (n - 1 - top % n) n
 
-    pub row-fits-64 : r * e .rows .rate + e .rows .start < 18446744073709551616
-    row-fits-64 =
-        rw rows-are (reach (k .b) (laid .rows) r (n - 1 - top % n) (omega (arith, le, north-high k laid)) (omega (arith, some (k .b) (laid .rows))))
+    abbrev rowRate : ℕ
+    rowRate = scaleUp coarse 506250 n
 
-    pub row-under : (r * e .rows .rate + e .rows .start) / 68719476736 ≤ e .rows .base
-    row-under = rw (steps, rows-are) (quotient-under n (some (k .b) (laid .rows)) top (506250 * r) (omega (arith, le, shift-high (e .pair))))
+    row-part : rowPart < 68719476736
+    row-part = part-low (k .b) (laid .rows) (n - 1 - top % n) (omega (arith, some (k .b) (laid .rows)))
 
-    pub row-angle : e .rows .base - (r * e .rows .rate + e .rows .start) / 68719476736
-        ≡ near ((e .card .north - r) * circle - inward (e .pair)) (e .card .b)
+    row-rate : e .rows .rate ≡ rowRate
+    row-rate = ap (λ (x : Axis). x .rate) rows-are
+
+    row-from : e .rows .from ≡ top / n * 68719476736 + (68719476735 - rowPart)
+    row-from = ap (λ (x : Axis). x .from) rows-are
+
+    steps : (r * rowRate + rowPart) / 68719476736 ≡ (n - 1 - top % n + 506250 * r) / n
+    steps = fixed coarse n (some (k .b) (laid .rows)) 506250 (n - 1 - top % n) r (close (k .b) (laid .rows) r (omega (arith, laid .down-most)))
+
+    under : (r * rowRate + rowPart) / 68719476736 ≤ top / n
+    under = rw steps (quotient-under n (some (k .b) (laid .rows)) top (506250 * r) (omega (arith, le, shift-high (e .pair))))
+
+    pub row-fits-64 : r * e .rows .rate < 18446744073709551616
+    row-fits-64 = rw row-rate (let t = reach (k .b) (laid .rows) r (omega (arith, le, north-high k laid)) in omega arith)
+
+    pub row-under : r * e .rows .rate ≤ e .rows .from
+    row-under = rw (row-rate, row-from) (omega (arith, under, row-part))
+
+    pub row-from-high : e .rows .from < 4453022161212276736
+    row-from-high =
+        let high : top / n < 64800001 = lt-of-mul-lt-mul-right n (omega (arith, div-mul-le-self top n, some (k .b) (laid .rows), north-high k laid, laid .rows .whole)) in
+        rw row-from (omega (arith, high, row-part))
+
+    pub row-angle : (e .rows .from - r * e .rows .rate) / 68719476736 ≡ near ((e .card .north - r) * circle - inward (e .pair)) (e .card .b)
     row-angle =
-        ap₂ _-_ (ap (λ (x : Axis). x .base) rows-are) steps
+        let split : (top / n * 68719476736 + (68719476735 - rowPart) - r * rowRate) / 68719476736 ≡ top / n - (r * rowRate + rowPart) / 68719476736 =
+        omega (arith, under, row-part) in
+        ap₂ (λ (x y : ℕ). (x - r * y) / 68719476736) row-from row-rate
+        ∙ split
+        ∙ ap (λ (q : ℕ). top / n - q) steps
         ∙ quotient-down n (some (k .b) (laid .rows)) top (506250 * r) (omega (arith, le, shift-high (e .pair)))
         ∙ ap (λ (y : ℕ). y / n) (omega (arith, le, shift-high (e .pair)))
         ∙ sym (angle-unit u (506250 * (k .north - r) - s))
@@ -150,14 +181,33 @@ module _ (e : Engine) (made : Made e) where
     abbrev left : ℕ
     left = 506250 * k .east + s + v
 
-    pub column-fits-64 : c * e .columns .rate + e .columns .start < 18446744073709551616
-    column-fits-64 =
-        rw columns-are (reach (k .a) (laid .columns) c (left % m) (omega (arith, laid .across)) (mod-lt left (some (k .a) (laid .columns))))
+    abbrev columnPart : ℕ
+    columnPart = scaleUp coarse (left % m) m
 
-    pub column-angle : e .columns .base + (c * e .columns .rate + e .columns .start) / 68719476736
+    abbrev columnRate : ℕ
+    columnRate = scaleUp coarse 506250 m
+
+    column-rate : e .columns .rate ≡ columnRate
+    column-rate = ap (λ (x : Axis). x .rate) columns-are
+
+    column-from : e .columns .from ≡ left / m * 68719476736 + columnPart
+    column-from = ap (λ (x : Axis). x .from) columns-are
+
+    pub column-fits-63 : c * e .columns .rate < 9223372036854775808
+    column-fits-63 = rw column-rate (reach (k .a) (laid .columns) c (omega (arith, laid .across)))
+
+    pub column-from-high : e .columns .from < 8933531975680000000
+    column-from-high =
+        let high : left / m < 130000000 = lt-of-mul-lt-mul-right m (omega (arith, div-mul-le-self left m, some (k .a) (laid .columns), east-high k laid, shift-high (e .pair), laid .columns .whole)) in
+        rw column-from (omega (arith, high, part-low (k .a) (laid .columns) (left % m) (mod-lt left (some (k .a) (laid .columns)))))
+
+    pub column-angle : (e .columns .from + c * e .columns .rate) / 68719476736
         ≡ near ((e .card .east + c) * circle + inward (e .pair)) (e .card .a)
     column-angle =
-        ap (λ (x : Axis). x .base + (c * x .rate + x .start) / 68719476736) columns-are
+        let split : (left / m * 68719476736 + columnPart + c * columnRate) / 68719476736 ≡ left / m + (c * columnRate + columnPart) / 68719476736 =
+        omega arith in
+        ap₂ (λ (x y : ℕ). (x + c * y) / 68719476736) column-from column-rate
+        ∙ split
         ∙ ap (λ (q : ℕ). left / m + q)
         (fixed coarse m (some (k .a) (laid .columns)) 506250 (left % m) c (close (k .a) (laid .columns) c (omega (arith, laid .across-most))))
         ∙ sym (mul-add-div-right (some (k .a) (laid .columns)) (left / m) (left % m + 506250 * c))

@@ -47,66 +47,38 @@ lists-fit p o n e =
     let t = and-eq-true-iff (eqb (p % 2) 0 && leb p o) (leb (entries p) n) .0 e in
     (leb-true p o (and-eq-true-iff (eqb (p % 2) 0) (leb p o) .0 (t .0) .1), leb-true (entries p) n (t .1))
 
--- after i turns of n
-pub record Filled (f : ℕ → Report) (n : ℕ) (out : List ℤ) (num : List ℕ) (i : ℕ) (now : List ℤ) (nums : List ℕ) : Type 0 where
-  pub upto : i ≤ n
-  pub values : now ≡ over (reportValues i f) out
-  pub numbers : nums ≡ over (reportNumbers i f) num
-
+-- ---- one report more
 module _ (f : ℕ → Report) where
-  values-length : ((i : ℕ) → length (f i .values) ≡ 2) → (i : ℕ) → length (reportValues i f) ≡ i * 2
+  pub values-length : ((i : ℕ) → length (f i .values) ≡ 2) → (i : ℕ) → length (reportValues i f) ≡ i * 2
   values-length two i = length-each 2 i (λ (j : ℕ). f j .values) two
 
-  numbers-length : (i : ℕ) → length (reportNumbers i f) ≡ i * 1
+  pub numbers-length : (i : ℕ) → length (reportNumbers i f) ≡ i * 1
   numbers-length i = length-each 1 i (λ (j : ℕ). f j .number ∷ []) (λ j. refl)
 
-  module _ (two : (i : ℕ) → length (f i .values) ≡ 2) (p : ℕ) {out : List ℤ} {num : List ℕ}
-      (fit : listsFit p (length out) (length num) ≡ true) where
-    pub filled-length : {i : ℕ} {now : List ℤ} {nums : List ℕ} → Filled f (entries p) out num i now nums → length now ≡ length out
-    filled-length {i} t =
-        ap length (t .values)
-        ∙ length-over (reportValues i f) out (omega (arith, t .upto, lists-fit p (length out) (length num) fit, values-length two i))
+  -- its values, as the machine holds them
+  pub values-next : ((i : ℕ) → length (f i .values) ≡ 2) → (out : List ℤ) {now : List ℤ} (i : ℕ) → now ≡ over (reportValues i f) out → 2 * i + 1 < length out
+      → (x y : ℤ) → SFits w64 x → SFits w64 y → f i .values ≡ x ∷ y ∷ []
+      → set (set now (2 * i) (toZ w64 (ofZ w64 x))) (2 * i + 1) (toZ w64 (ofZ w64 y)) ≡ over (reportValues (i + 1) f) out
+  values-next two out {now} i t h x y fx fy ev =
+      let vs : List ℤ = reportValues i f in
+      let first : set (over vs out) (2 * i) x ≡ over (vs ++ x ∷ []) out =
+      over-next vs out (2 * i) x (pos 0) (omega (arith, values-length two i)) (omega arith) in
+      let second : set (over (vs ++ x ∷ []) out) (2 * i + 1) y ≡ over ((vs ++ x ∷ []) ++ y ∷ []) out =
+      over-next (vs ++ x ∷ []) out (2 * i + 1) y (pos 0) (omega (arith, values-length two i, length-append vs (x ∷ []))) (omega arith) in
+      ap₂ (λ (a b : ℤ). set (set now (2 * i) a) (2 * i + 1) b) (toZ-ofZ w64 x fx) (toZ-ofZ w64 y fy)
+      ∙ ap (λ (s : List ℤ). set (set s (2 * i) x) (2 * i + 1) y) t
+      ∙ ap (λ (s : List ℤ). set s (2 * i + 1) y) first
+      ∙ second
+      ∙ ap (λ (s : List ℤ). over s out)
+      (append-assoc vs (x ∷ []) (y ∷ []) ∙ ap (λ (s : List ℤ). vs ++ s) (sym ev) ∙ ap (λ (k : ℕ). reportValues k f) (sym (add-one i)))
 
-    pub filled-numbers : {i : ℕ} {now : List ℤ} {nums : List ℕ} → Filled f (entries p) out num i now nums → length nums ≡ length num
-    filled-numbers {i} t =
-        ap length (t .numbers)
-        ∙ length-over (reportNumbers i f) num (omega (arith, t .upto, lists-fit p (length out) (length num) fit, numbers-length i))
-
-    -- room for one entry more
-    pub filled-room : {i : ℕ} {now : List ℤ} {nums : List ℕ} → Filled f (entries p) out num i now nums → i < entries p
-        → (2 * i + 1 < length now) × (i < length nums)
-    filled-room t h = (
-      omega (arith, filled-length t, lists-fit p (length out) (length num) fit),
-      omega (arith, filled-numbers t, lists-fit p (length out) (length num) fit),
-    )
-
-    -- the entry as the machine holds it
-    pub filled-next : {i : ℕ} {now : List ℤ} {nums : List ℕ} → Filled f (entries p) out num i now nums → i < entries p
-        → (x y : ℤ) (z : ℕ) → SFits w64 x → SFits w64 y
-        → f i .values ≡ x ∷ y ∷ [] → f i .number ≡ z
-        → Filled f (entries p) out num (i + 1) (set (set now (2 * i) (toZ w64 (ofZ w64 x))) (2 * i + 1) (toZ w64 (ofZ w64 y))) (set nums i z)
-    filled-next {i} {now} t h x y z fx fy ev en =
-        let vs : List ℤ = reportValues i f in
-        let first : set (over vs out) (2 * i) x ≡ over (vs ++ x ∷ []) out =
-        over-next vs out (2 * i) x (pos 0) (omega (arith, values-length two i)) (omega (arith, lists-fit p (length out) (length num) fit)) in
-        let second : set (over (vs ++ x ∷ []) out) (2 * i + 1) y ≡ over ((vs ++ x ∷ []) ++ y ∷ []) out =
-        over-next (vs ++ x ∷ []) out (2 * i + 1) y (pos 0) (omega (arith, values-length two i, length-append vs (x ∷ [])))
-        (omega (arith, lists-fit p (length out) (length num) fit)) in
-        record {
-          upto = omega arith;
-          values =
-              ap₂ (λ (a b : ℤ). set (set now (2 * i) a) (2 * i + 1) b) (toZ-ofZ w64 x fx) (toZ-ofZ w64 y fy)
-              ∙ ap (λ (s : List ℤ). set (set s (2 * i) x) (2 * i + 1) y) (t .values)
-              ∙ ap (λ (s : List ℤ). set s (2 * i + 1) y) first
-              ∙ second
-              ∙ ap (λ (s : List ℤ). over s out)
-              (append-assoc vs (x ∷ []) (y ∷ []) ∙ ap (λ (s : List ℤ). vs ++ s) (sym ev) ∙ ap (λ (k : ℕ). reportValues k f) (sym (add-one i)));
-          numbers =
-              ap (λ (s : List ℕ). set s i z) (t .numbers)
-              ∙ over-next (reportNumbers i f) num i z 0 (omega (arith, numbers-length i)) (omega (arith, lists-fit p (length out) (length num) fit))
-              ∙ ap (λ (s : List ℕ). over s num)
-              (ap (λ (k : ℕ). reportNumbers i f ++ k ∷ []) (sym en) ∙ ap (λ (k : ℕ). reportNumbers k f) (sym (add-one i)));
-        }
+  pub numbers-next : (num : List ℕ) {nums : List ℕ} (i : ℕ) → nums ≡ over (reportNumbers i f) num → i < length num → (z : ℕ) → f i .number ≡ z
+      → set nums i z ≡ over (reportNumbers (i + 1) f) num
+  numbers-next num i t h z en =
+      ap (λ (s : List ℕ). set s i z) t
+      ∙ over-next (reportNumbers i f) num i z 0 (omega (arith, numbers-length i)) h
+      ∙ ap (λ (s : List ℕ). over s num)
+      (ap (λ (k : ℕ). reportNumbers i f ++ k ∷ []) (sym en) ∙ ap (λ (k : ℕ). reportNumbers k f) (sym (add-one i)))
 
 -- ---- two value parts, in a refusal too
 position-values : (a : PositionAnswer) → length (positionReport a .values) ≡ 2

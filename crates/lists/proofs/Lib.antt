@@ -5,3 +5,6 @@ pub mod Engines
 pub mod Spans
 pub mod Filling
 pub mod Told
+pub mod Signs
+pub mod Charting
+pub mod Running

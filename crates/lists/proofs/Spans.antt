@@ -1,12 +1,12 @@
 -- An engine's spans hold the chart's positions alone, and give the plain rule's pixel there in its pair. Assumes nothing.
-use mathlib.Core.Path.{_≡_, sym, ap, ap₂, _∙_}
-use mathlib.Core.Bool.{true, _&&_, and-eq-true-iff}
+use mathlib.Core.Path.{_≡_, refl, sym, ap, ap₂, _∙_}
+use mathlib.Core.Bool.{Bool, true, false, cond, _&&_, and-eq-true-iff}
 use Prim.Native.Nat.{ℕ, _+_, _-_, _*_, _/_, _%_, _≤_, _<_}
-use native.Mathlib.Nat.{mul-add, mul-comm, mul-left-comm, lt-of-mul-lt-mul-right, mod-lt, mod-eq-of-lt, mod-add-mod}
+use native.Mathlib.Nat.{mul-add, mul-comm, mul-left-comm, mul-le-mul-left, mod-lt, mod-eq-of-lt, mod-add-mod}
 use native.Mathlib.Nat.{add-mul-mod-self-right, div-add-mod', div-mul-le-self}
 use native.Mathlib.Omega.{arith}
-use borrow.Author.Tests.{leb-true, le-leb}
-use lib.Dec.{leb}
+use borrow.Author.Tests.{ltb-true, ltb-false, leb-true, le-leb}
+use lib.Dec.{leb, ltb}
 use lib.IntN.{ℤ, pos, _-ℤ_}
 use Rattle.whole.proofs.Signed.{is-equal, is-nat, is-difference}
 use Rattle.arc.specs.Zones.{circle, half, quarter}
@@ -19,9 +19,48 @@ use Rattle.card.proofs.Regions.{chart-tiles}
 use Rattle.card.proofs.Axes.{north-high, down-high, east-high, row-fits, row-at, column-at}
 use Rattle.lists.specs.declared.engine.Engine.{Engine}
 use Rattle.lists.specs.declared.engine.Span.{Span}
-use Rattle.lists.specs.Steps.{fine, upOf, Made, held}
+use Rattle.lists.specs.Steps.{fine, least, upOf, Made, held}
 use Rattle.lists.proofs.Counting.{within, counted, fits}
 use Rattle.lists.proofs.Engines.{shift-is, shift-high, by-unit, laid, down-is, across-is}
+
+-- ---- the smaller of two numbers
+pub least-cases : (x y : ℕ) (P : ℕ → Type 0) → P x → (y ≤ x → P y) → P (least x y)
+least-cases x y P f g = go (ltb x y) refl
+  where
+    go : (t : Bool) → ltb x y ≡ t → P (cond t x y)
+    go true e = f
+    go false e = g (ltb-false x y e)
+
+least-left : (x y : ℕ) → least x y ≤ x
+least-left x y = least-cases x y (λ (n : ℕ). n ≤ x) (omega arith) (λ h. h)
+
+least-right : (x y : ℕ) → least x y ≤ y
+least-right x y = go (ltb x y) refl
+  where
+    go : (t : Bool) → ltb x y ≡ t → cond t x y ≤ y
+    go true e = omega (arith, ltb-true x y e)
+    go false e = omega arith
+
+-- ---- the chart's first latitude, no farther north than the pole
+module _ (c : Card) (g : Laid c) (up : ℕ) (h : up ≤ 126562) where
+  abbrev from : ℕ
+  from = 253125 * (c .north - c .nul) + up
+
+  abbrev unit : ℕ
+  unit = c .b / 512
+
+  unit-some : 0 < unit
+  unit-some = omega (arith, g .rows .some, g .rows .whole)
+
+  pub first-part : unit * least (from / unit) half ≤ from
+  first-part = omega (arith, mul-le-mul-left unit (least-left (from / unit) half), div-mul-le-self from unit, mul-comm unit (from / unit))
+
+  -- what it has: a part of a hundredth, or at the pole half a pixel at most
+  pub first-rest : from - unit * least (from / unit) half < 253125
+  first-rest =
+      least-cases (from / unit) half (λ (n : ℕ). from - unit * n < 253125)
+      (omega (arith, mod-lt from unit-some, div-add-mod' from unit, mul-comm unit (from / unit), g .rows .most))
+      (λ y. omega (arith, north-high c g, g .rows .whole))
 
 module _ (e : Engine) (made : Made e) where
   abbrev k : Card
@@ -43,14 +82,20 @@ module _ (e : Engine) (made : Made e) where
   chart-north : k .nul < k .north
   chart-north = omega (arith, l .top-down, l .bottom, down-high k l)
 
-  pub top-low : e .down .first < 129600000
-  top-low = rw (down-is e made) (mod-lt (F / u) {m = circle} (omega arith))
+  abbrev top : ℕ
+  top = least (F / u) half
 
-  top-is : e .down .first ≡ F / u
-  top-is =
-      ap (λ (x : Span). x .first) (down-is e made)
-      ∙ mod-eq-of-lt
-      (lt-of-mul-lt-mul-right u (omega (arith, div-add-mod' F u, north-high k l, l .rows .some, l .rows .whole, shift-high (e .pair))))
+  top-is : e .down .first ≡ top
+  top-is = ap (λ (x : Span). x .first) (down-is e made)
+
+  pub top-low : e .down .first ≤ 64800000
+  top-low = rw top-is (least-right (F / u) half)
+
+  rest-is : u * top + (F - u * top) ≡ F
+  rest-is = omega (arith, first-part k l (upOf (e .pair)) (omega arith))
+
+  rest-low : F - u * top < 253125
+  rest-low = first-rest k l (upOf (e .pair)) (omega arith)
 
   -- a latitude n hundredths from the South Pole, on the chart
   module _ (n : ℕ) (h : n ≤ 64800000) (le : n ≤ e .down .first) (on : e .down .first - n ≤ e .down .most) where
@@ -58,30 +103,30 @@ module _ (e : Engine) (made : Made e) where
     d = e .down .first - n
 
     abbrev r : ℕ
-    r = k .nul + (F % u + u * d) / 253125
+    r = k .nul + (F - u * top + u * d) / 253125
 
     pub row-fits-63 : (e .down .first - n) * e .down .rate + e .down .start < 9223372036854775808
     row-fits-63 =
-        fits u F (k .nul) (k .nll + 1 - k .nul) rows-some (omega (arith, l .rows .most)) (omega (arith, l .top-down))
+        fits u top (F - u * top) (k .nul) (k .nll + 1 - k .nul) rows-some (omega (arith, l .rows .most)) rest-low (omega (arith, l .top-down))
         (omega (arith, l .top-down, l .bottom, l .down-most)) (e .down) (down-is e made) d (omega (arith, top-low)) (omega arith)
 
     row-low : r ≤ k .nll
     row-low =
         omega (
           arith,
-          within u F (k .nul) (k .nll + 1 - k .nul) rows-some (omega (arith, l .rows .most)) (omega (arith, l .top-down))
+          within u top (F - u * top) (k .nul) (k .nll + 1 - k .nul) rows-some (omega (arith, l .rows .most)) rest-low (omega (arith, l .top-down))
               (omega (arith, l .top-down, l .bottom, l .down-most)) (e .down) (down-is e made) d (omega arith),
           l .top-down,
         )
 
     row-count : ((e .down .first - n) * e .down .rate + e .down .start) / fine ≡ r
     row-count =
-        counted u F (k .nul) (k .nll + 1 - k .nul) rows-some (omega (arith, l .rows .most)) (omega (arith, l .top-down))
+        counted u top (F - u * top) (k .nul) (k .nll + 1 - k .nul) rows-some (omega (arith, l .rows .most)) rest-low (omega (arith, l .top-down))
         (omega (arith, l .top-down, l .bottom, l .down-most)) (e .down) (down-is e made) d (omega (arith, top-low))
 
     row-found : rowOf (e .pair) (e .card) (pos n -ℤ pos 32400000) ≡ pos r
     row-found =
-        let sum : u * (F / u) ≡ u * n + u * d = ap (λ (m : ℕ). u * m) (omega (arith, top-is)) ∙ mul-add u n d in
+        let sum : u * top ≡ u * n + u * d = ap (λ (m : ℕ). u * m) (omega (arith, top-is)) ∙ mul-add u n d in
         is-equal (rowOf (e .pair) k (pos n -ℤ pos quarter)) (pos r) _ _ r 0
         (row-at k l (e .pair) (pos n -ℤ pos quarter) n (is-difference n quarter) h) (is-nat r)
         (omega (
@@ -90,8 +135,7 @@ module _ (e : Engine) (made : Made e) where
           by-unit (k .b) (l .rows) n,
           shift-is (e .pair),
           shift-high (e .pair),
-          div-add-mod' F u,
-          mul-comm u (F / u),
+          rest-is,
           chart-north,
         ))
 
@@ -121,21 +165,24 @@ module _ (e : Engine) (made : Made e) where
 
     pub column-fits-63 : (n + e .across .first) % circle * e .across .rate + e .across .start < 9223372036854775808
     column-fits-63 =
-        fits v G (k .nls) (k .nus + 1 - k .nls) columns-some (omega (arith, l .columns .most)) (omega (arith, l .left-right))
+        fits v (G / v % circle) (G % v) (k .nls) (k .nus + 1 - k .nls) columns-some (omega (arith, l .columns .most))
+        (omega (arith, mod-lt G columns-some, l .columns .most)) (omega (arith, l .left-right))
         (omega (arith, l .left-right, l .right, l .across-most)) (e .across) (across-is e made) i i-low on
 
     column-low : c ≤ k .nus
     column-low =
         omega (
           arith,
-          within v G (k .nls) (k .nus + 1 - k .nls) columns-some (omega (arith, l .columns .most)) (omega (arith, l .left-right))
+          within v (G / v % circle) (G % v) (k .nls) (k .nus + 1 - k .nls) columns-some (omega (arith, l .columns .most))
+        (omega (arith, mod-lt G columns-some, l .columns .most)) (omega (arith, l .left-right))
               (omega (arith, l .left-right, l .right, l .across-most)) (e .across) (across-is e made) i on,
           l .left-right,
         )
 
     column-count : ((n + e .across .first) % circle * e .across .rate + e .across .start) / fine ≡ c
     column-count =
-        counted v G (k .nls) (k .nus + 1 - k .nls) columns-some (omega (arith, l .columns .most)) (omega (arith, l .left-right))
+        counted v (G / v % circle) (G % v) (k .nls) (k .nus + 1 - k .nls) columns-some (omega (arith, l .columns .most))
+        (omega (arith, mod-lt G columns-some, l .columns .most)) (omega (arith, l .left-right))
         (omega (arith, l .left-right, l .right, l .across-most)) (e .across) (across-is e made) i i-low
 
     column-found : columnOf (e .pair) (e .card) (pos n -ℤ pos 64800000) ≡ pos c

@@ -4,12 +4,12 @@
 --     scaleUp one x d    the smallest whole number not below x × one / d
 --     startOf rest d off what the rounding starts from, the angles being taken off or added
 --     shiftOf p          how far south and east of a pixel's corner the pair's exact place is, a pixel being 506,250
---     axisOf x from off  the angle of the first pixel of an axis, x pixels making a circle, what a pixel adds to it or takes off, and that start
+--     axisOf x from off  the angle of the first pixel of an axis in parts of 2^36, x pixels making a circle, and what a pixel adds to it or takes off
 --     axisAt first d off the same, by the nearest's numerator and denominator at the first pixel
 --     rowAxis p k        the northings of the rows, taken off that of row 0
 --     columnAxis p k     the eastings of the columns, added to that of column 0
---     spanOf u from low n   the hundredths of n pixels from pixel low on, each adding u to what the first one has, a pixel being 253,125
---     downSpan p k       the chart's rows, counted southward
+--     spanOf u first rest low n   the hundredths of n pixels from pixel low on, the first having rest and each adding u to it, a pixel being 253,125
+--     downSpan p k       the chart's rows, counted southward, from no farther north than the pole
 --     acrossSpan p k     the chart's columns, counted eastward round the circle
 --     held e north east  a position, counted from the South Pole and from 180° west, is on the chart
 --     engineOf p k       the engine of a card for a pair
@@ -18,10 +18,10 @@
 use mathlib.Core.Path.{_≡_}
 use Prim.Native.Nat.{ℕ, _+_, _-_, _*_, _/_, _%_}
 use mathlib.Core.Bool.{Bool, true, false, cond, _&&_}
-use lib.Dec.{leb}
+use lib.Dec.{leb, ltb}
 use mathlib.Core.List.{[], _∷_}
 use Rattle.arc.specs.Refusals.{Report}
-use Rattle.arc.specs.Zones.{circle}
+use Rattle.arc.specs.Zones.{circle, half}
 use Rattle.card.specs.declared.Card.{Card}
 use Rattle.card.specs.declared.Pair.{Pair}
 use Rattle.card.specs.Read.{Known}
@@ -45,7 +45,11 @@ abbrev pub startOf : ℕ → ℕ → Bool → ℕ
 startOf rest d off = cond off (d - 1 - rest) rest
 
 abbrev pub axisAt : ℕ → ℕ → Bool → Axis
-axisAt first d off = record { base = first / d; rate = scaleUp coarse 506250 d; start = scaleUp coarse (startOf (first % d) d off) d }
+axisAt first d off =
+    record {
+      from = first / d * coarse + startOf (scaleUp coarse (startOf (first % d) d off) d) coarse off;
+      rate = scaleUp coarse 506250 d;
+    }
 
 abbrev pub shiftOf : Pair → ℕ
 shiftOf p = inward p / 256
@@ -62,15 +66,24 @@ rowAxis p k = axisOf (k .b) (506250 * k .north - shiftOf p) true
 abbrev pub columnAxis : Pair → Card → Axis
 columnAxis p k = axisOf (k .a) (506250 * k .east + shiftOf p) false
 
--- i hundredths past the first is pixel low + (u i + from modulo u) / 253,125, and the last of the n pixels is `most` past it
-abbrev pub spanOf : ℕ → ℕ → ℕ → ℕ → Span
-spanOf u from low n =
+-- i hundredths past the first is pixel low + (u i + rest) / 253,125, and the last of the n pixels is `most` past it
+abbrev pub spanOf : ℕ → ℕ → ℕ → ℕ → ℕ → Span
+spanOf u first rest low n =
     record {
-      first = from / u % circle;
-      most = (253125 * n - 1 - from % u) / u;
+      first = first;
+      most = (253125 * n - 1 - rest) / u;
       rate = scaleUp fine u 253125;
-      start = scaleUp fine (from % u) 253125 + low * fine;
+      start = scaleUp fine rest 253125 + low * fine;
     }
+
+abbrev pub least : ℕ → ℕ → ℕ
+least x y = cond (ltb x y) x y
+
+abbrev pub downOf : ℕ → ℕ → Card → Span
+downOf u from k = spanOf u (least (from / u) half) (from - u * least (from / u) half) (k .nul) (k .nll + 1 - k .nul)
+
+abbrev pub acrossOf : ℕ → ℕ → Card → Span
+acrossOf u from k = spanOf u (from / u % circle) (from % u) (k .nls) (k .nus + 1 - k .nls)
 
 -- half a pixel is added for the nearest, nothing for the floor
 abbrev pub upOf : Pair → ℕ
@@ -78,11 +91,11 @@ upOf p = (253125 - shiftOf p) / 2
 
 -- 253,125 × (128n − NUL), counted from the South Pole
 abbrev pub downSpan : Pair → Card → Span
-downSpan p k = spanOf (k .b / 512) (253125 * (k .north - k .nul) + upOf p) (k .nul) (k .nll + 1 - k .nul)
+downSpan p k = downOf (k .b / 512) (253125 * (k .north - k .nul) + upOf p) k
 
 -- 253,125 × (2A − 128m − NLS), counted from 180° west
 abbrev pub acrossSpan : Pair → Card → Span
-acrossSpan p k = spanOf (k .a / 512) (253125 * (2 * k .a - (k .east + k .nls)) + upOf p) (k .nls) (k .nus + 1 - k .nls)
+acrossSpan p k = acrossOf (k .a / 512) (253125 * (2 * k .a - (k .east + k .nls)) + upOf p) k
 
 unfoldable pub engineOf : Pair → Card → Engine
 engineOf p k =

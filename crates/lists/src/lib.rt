@@ -2,16 +2,20 @@
 use arc::Verdict;
 use card::Card;
 use card::Pair;
+use charted::Charted;
 use engine::Engine;
 ghost use mathlib.Core.Path.{_≡_};
 ghost use mathlib.Core.Bool.{true};
-ghost use Prim.Native.Nat.{_+_, _*_, _<_};
+ghost use Prim.Native.Nat.{_+_, _*_, _≤_, _<_};
 ghost use lib.ListN.{length, set};
+ghost use Rattle.whole.specs.Lists.{over};
 ghost use Rattle.card.specs.declared.Pair.{Pair};
 ghost use Rattle.card.specs.Read.{Known};
 ghost use Rattle.lists.specs.Steps.{Made, entryTold};
-ghost use Rattle.lists.specs.Lists.{listsFit, listsVerdict, entryAt, askedReport, reportAt, positionReportAt, pixelReportAt, valuesLeft, numbersLeft};
+ghost use Rattle.lists.specs.Runs.{entryFrom, Ran, Even, zeros};
+ghost use Rattle.lists.specs.Lists.{listsFit, listsVerdict, askedReport, reportAt, positionReportAt, pixelReportAt, valuesLeft, numbersLeft};
 
+mod charted;
 mod engine;
 
 // What is asked of each entry of a list: the position of a pixel, or the pixel at a position.
@@ -33,24 +37,30 @@ struct Entry {
     second: i64,
 }
 
-// Entry i of a list.
-fn entry_at(list: &[i64], i: usize) -> Entry
-    requires { ⌜ 2 * i + 1 < length (now list) ⌝ }
-    ensures { λ r. ⌜ r ≡ entryAt (now (list .entry)) i ⌝ }
+// The entry that starts at a place in a list.
+fn entry_at(list: &[i64], at: usize) -> Entry
+    requires { ⌜ at + 1 < length (now list) ⌝ }
+    ensures { λ r. ⌜ r ≡ entryFrom (now (list .entry)) at ⌝ }
 {
-    let first = list[2 * i];
-    let second = list[2 * i + 1];
+    let first = list[at];
+    let second = list[at + 1];
     Entry { first, second }
 }
 
-// Entry i of a list, and number i.
-fn put_entry(list: &mut [i64], numbers: &mut [u32], i: usize, first: i64, second: i64, number: u32)
-    requires { ⌜ 2 * i + 1 < length (now list) ⌝ ∗ ⌜ i < length (now numbers) ⌝ }
-    ensures entry { λ _. ⌜ now (list .exit) ≡ set (set (now (list .entry)) (2 * i) first) (2 * i + 1) second ⌝ }
-    ensures number { λ _. ⌜ now (numbers .exit) ≡ set (now (numbers .entry)) i number ⌝ }
+// Two values at a place in a list.
+fn put_values(list: &mut [i64], at: usize, first: i64, second: i64)
+    requires { ⌜ at + 1 < length (now list) ⌝ }
+    ensures { λ _. ⌜ now (list .exit) ≡ set (set (now (list .entry)) at first) (at + 1) second ⌝ }
 {
-    list[2 * i] = first;
-    list[2 * i + 1] = second;
+    list[at] = first;
+    list[at + 1] = second;
+}
+
+// Number i.
+fn put_number(numbers: &mut [u32], i: usize, number: u32)
+    requires { ⌜ i < length (now numbers) ⌝ }
+    ensures { λ _. ⌜ now (numbers .exit) ≡ set (now (numbers .entry)) i number ⌝ }
+{
     numbers[i] = number;
 }
 
@@ -62,14 +72,14 @@ struct EntryParts {
     second: i64,
 }
 
-// What is told of an entry.
-fn answer_entry(e: Engine, asked: Asked, first: i64, second: i64) -> EntryParts
-    requires { ⌜ Made e ⌝ }
-    ensures { λ r. ⌜ entryTold r ≡ askedReport (e .pair) asked (e .card) first second ⌝ }
+// What the card tells of an entry.
+fn answer_entry(pair: Pair, k: Card, asked: Asked, first: i64, second: i64) -> EntryParts
+    requires { ⌜ Known k ⌝ }
+    ensures { λ r. ⌜ entryTold r ≡ askedReport pair asked k first second ⌝ }
 {
     match asked {
         Asked::Positions => {
-            let p = e.position(first, second).into_parts();
+            let p = k.position_in(pair, first, second).into_parts();
             EntryParts {
                 number: p.number,
                 at: p.at,
@@ -78,7 +88,7 @@ fn answer_entry(e: Engine, asked: Asked, first: i64, second: i64) -> EntryParts
             }
         }
         Asked::Pixels => {
-            let p = e.pixel(first, second).into_parts();
+            let p = k.pixel_in(pair, first, second).into_parts();
             EntryParts {
                 number: p.number,
                 at: p.at,
@@ -89,7 +99,43 @@ fn answer_entry(e: Engine, asked: Asked, first: i64, second: i64) -> EntryParts
     }
 }
 
-// What is told of each entry.
+// Zero in the first n numbers.
+fn clear(numbers: &mut [u32], n: usize)
+    requires { ⌜ n ≤ length (now numbers) ⌝ }
+    ensures { λ _. ⌜ now (numbers .exit) ≡ over (zeros n) (now (numbers .entry)) ⌝ }
+{
+    let mut i = 0;
+    while i < n {
+        numbers[i] = 0;
+        i += 1;
+    }
+}
+
+// The entries from a place in the list on, as far as the chart's own numbers answer them; the place of the first that they do not.
+fn run(e: Engine, asked: Asked, list: &[i64], values: &mut [i64], from: usize) -> usize
+    requires { ⌜ Made e ⌝ ∗ ⌜ Even (length (now list)) ⌝ ∗ ⌜ length (now list) ≤ length (now values) ⌝ ∗ ⌜ Even from ⌝ ∗ ⌜ from ≤ length (now list) ⌝ }
+    ensures { λ r. ⌜ Ran (reportAt (e .pair) asked (e .card) (now (list .entry))) (length (now (list .entry))) from r
+        (now (values .entry)) (now (values .exit)) ⌝ }
+{
+    let west = charted::west_of(e);
+    let n = list.len();
+    let mut i = from;
+    while i < n {
+        let x = entry_at(list, i);
+        match charted::on_chart(e, west, asked, x.first, x.second) {
+            Charted::At { first, second } => {
+                put_values(values, i, first, second);
+            }
+            Charted::Off => {
+                return i;
+            }
+        }
+        i += 2;
+    }
+    i
+}
+
+// What is told of each entry: by runs along the chart, and by the card between them.
 fn fill(e: Engine, asked: Asked, list: &[i64], values: &mut [i64], numbers: &mut [u32])
     requires { ⌜ Made e ⌝ ∗ ⌜ listsFit (length (now list)) (length (now values)) (length (now numbers)) ≡ true ⌝ }
     ensures values { λ _. ⌜ now (values .exit)
@@ -97,13 +143,17 @@ fn fill(e: Engine, asked: Asked, list: &[i64], values: &mut [i64], numbers: &mut
     ensures numbers { λ _. ⌜ now (numbers .exit)
         ≡ numbersLeft (reportAt (e .pair) asked (e .card)) (now (list .entry)) (now (values .entry)) (now (numbers .entry)) ⌝ }
 {
-    let n = list.len() / 2;
-    let mut i = 0;
+    let pair = e.pair;
+    let k = e.card;
+    let n = list.len();
+    clear(numbers, n / 2);
+    let mut i = run(e, asked, list, values, 0);
     while i < n {
         let x = entry_at(list, i);
-        let p = answer_entry(e, asked, x.first, x.second);
-        put_entry(values, numbers, i, p.first, p.second, p.number);
-        i += 1;
+        let p = answer_entry(pair, k, asked, x.first, x.second);
+        put_values(values, i, p.first, p.second);
+        put_number(numbers, i / 2, p.number);
+        i = run(e, asked, list, values, i + 2);
     }
 }
 

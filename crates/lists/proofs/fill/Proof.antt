@@ -1,22 +1,30 @@
--- After i turns the first i entries and numbers are the reports of the first i entries handed in. Assumes nothing.
+-- After each turn the entries before i, and their numbers, are the reports of those handed in; the numbers after them are zero. Assumes nothing.
 use mathlib.Core.Path.{_≡_, refl, sym, ap, _∙_}
-use Prim.Native.Nat.{ℕ, _-_, _/_}
+use mathlib.Core.Bool.{true}
+use mathlib.Core.List.{List}
+use Prim.Native.Nat.{ℕ, _+_, _-_, _≤_}
 use native.Mathlib.Omega.{arith}
+use lib.IntN.{ℤ}
 use lib.ListN.{length}
 use Rattle.arc.specs.Refusals.{Report}
+use Rattle.card.proofs.Answers.{pair-asked}
 use Rattle.lists.specs.declared.Entry.{Entry}
 use Rattle.lists.specs.Steps.{entryTold}
-use Rattle.lists.specs.Lists.{entryAt, askedReport, reportAt}
-use Rattle.lists.proofs.Filling.{Filled, filled-length, filled-numbers, filled-room, filled-next, report-values}
-use Rattle.card.proofs.Answers.{pair-asked}
+use Rattle.lists.specs.Lists.{entries, listsFit, entryAt, askedReport, reportAt}
+use Rattle.lists.specs.Runs.{Even}
+use Rattle.lists.proofs.Filling.{lists-fit, report-values}
+use Rattle.lists.proofs.Running.{Filled, even-fit, entry-from, filled-length, filled-numbers, filled-first, filled-put, filled-run, filled-end}
 use Rattle.lists.proofs.fill.Statement.{statement}
 use Rattle.lists.proofs.fill.Tie as tie
 
+-- what the lists held before the loop, it holds of now
 abbrev Inv-loop : tie.InvT-loop
-Inv-loop e asked list values₀ numbers₀ n i₀ values numbers i = Filled (reportAt (e .pair) asked (e .card) list) n values₀ numbers₀ i values numbers
+Inv-loop e asked list values₀ numbers₀ pair k n i₀ values numbers i =
+    (out : List ℤ) (num : List ℕ) → listsFit n (length out) (length num) ≡ true
+    → Filled (reportAt (e .pair) asked (e .card) list) n out num i₀ values₀ numbers₀ → Filled (reportAt (e .pair) asked (e .card) list) n out num i values numbers
 
 abbrev μ-loop : tie.MeasureT-loop
-μ-loop e asked list values₀ numbers₀ n i₀ values numbers i = n - i
+μ-loop e asked list values₀ numbers₀ pair k n i₀ values numbers i = n - i
 
 -- the reports of the entries handed in, and their value parts
 abbrev reports : tie.Start Inv-loop μ-loop → ℕ → Report
@@ -25,75 +33,148 @@ reports s = reportAt (s .args .e .pair) (s .args .asked) (s .args .e .card) (s .
 two : (s : tie.Start Inv-loop μ-loop) (i : ℕ) → length (reports s i .values) ≡ 2
 two s i = report-values (s .args .e .pair) (s .args .asked) (s .args .e .card) (entryAt (s .args .list .now) i .first) (entryAt (s .args .list .now) i .second)
 
+abbrev start : tie.At-loop Inv-loop μ-loop → tie.Start Inv-loop μ-loop
+start c = c .before .before .before .before .before .before .before .before .before .before
+
+fit : (s : tie.Start Inv-loop μ-loop) → listsFit (length (s .args .list .now)) (length (s .args .values .now)) (length (s .args .numbers .now)) ≡ true
+fit s = s .pre .1
+
+even : (s : tie.Start Inv-loop μ-loop) → Even (length (s .args .list .now))
+even s = even-fit (length (s .args .list .now)) (length (s .args .values .now)) (length (s .args .numbers .now)) (fit s)
+
+room : (s : tie.Start Inv-loop μ-loop)
+    → (length (s .args .list .now) ≤ length (s .args .values .now)) × (entries (length (s .args .list .now)) ≤ length (s .args .numbers .now))
+room s = lists-fit (length (s .args .list .now)) (length (s .args .values .now)) (length (s .args .numbers .now)) (fit s)
+
+clear-requires : tie.Need-clear-requires Inv-loop μ-loop
+clear-requires c κs = room (c .before .before .before) .1
+
+run-requires : tie.Need-run-requires Inv-loop μ-loop
+run-requires c κs =
+    let s = c .before .before .before .before .before .before .before in
+    (s .pre .0, (even s, (room s .0, (refl, omega arith))))
+
 loop-holds : tie.Need-loop-holds Inv-loop μ-loop
-loop-holds c = record { upto = omega arith; values = refl; numbers = refl }
+loop-holds c = λ out num h t. t
+
+-- at each turn
+filled : (c : tie.At-loop Inv-loop μ-loop)
+    → Filled (reports (start c)) (length (start c .args .list .now)) (start c .args .values .now) (start c .args .numbers .now)
+    (c .loop .i) (c .loop .values) (c .loop .numbers)
+filled c =
+    let s = start c in
+    c .loop .inv (s .args .values .now) (s .args .numbers .now) (fit s)
+    (filled-first (reports s) (two s) (length (s .args .list .now)) (s .args .values .now) (s .args .numbers .now) (fit s) (c .before .before .run .ensures)
+    (c .before .before .before .before .before .before .clear .ensures))
 
 entry-at-requires : tie.Need-entry-at-requires Inv-loop μ-loop
-entry-at-requires c κs = omega (arith, c .loop-test .taken)
+entry-at-requires c κs =
+    let s = start (c .before) in
+    omega (arith, c .loop-test .taken, filled (c .before) .even, even s)
 
 answer-entry-requires : tie.Need-answer-entry-requires Inv-loop μ-loop
-answer-entry-requires c κs = c .before .before .before .before .before .before .pre .0
+answer-entry-requires c κs = c .before .before .before .before .before .before .before .before .before .before .before .before .before .before .pre .0 .known
 
-put-entry-requires : tie.Need-put-entry-requires Inv-loop μ-loop
-put-entry-requires c κs =
-    let t = c .before .before .before .before .before .before .before .before in
-    let s = t .before .before .before in
-    filled-room (reports s) (two s) (length (s .args .list .now)) (s .pre .1) (t .before .loop .inv) (omega (arith, t .loop-test .taken))
+put-values-requires : tie.Need-put-values-requires Inv-loop μ-loop
+put-values-requires c κs =
+    let l = c .before .before .before .before .before .before .before .before in
+    let s = start l in
+    let t = filled l in
+    omega (
+      arith,
+      c .before .before .before .before .before .before .before .loop-test .taken,
+      t .even,
+      even s,
+      room s,
+      filled-length (reports s) (two s) (length (s .args .list .now)) (s .args .values .now) (s .args .numbers .now) (fit s) t,
+    )
 
-add-i : tie.Need-add-i Inv-loop μ-loop
-add-i c =
-    let t = c .before .before .before .before .before .before .before .before .before .before .before .before in
-    omega (arith, t .loop-test .taken, t .before .before .before .good)
+put-number-requires : tie.Need-put-number-requires Inv-loop μ-loop
+put-number-requires c κs =
+    let l = c .before .before .before .before .before .before .before .before .before .before .before in
+    let s = start l in
+    let t = filled l in
+    omega (
+      arith,
+      c .before .before .before .before .before .before .before .before .before .before .loop-test .taken,
+      t .even,
+      even s,
+      room s,
+      filled-numbers (reports s) (two s) (length (s .args .list .now)) (s .args .values .now) (s .args .numbers .now) (fit s) t,
+    )
 
-loop-less : tie.Need-loop-less Inv-loop μ-loop
-loop-less c = omega (arith, c .before .before .before .before .before .before .before .before .before .before .before .before .loop-test .taken)
+add-run : tie.Need-add-run Inv-loop μ-loop
+add-run c = omega (arith, c .before .before .before .before .before .before .before .before .before .before .before .before .before .before .loop-test .taken, c .before .before .before .before .before .before .before .before .before .before .before .before .before .before .before .before .before .before .before .before .before .before .before .before .before .good)
 
-loop-again : tie.Need-loop-again Inv-loop μ-loop
-loop-again c =
-    let d = c .before .before .before in
-    let a = d .before .before .before .before .before in
-    let b = a .before .before .before in
-    let l = b .before .before in
-    let s = l .before .before in
-    let p = a .answer-entry .result in
-    let told : entryTold p ≡ reports s (l .loop .i) =
-    a .answer-entry .ensures
-    ∙ pair-asked (askedReport (s .args .e .pair) (s .args .asked) (s .args .e .card)) {u = b .entry-at .result .first} {v = b .entry-at .result .second}
-    (record { sfits = a .before .before .struct-told .given .0 .1 }) (record { sfits = a .before .struct-told2 .given .1 .0 .1 })
-    ∙ ap (λ (x : Entry). askedReport (s .args .e .pair) (s .args .asked) (s .args .e .card) (x .first) (x .second)) (b .entry-at .ensures) in
-    rw (d .put-entry .ensures .0, d .put-entry .ensures .1)
-    (filled-next (reports s) (two s) (length (s .args .list .now)) (s .pre .1) (l .loop .inv) (omega (arith, b .before .loop-test .taken))
+-- past the entry that the card was asked
+put : (c : tie.After-put-number Inv-loop μ-loop)
+    → (out : List ℤ) (num : List ℕ)
+    → listsFit (length (c .before .before .before .before .before .before .before .before .before .before .before .before .before .before .before .before .before .before .before .before .before .before .args .list .now)) (length out) (length num) ≡ true
+    → Filled (reports (c .before .before .before .before .before .before .before .before .before .before .before .before .before .before .before .before .before .before .before .before .before .before)) (length (c .before .before .before .before .before .before .before .before .before .before .before .before .before .before .before .before .before .before .before .before .before .before .args .list .now)) out num (c .before .before .before .before .before .before .before .before .before .before .before .before .loop .i) (c .before .before .before .before .before .before .before .before .before .before .before .before .loop .values) (c .before .before .before .before .before .before .before .before .before .before .before .before .loop .numbers)
+    → Filled (reports (c .before .before .before .before .before .before .before .before .before .before .before .before .before .before .before .before .before .before .before .before .before .before)) (length (c .before .before .before .before .before .before .before .before .before .before .before .before .before .before .before .before .before .before .before .before .before .before .args .list .now)) out num (c .before .before .before .before .before .before .before .before .before .before .before .before .loop .i + 2) (c .before .before .before .put-values .last .0) (c .put-number .last .0)
+put c out num h t =
+    let s = c .before .before .before .before .before .before .before .before .before .before .before .before .before .before .before .before .before .before .before .before .before .before in
+    let l = c .before .before .before .before .before .before .before .before .before .before .before .before .loop in
+    let p = c .before .before .before .before .before .before .before .answer-entry .result in
+    let told : entryTold p ≡ reports s (entries (l .i)) =
+    c .before .before .before .before .before .before .before .answer-entry .ensures
+    ∙ pair-asked (askedReport (s .args .e .pair) (s .args .asked) (s .args .e .card)) {u = c .before .before .before .before .before .before .before .before .before .before .entry-at .result .first}
+    {v = c .before .before .before .before .before .before .before .before .before .before .entry-at .result .second}
+    (record { sfits = c .before .before .before .before .before .before .before .before .before .struct-told .given .0 .1 })
+    (record { sfits = c .before .before .before .before .before .before .before .before .struct-told2 .given .1 .0 .1 })
+    ∙ ap (λ (x : Entry). askedReport (s .args .e .pair) (s .args .asked) (s .args .e .card) (x .first) (x .second))
+    (c .before .before .before .before .before .before .before .before .before .before .entry-at .ensures ∙ entry-from (s .args .list .now) (l .i) (t .even)) in
+    rw (c .before .before .before .put-values .ensures, c .put-number .ensures)
+    (filled-put (reports s) (two s) (length (s .args .list .now)) out num h t (c .before .before .before .before .before .before .before .before .before .before .before .loop-test .taken)
     (p .first) (p .second) (p .number)
-    (record { sfits = d .before .before .struct-told3 .given .1 .1 .0 .1 })
-    (record { sfits = d .before .struct-told4 .given .1 .1 .1 .0 .1 })
+    (record { sfits = c .before .before .before .before .before .struct-told3 .given .1 .1 .0 .1 })
+    (record { sfits = c .before .before .before .before .struct-told4 .given .1 .1 .1 .0 .1 })
     (sym (ap (λ (r : Report). r .values) told)) (sym (ap (λ (r : Report). r .number) told)))
 
+-- there, of the lists handed in
+past : (c : tie.After-put-number Inv-loop μ-loop)
+    → Filled (reports (c .before .before .before .before .before .before .before .before .before .before .before .before .before .before .before .before .before .before .before .before .before .before)) (length (c .before .before .before .before .before .before .before .before .before .before .before .before .before .before .before .before .before .before .before .before .before .before .args .list .now)) (c .before .before .before .before .before .before .before .before .before .before .before .before .before .before .before .before .before .before .before .before .before .before .args .values .now) (c .before .before .before .before .before .before .before .before .before .before .before .before .before .before .before .before .before .before .before .before .before .before .args .numbers .now)
+    (c .before .before .before .before .before .before .before .before .before .before .before .before .loop .i + 2) (c .before .before .before .put-values .last .0) (c .put-number .last .0)
+past c =
+    let l = c .before .before .before .before .before .before .before .before .before .before .before .before in
+    let s = start l in
+    put c (s .args .values .now) (s .args .numbers .now) (fit s) (filled l)
+
+run-requires-2 : tie.Need-run-requires-2 Inv-loop μ-loop
+run-requires-2 c κs =
+    let s = c .before .before .before .before .before .before .before .before .before .before .before .before .before .before .before .before .before .before .before .before .before .before .before .before .before in
+    let t = past (c .before .before .before) in
+    let long =
+    filled-length (reports s) (two s) (length (s .args .list .now)) (s .args .values .now) (s .args .numbers .now) (fit s) t in
+    (s .pre .0, (even s, (omega (arith, long, room s), (t .even, t .upto))))
+
+loop-less : tie.Need-loop-less Inv-loop μ-loop
+loop-less c = let r = c .before .run2 .ensures in omega (arith, c .before .before .before .before .before .before .before .before .before .before .before .before .before .before .before .before .loop-test .taken, r .past)
+
+loop-again : tie.Need-loop-again Inv-loop μ-loop
+loop-again c out num h t =
+    let s = c .before .before .before .before .before .before .before .before .before .before .before .before .before .before .before .before .before .before .before .before .before .before .before .before .before .before .before in
+    filled-run (reports s) (two s) (length (s .args .list .now)) out num h (put (c .before .before .before .before .before) out num h (c .before .before .before .before .before .before .before .before .before .before .before .before .before .before .before .before .before .loop .inv out num h t)) (c .before .run2 .ensures)
+
 same-length : tie.Need-same-length Inv-loop μ-loop
-same-length c = let s = c .before .before .before in filled-length (reports s) (two s) (length (s .args .list .now)) (s .pre .1) (c .before .loop .inv)
+same-length c =
+    let s = start (c .before) in
+    filled-length (reports s) (two s) (length (s .args .list .now)) (s .args .values .now) (s .args .numbers .now) (fit s) (filled (c .before))
 
 same-length-2 : tie.Need-same-length-2 Inv-loop μ-loop
-same-length-2 c = let s = c .before .before .before in filled-numbers (reports s) (two s) (length (s .args .list .now)) (s .pre .1) (c .before .loop .inv)
+same-length-2 c =
+    let s = start (c .before) in
+    filled-numbers (reports s) (two s) (length (s .args .list .now)) (s .args .values .now) (s .args .numbers .now) (fit s) (filled (c .before))
 
 returns : tie.Need-returns Inv-loop μ-loop
 returns c =
-    let t = c .before .loop .inv in
-    let e : c .before .loop .i ≡ length (c .before .before .before .args .list .now) / 2 = omega (arith, c .loop-test .left, t .upto) in
-    let fit = c .before .before .before .pre .1 in
-    (rw fit (rw e at (t .values)), rw fit (rw e at (t .numbers)))
+    let s = start (c .before) in
+    let e =
+    filled-end (reports s) (two s) (length (s .args .list .now)) (s .args .values .now) (s .args .numbers .now) (fit s) (filled (c .before)) (c .loop-test .left) in
+    (rw (fit s) (e .0), rw (fit s) (e .1))
 
 pub fill-spec : {M : Type 1} → statement M
 fill-spec =
     tie.close
-    (tie.spec
-    Inv-loop
-    μ-loop
-    loop-holds
-    entry-at-requires
-    answer-entry-requires
-    put-entry-requires
-    add-i
-    loop-less
-    loop-again
-    same-length
-    same-length-2
-    returns)
+    (tie.spec Inv-loop μ-loop clear-requires run-requires loop-holds entry-at-requires answer-entry-requires put-values-requires put-number-requires
+    add-run run-requires-2 loop-less loop-again same-length same-length-2 returns)
