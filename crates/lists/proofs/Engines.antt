@@ -155,7 +155,8 @@ module _ (e : Engine) (made : Made e) where
 
     pub row-from-high : e .rows .from < 4453022161212276736
     row-from-high =
-        let high : top / n < 64800001 = lt-of-mul-lt-mul-right n (omega (arith, div-mul-le-self top n, some (k .b) (laid .rows), north-high k laid, laid .rows .whole)) in
+        let high : top / n < 64800001 =
+        lt-of-mul-lt-mul-right n (omega (arith, div-mul-le-self top n, some (k .b) (laid .rows), north-high k laid, laid .rows .whole)) in
         rw row-from (omega (arith, high, row-part))
 
     pub row-angle : (e .rows .from - r * e .rows .rate) / 68719476736 ≡ near ((e .card .north - r) * circle - inward (e .pair)) (e .card .b)
@@ -198,7 +199,9 @@ module _ (e : Engine) (made : Made e) where
 
     pub column-from-high : e .columns .from < 8933531975680000000
     column-from-high =
-        let high : left / m < 130000000 = lt-of-mul-lt-mul-right m (omega (arith, div-mul-le-self left m, some (k .a) (laid .columns), east-high k laid, shift-high (e .pair), laid .columns .whole)) in
+        let high : left / m < 130000000 =
+        lt-of-mul-lt-mul-right m
+        (omega (arith, div-mul-le-self left m, some (k .a) (laid .columns), east-high k laid, shift-high (e .pair), laid .columns .whole)) in
         rw column-from (omega (arith, high, part-low (k .a) (laid .columns) (left % m) (mod-lt left (some (k .a) (laid .columns)))))
 
     pub column-angle : (e .columns .from + c * e .columns .rate) / 68719476736

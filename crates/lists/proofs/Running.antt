@@ -167,26 +167,30 @@ module _ (f : ℕ → Report) (two : (i : ℕ) → length (f i .values) ≡ 2) (
       }
 
   -- an entry that the card was asked
-  pub filled-put : {at : ℕ} {now : List ℤ} {nums : List ℕ} → Filled f n out num at now nums → at < n → (x y : ℤ) (z : ℕ) → SFits w64 x → SFits w64 y
-      → f (entries at) .values ≡ x ∷ y ∷ [] → f (entries at) .number ≡ z
-      → Filled f n out num (at + 2) (set (set now at (toZ w64 (ofZ w64 x))) (at + 1) (toZ w64 (ofZ w64 y))) (set nums (entries at) z)
-  filled-put {at} {now} {nums} t h x y z fx fy ev ez =
+  pub filled-put : {at : ℕ} {now after : List ℤ} {nums more : List ℕ} → Filled f n out num at now nums → at < n → (x y : ℤ) (z : ℕ)
+      → SFits w64 x → SFits w64 y → f (entries at) .values ≡ x ∷ y ∷ [] → f (entries at) .number ≡ z
+      → after ≡ set (set now at (toZ w64 (ofZ w64 x))) (at + 1) (toZ w64 (ofZ w64 y)) → more ≡ set nums (entries at) z
+      → Filled f n out num (at + 2) after more
+  filled-put {at} {now} t h x y z fx fy ev ez wrote counted =
       record {
         even = omega (arith, t .even);
         upto = omega (arith, t .even, even-fit n (length out) (length num) fit);
         values =
-            ap (λ (k : ℕ). set (set now k (toZ w64 (ofZ w64 x))) (k + 1) (toZ w64 (ofZ w64 y))) (twice at (t .even))
+            wrote
+            ∙ ap (λ (k : ℕ). set (set now k (toZ w64 (ofZ w64 x))) (k + 1) (toZ w64 (ofZ w64 y))) (twice at (t .even))
             ∙ values-next f two out (entries at) (t .values)
             (omega (arith, t .even, even-fit n (length out) (length num) fit, room)) x y fx fy ev
             ∙ ap (λ (k : ℕ). over (reportValues k f) out) (next-entry at);
         numbers =
-            numbers-next f (over (zeros (entries n)) num) (entries at) (t .numbers)
+            counted
+            ∙ numbers-next f (over (zeros (entries n)) num) (entries at) (t .numbers)
             (omega (arith, t .even, even-fit n (length out) (length num) fit, room, zeros-kept (entries n) num (room .1))) z ez
             ∙ ap (λ (k : ℕ). over (reportNumbers k f) (over (zeros (entries n)) num)) (next-entry at);
       }
 
   -- a run after it
-  pub filled-run : {at to : ℕ} {now after : List ℤ} {nums : List ℕ} → Filled f n out num at now nums → Ran f n at to now after → Filled f n out num to after nums
+  pub filled-run : {at to : ℕ} {now after : List ℤ} {nums : List ℕ} → Filled f n out num at now nums → Ran f n at to now after
+      → Filled f n out num to after nums
   filled-run {at} {to} t r =
       record {
         even = r .even;
@@ -201,8 +205,7 @@ module _ (f : ℕ → Report) (two : (i : ℕ) → length (f i .values) ≡ 2) (
   pub filled-end : {at : ℕ} {now : List ℤ} {nums : List ℕ} → Filled f n out num at now nums → n ≤ at
       → (now ≡ over (reportValues (entries n) f) out) × (nums ≡ over (reportNumbers (entries n) f) num)
   filled-end {at} t h =
-      let same : at ≡ n = omega (arith, t .upto) in
-      (
+      let same : at ≡ n = omega (arith, t .upto) in (
         t .values ∙ ap (λ (k : ℕ). over (reportValues (entries k) f) out) same,
         t .numbers ∙ ap (λ (k : ℕ). over (reportNumbers (entries k) f) (over (zeros (entries n)) num)) same ∙ all-over f (entries n) num (room .1),
       )

@@ -119,7 +119,8 @@ module _ (t : ℤ) (n : ℕ) (e : t ≡ pos n -ℤ pos circle) (low : n < 2 * ci
   down-held h =
       let le : 0 + circle ≤ n + 0 = ltb-false (n + 0) (0 + circle) (sym test-t ∙ h) in
       toZ-ofZ w64 _ down-fits ∙ down-plain
-      ∙ is-equal (t -ℤ pos half) (pos (n % circle) -ℤ pos half) (n + 0) (circle + half) (n % circle) half is-down (is-difference (n % circle) half) (omega arith)
+      ∙ is-equal (t -ℤ pos half) (pos (n % circle) -ℤ pos half) (n + 0) (circle + half) (n % circle) half is-down (is-difference (n % circle) half)
+      (omega arith)
 
 -- ---- a latitude against the chart's first one
 module _ (first : ℕ) (h : first ≤ 64800000) where
@@ -210,11 +211,13 @@ module _ (west lon : ℤ) (i : outside half west ≡ false) (j : outside half lo
   module _ (fw : SFits w64 west) (fl : SFits w64 lon) where
     pub apart-fits : SFits w64 (toZ w64 (ofZ w64 lon) -ℤ toZ w64 (ofZ w64 west))
     apart-fits =
-        less-fits fl fw n half w half (is-raise half lon j) (is-raise half west i) (omega (arith, raise-high half lon j)) (omega (arith, raise-high half west i))
+        less-fits fl fw n half w half (is-raise half lon j) (is-raise half west i) (omega (arith, raise-high half lon j))
+        (omega (arith, raise-high half west i))
 
     pub apart-held : toZ w64 (ofZ w64 (toZ w64 (ofZ w64 lon) -ℤ toZ w64 (ofZ w64 west))) ≡ lon -ℤ west
     apart-held =
-        less-held fl fw n half w half (is-raise half lon j) (is-raise half west i) (omega (arith, raise-high half lon j)) (omega (arith, raise-high half west i))
+        less-held fl fw n half w half (is-raise half lon j) (is-raise half west i) (omega (arith, raise-high half lon j))
+        (omega (arith, raise-high half west i))
 
     pub round-fits : SFits w64 (toZ w64 (ofZ w64 (toZ w64 (ofZ w64 lon) -ℤ toZ w64 (ofZ w64 west))) +ℤ pos 129600000)
     round-fits =

@@ -174,7 +174,7 @@ module _ (e : Engine) (made : Made e) where
         omega (
           arith,
           within v (G / v % circle) (G % v) (k .nls) (k .nus + 1 - k .nls) columns-some (omega (arith, l .columns .most))
-        (omega (arith, mod-lt G columns-some, l .columns .most)) (omega (arith, l .left-right))
+              (omega (arith, mod-lt G columns-some, l .columns .most)) (omega (arith, l .left-right))
               (omega (arith, l .left-right, l .right, l .across-most)) (e .across) (across-is e made) i on,
           l .left-right,
         )

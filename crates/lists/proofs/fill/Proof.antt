@@ -21,7 +21,8 @@ use Rattle.lists.proofs.fill.Tie as tie
 abbrev Inv-loop : tie.InvT-loop
 Inv-loop e asked list values₀ numbers₀ pair k n i₀ values numbers i =
     (out : List ℤ) (num : List ℕ) → listsFit n (length out) (length num) ≡ true
-    → Filled (reportAt (e .pair) asked (e .card) list) n out num i₀ values₀ numbers₀ → Filled (reportAt (e .pair) asked (e .card) list) n out num i values numbers
+    → Filled (reportAt (e .pair) asked (e .card) list) n out num i₀ values₀ numbers₀
+    → Filled (reportAt (e .pair) asked (e .card) list) n out num i values numbers
 
 abbrev μ-loop : tie.MeasureT-loop
 μ-loop e asked list values₀ numbers₀ pair k n i₀ values numbers i = n - i
@@ -103,58 +104,61 @@ put-number-requires c κs =
       filled-numbers (reports s) (two s) (length (s .args .list .now)) (s .args .values .now) (s .args .numbers .now) (fit s) t,
     )
 
-add-run : tie.Need-add-run Inv-loop μ-loop
-add-run c = omega (arith, c .before .before .before .before .before .before .before .before .before .before .before .before .before .before .loop-test .taken, c .before .before .before .before .before .before .before .before .before .before .before .before .before .before .before .before .before .before .before .before .before .before .before .before .before .good)
+-- the turn, once the card was asked
+abbrev turn : tie.After-put-number Inv-loop μ-loop → tie.In-loop Inv-loop μ-loop
+turn c = c .before .before .before .before .before .before .before .before .before .before .before
 
--- past the entry that the card was asked
-put : (c : tie.After-put-number Inv-loop μ-loop)
-    → (out : List ℤ) (num : List ℕ)
-    → listsFit (length (c .before .before .before .before .before .before .before .before .before .before .before .before .before .before .before .before .before .before .before .before .before .before .args .list .now)) (length out) (length num) ≡ true
-    → Filled (reports (c .before .before .before .before .before .before .before .before .before .before .before .before .before .before .before .before .before .before .before .before .before .before)) (length (c .before .before .before .before .before .before .before .before .before .before .before .before .before .before .before .before .before .before .before .before .before .before .args .list .now)) out num (c .before .before .before .before .before .before .before .before .before .before .before .before .loop .i) (c .before .before .before .before .before .before .before .before .before .before .before .before .loop .values) (c .before .before .before .before .before .before .before .before .before .before .before .before .loop .numbers)
-    → Filled (reports (c .before .before .before .before .before .before .before .before .before .before .before .before .before .before .before .before .before .before .before .before .before .before)) (length (c .before .before .before .before .before .before .before .before .before .before .before .before .before .before .before .before .before .before .before .before .before .before .args .list .now)) out num (c .before .before .before .before .before .before .before .before .before .before .before .before .loop .i + 2) (c .before .before .before .put-values .last .0) (c .put-number .last .0)
-put c out num h t =
-    let s = c .before .before .before .before .before .before .before .before .before .before .before .before .before .before .before .before .before .before .before .before .before .before in
-    let l = c .before .before .before .before .before .before .before .before .before .before .before .before .loop in
-    let p = c .before .before .before .before .before .before .before .answer-entry .result in
-    let told : entryTold p ≡ reports s (entries (l .i)) =
+abbrev begun : tie.After-put-number Inv-loop μ-loop → tie.Start Inv-loop μ-loop
+begun c = start (turn c .before)
+
+add-run : tie.Need-add-run Inv-loop μ-loop
+add-run c = let p = c .before .before .before in omega (arith, turn p .loop-test .taken, begun p .good)
+
+-- what the card told of the entry
+told : (c : tie.After-put-number Inv-loop μ-loop) → Even (turn c .before .loop .i)
+    → entryTold (c .before .before .before .before .before .before .before .answer-entry .result) ≡ reports (begun c) (entries (turn c .before .loop .i))
+told c h =
+    let s = begun c in
+    let x = c .before .before .before .before .before .before .before .before .before .before .entry-at in
     c .before .before .before .before .before .before .before .answer-entry .ensures
-    ∙ pair-asked (askedReport (s .args .e .pair) (s .args .asked) (s .args .e .card)) {u = c .before .before .before .before .before .before .before .before .before .before .entry-at .result .first}
-    {v = c .before .before .before .before .before .before .before .before .before .before .entry-at .result .second}
+    ∙ pair-asked (askedReport (s .args .e .pair) (s .args .asked) (s .args .e .card)) {u = x .result .first} {v = x .result .second}
     (record { sfits = c .before .before .before .before .before .before .before .before .before .struct-told .given .0 .1 })
     (record { sfits = c .before .before .before .before .before .before .before .before .struct-told2 .given .1 .0 .1 })
-    ∙ ap (λ (x : Entry). askedReport (s .args .e .pair) (s .args .asked) (s .args .e .card) (x .first) (x .second))
-    (c .before .before .before .before .before .before .before .before .before .before .entry-at .ensures ∙ entry-from (s .args .list .now) (l .i) (t .even)) in
-    rw (c .before .before .before .put-values .ensures, c .put-number .ensures)
-    (filled-put (reports s) (two s) (length (s .args .list .now)) out num h t (c .before .before .before .before .before .before .before .before .before .before .before .loop-test .taken)
-    (p .first) (p .second) (p .number)
+    ∙ ap (λ (y : Entry). askedReport (s .args .e .pair) (s .args .asked) (s .args .e .card) (y .first) (y .second))
+    (x .ensures ∙ entry-from (s .args .list .now) (turn c .before .loop .i) h)
+
+-- past that entry
+put : (c : tie.After-put-number Inv-loop μ-loop) (out : List ℤ) (num : List ℕ)
+    → listsFit (length (begun c .args .list .now)) (length out) (length num) ≡ true
+    → Filled (reports (begun c)) (length (begun c .args .list .now)) out num (turn c .before .loop .i) (turn c .before .loop .values)
+    (turn c .before .loop .numbers)
+    → Filled (reports (begun c)) (length (begun c .args .list .now)) out num (turn c .before .loop .i + 2) (c .before .before .before .put-values .last .0)
+    (c .put-number .last .0)
+put c out num h t =
+    let s = begun c in
+    let p = c .before .before .before .before .before .before .before .answer-entry .result in
+    let e = told c (t .even) in
+    filled-put (reports s) (two s) (length (s .args .list .now)) out num h t (turn c .loop-test .taken) (p .first) (p .second) (p .number)
     (record { sfits = c .before .before .before .before .before .struct-told3 .given .1 .1 .0 .1 })
     (record { sfits = c .before .before .before .before .struct-told4 .given .1 .1 .1 .0 .1 })
-    (sym (ap (λ (r : Report). r .values) told)) (sym (ap (λ (r : Report). r .number) told)))
-
--- there, of the lists handed in
-past : (c : tie.After-put-number Inv-loop μ-loop)
-    → Filled (reports (c .before .before .before .before .before .before .before .before .before .before .before .before .before .before .before .before .before .before .before .before .before .before)) (length (c .before .before .before .before .before .before .before .before .before .before .before .before .before .before .before .before .before .before .before .before .before .before .args .list .now)) (c .before .before .before .before .before .before .before .before .before .before .before .before .before .before .before .before .before .before .before .before .before .before .args .values .now) (c .before .before .before .before .before .before .before .before .before .before .before .before .before .before .before .before .before .before .before .before .before .before .args .numbers .now)
-    (c .before .before .before .before .before .before .before .before .before .before .before .before .loop .i + 2) (c .before .before .before .put-values .last .0) (c .put-number .last .0)
-past c =
-    let l = c .before .before .before .before .before .before .before .before .before .before .before .before in
-    let s = start l in
-    put c (s .args .values .now) (s .args .numbers .now) (fit s) (filled l)
+    (sym (ap (λ (r : Report). r .values) e)) (sym (ap (λ (r : Report). r .number) e)) (c .before .before .before .put-values .ensures) (c .put-number .ensures)
 
 run-requires-2 : tie.Need-run-requires-2 Inv-loop μ-loop
 run-requires-2 c κs =
-    let s = c .before .before .before .before .before .before .before .before .before .before .before .before .before .before .before .before .before .before .before .before .before .before .before .before .before in
-    let t = past (c .before .before .before) in
-    let long =
-    filled-length (reports s) (two s) (length (s .args .list .now)) (s .args .values .now) (s .args .numbers .now) (fit s) t in
+    let p = c .before .before .before in
+    let s = begun p in
+    let t = put p (s .args .values .now) (s .args .numbers .now) (fit s) (filled (turn p .before)) in
+    let long = filled-length (reports s) (two s) (length (s .args .list .now)) (s .args .values .now) (s .args .numbers .now) (fit s) t in
     (s .pre .0, (even s, (omega (arith, long, room s), (t .even, t .upto))))
 
 loop-less : tie.Need-loop-less Inv-loop μ-loop
-loop-less c = let r = c .before .run2 .ensures in omega (arith, c .before .before .before .before .before .before .before .before .before .before .before .before .before .before .before .before .loop-test .taken, r .past)
+loop-less c = omega (arith, turn (c .before .before .before .before .before) .loop-test .taken, c .before .run2 .ensures .past)
 
 loop-again : tie.Need-loop-again Inv-loop μ-loop
 loop-again c out num h t =
-    let s = c .before .before .before .before .before .before .before .before .before .before .before .before .before .before .before .before .before .before .before .before .before .before .before .before .before .before .before in
-    filled-run (reports s) (two s) (length (s .args .list .now)) out num h (put (c .before .before .before .before .before) out num h (c .before .before .before .before .before .before .before .before .before .before .before .before .before .before .before .before .before .loop .inv out num h t)) (c .before .run2 .ensures)
+    let p = c .before .before .before .before .before in
+    let s = begun p in
+    filled-run (reports s) (two s) (length (s .args .list .now)) out num h (put p out num h (turn p .before .loop .inv out num h t)) (c .before .run2 .ensures)
 
 same-length : tie.Need-same-length Inv-loop μ-loop
 same-length c =
@@ -170,7 +174,8 @@ returns : tie.Need-returns Inv-loop μ-loop
 returns c =
     let s = start (c .before) in
     let e =
-    filled-end (reports s) (two s) (length (s .args .list .now)) (s .args .values .now) (s .args .numbers .now) (fit s) (filled (c .before)) (c .loop-test .left) in
+    filled-end (reports s) (two s) (length (s .args .list .now)) (s .args .values .now) (s .args .numbers .now) (fit s) (filled (c .before))
+    (c .loop-test .left) in
     (rw (fit s) (e .0), rw (fit s) (e .1))
 
 pub fill-spec : {M : Type 1} → statement M

@@ -59,27 +59,31 @@ returns : tie.Need-returns Inv-loop μ-loop
 returns c = c .before .before .before .before .before .before .before .loop .inv
 
 add-i : tie.Need-add-i Inv-loop μ-loop
-add-i c = omega (arith, c .before .before .before .before .before .before .before .before .before .before .loop-test .taken, c .before .before .before .before .before .before .before .before .before .before .before .before .before .good)
+add-i c =
+    let t = c .before .before .before .before .before .before .before .before .before .before in
+    omega (arith, t .loop-test .taken, t .before .before .before .good)
 
 loop-less : tie.Need-loop-less Inv-loop μ-loop
 loop-less c = omega (arith, c .before .before .before .before .before .before .before .before .before .before .loop-test .taken)
 
 loop-again : tie.Need-loop-again Inv-loop μ-loop
 loop-again c =
-    let s = c .before .before .before .before .before .before .before .before .before .before .before .before .before in
-    let l = c .before .before .before .before .before .before .before .before .before .before .before .loop in
+    let t = c .before .before .before .before .before .before .before .before .before .before in
+    let l = t .before .loop in
+    let s = t .before .before .before in
     let b = c .before .before .before .before .before .before .before .before .before in
     let a = c .before .before .before .before .first .given in
     let f = c .before .before .before .known-told .given in
     let told : reports s (entries (l .i)) ≡ answered (a .0 .0 ∷ a .0 .1 .0 ∷ []) =
     sym
     (pair-asked (askedReport (s .args .e .pair) (s .args .asked) (s .args .e .card)) {u = b .entry-at .result .first} {v = b .entry-at .result .second}
-    (record { sfits = c .before .before .before .before .before .before .before .before .struct-told .given .0 .1 }) (record { sfits = c .before .before .before .before .before .before .before .struct-told2 .given .1 .0 .1 })
+    (record { sfits = c .before .before .before .before .before .before .before .before .struct-told .given .0 .1 })
+    (record { sfits = c .before .before .before .before .before .before .before .struct-told2 .given .1 .0 .1 })
     ∙ ap (λ (x : Entry). askedReport (s .args .e .pair) (s .args .asked) (s .args .e .card) (x .first) (x .second))
     (b .entry-at .ensures ∙ entry-from (s .args .list .now) (l .i) (l .inv .even)))
     ∙ c .before .before .before .before .before .before .on-chart .ensures .at (a .0 .0) (a .0 .1 .0) (a .1) in
     rw (c .before .put-values .ensures)
-    (ran-next (reports s) (two s) (length (s .args .list .now)) (s .pre .1 .0) (l .inv) (c .before .before .before .before .before .before .before .before .before .before .loop-test .taken) (a .0 .0) (a .0 .1 .0)
+    (ran-next (reports s) (two s) (length (s .args .list .now)) (s .pre .1 .0) (l .inv) (t .loop-test .taken) (a .0 .0) (a .0 .1 .0)
     (record { sfits = f .0 .1 }) (record { sfits = f .1 .0 .1 }) (ap (λ (r : Report). r .values) told) (ap (λ (r : Report). r .number) told))
 
 same-length-2 : tie.Need-same-length-2 Inv-loop μ-loop

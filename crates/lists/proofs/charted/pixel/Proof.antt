@@ -52,7 +52,8 @@ souths : (c : tie.Else1) → (outside quarter (start c .args .lat) ≡ false) ×
 souths c =
     let s = start c in
     south-from (s .args .e .down .first) (top-low (s .args .e) (s .pre .0)) (s .args .lat) (s .fits .lat)
-    (c .before .before .before .before .before .before .before .before .before .before .southward .ensures) (c .before .before .before .before .before .before .before .before .south .given .1)
+    (c .before .before .before .before .before .before .before .before .before .before .southward .ensures)
+    (c .before .before .before .before .before .before .before .before .south .given .1)
 
 easts : (c : tie.Else1) → (outside half (start c .args .lon) ≡ false) × (east c ≡ (raise half (start c .args .lon) + start c .args .e .across .first) % circle)
 easts c =

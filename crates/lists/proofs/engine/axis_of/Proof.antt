@@ -38,7 +38,8 @@ start-of-requires-2 c κs = part c
 add-t11 : tie.Need-add-t11
 add-t11 c =
     let b = c .before in
-    let low : c .start-of2 .result < 68719476736 = rw (c .start-of2 .ensures) (start-low (b .scale-up .result) 68719476736 (b .before .before .args .off) (part b)) in
+    let low : c .start-of2 .result < 68719476736 =
+    rw (c .start-of2 .ensures) (start-low (b .scale-up .result) 68719476736 (b .before .before .args .off) (part b)) in
     record { fits = omega (arith, angle-low (b .before .before), low) }
 
 returns : tie.Need-returns
