@@ -1,7 +1,7 @@
 // Entries answered by the chart's own numbers, with no division (001, 3.4.3, 3.4.4; 02, E8).
 use crate::Asked;
+use crate::engine;
 use crate::engine::Engine;
-use crate::engine::Span;
 use arc::Circle;
 use arc::Verdict;
 use whole::Counted;
@@ -14,27 +14,16 @@ ghost use Rattle.arc.specs.Zones.{circle, half, quarter};
 ghost use Rattle.card.specs.Steps.{inward};
 ghost use Rattle.card.specs.Grid.{positionOf, pixelOf, positionReport, pixelReport};
 ghost use Rattle.lists.specs.Lists.{askedReport};
-ghost use Rattle.lists.specs.Steps.{fine, coarse, Made};
+ghost use Rattle.lists.specs.Steps.{coarse, Made};
 ghost use Rattle.lists.specs.Runs.{southOf, eastOf, westOf, Agrees};
 
 // A shift by 36 divides by 2^36.
 const COARSE_BITS: u32 = 36;
 
-// 90° and 360° in parts of 2^36.
-const QUARTER_PARTS: i64 = 2_226_511_046_246_400_000;
+// 90° and 360° in parts of 2^36 to a hundredth.
+const QUARTER_PARTS: i64 = (Circle::QUARTER as i64) * (engine::COARSE as i64);
 
-const CIRCLE_PARTS: i64 = 8_906_044_184_985_600_000;
-
-// 2^45.
-const FINE: u64 = 35_184_372_088_832;
-
-// The pixel i hundredths past a span's first.
-fn pixel_past(x: Span, i: u64) -> i64
-    requires { ⌜ i * x .rate + x .start < 9223372036854775808 ⌝ }
-    ensures { λ r. ⌜ r ≡ pos ((i * x .rate + x .start) / fine) ⌝ }
-{
-    ((i * x.rate + x.start) / FINE) as i64
-}
+const CIRCLE_PARTS: i64 = (Circle::H as i64) * (engine::COARSE as i64);
 
 // What the chart's own numbers answer of an entry: two values, or nothing.
 pub enum Charted {
@@ -138,8 +127,8 @@ fn pixel(e: Engine, west: i64, lat: i64, lon: i64) -> Charted
         return Charted::Off;
     }
     Charted::At {
-        first: pixel_past(y, south),
-        second: pixel_past(x, east),
+        first: engine::pixel_past(y, south),
+        second: engine::pixel_past(x, east),
     }
 }
 

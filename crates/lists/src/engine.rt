@@ -4,15 +4,16 @@ use card::Card;
 use card::Pair;
 ghost use mathlib.Core.Path.{_≡_};
 ghost use Prim.Native.Nat.{_+_, _-_, _*_, _/_, _≤_, _<_};
+ghost use lib.IntN.{pos};
 ghost use Rattle.arc.specs.Spacing.{Grid};
 ghost use Rattle.card.specs.Read.{Known};
-ghost use Rattle.lists.specs.Steps.{scaleUp, least, startOf, axisOf, spanOf, downOf, acrossOf, engineOf};
+ghost use Rattle.lists.specs.Steps.{scaleUp, fine, least, startOf, axisOf, spanOf, downOf, acrossOf, engineOf};
 
 // H / 256.
 const STEP: u64 = 506_250;
 
 // 2^36.
-const COARSE: u64 = 68_719_476_736;
+pub const COARSE: u64 = 68_719_476_736;
 
 // H / 512.
 const UNIT: u64 = 253_125;
@@ -126,6 +127,14 @@ fn across_of(up: u64, k: Card) -> Span
         k.nls,
         k.nus + 1 - k.nls,
     )
+}
+
+// The pixel i hundredths past a span's first.
+pub fn pixel_past(x: Span, i: u64) -> i64
+    requires { ⌜ i * x .rate + x .start < 9223372036854775808 ⌝ }
+    ensures { λ r. ⌜ r ≡ pos ((i * x .rate + x .start) / fine) ⌝ }
+{
+    ((i * x.rate + x.start) / FINE) as i64
 }
 
 // The engine of a card for a pair.

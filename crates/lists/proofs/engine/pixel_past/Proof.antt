@@ -3,8 +3,8 @@ use native.Mathlib.Omega.{arith}
 use mir.Syntax.{w64}
 use mir.ValLaws.{toZ-pos}
 use borrow.Author.Needs.{needs}
-use Rattle.lists.proofs.charted.pixel_past.Statement.{statement}
-use Rattle.lists.proofs.charted.pixel_past.Tie as tie
+use Rattle.lists.proofs.engine.pixel_past.Statement.{statement}
+use Rattle.lists.proofs.engine.pixel_past.Tie as tie
 
 returns : tie.Need-returns
 returns c = toZ-pos w64 _ (omega (arith, c .before .before .pre))
