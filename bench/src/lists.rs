@@ -2,8 +2,8 @@
 
 use std::hint::black_box;
 
-use crate::inputs::{largest, pixel, position, Written};
-use crate::plain::{self, Refusal};
+use crate::inputs::{largest, pixel, position, Sheet, Written};
+use crate::plain::{self, Refusal, H};
 use crate::random::Random;
 use crate::timing::{differ, measure, Form};
 use crate::{doubles, exact, lean};
@@ -23,21 +23,68 @@ type List = fn(Series, &[u8], &[i64], &mut [i64], &mut [u32]) -> Result<(), Refu
 pub fn positions(random: &mut Random) {
     positions_in::<true>(random, "centres");
     positions_in::<false>(random, "corners");
+    off_the_chart(random, "a pixels", &position_forms::<true>(), |random, sheet| {
+        let (row, column) = pixel(random, &sheet.record);
+        (row - 200_000, column)
+    });
 }
 
 pub fn pixels(random: &mut Random) {
     pixels_in::<true>(random, "centre pair");
     pixels_in::<false>(random, "corner pair");
+    off_the_chart(random, "b positions", &pixel_forms::<true>(), |random, _| {
+        (random.within(-H / 4, H / 4), random.within(-H / 2, H / 2))
+    });
 }
 
-fn positions_in<const CENTRE: bool>(random: &mut Random, pair: &str) {
-    let forms: [(&'static str, List); 5] = [
+type Forms = [(&'static str, List); 5];
+
+fn position_forms<const CENTRE: bool>() -> Forms {
+    [
         ("plain", plain::grid::positions::<CENTRE>),
         ("lean", lean::positions::<CENTRE>),
         ("ours", our_positions::<CENTRE>),
         ("doubles", doubles::positions::<CENTRE>),
         ("exact", exact::positions::<CENTRE>),
-    ];
+    ]
+}
+
+fn pixel_forms<const CENTRE: bool>() -> Forms {
+    [
+        ("plain", plain::grid::pixels::<CENTRE>),
+        ("lean", lean::pixels::<CENTRE>),
+        ("ours", our_pixels::<CENTRE>),
+        ("doubles", doubles::pixels::<CENTRE>),
+        ("exact", exact::pixels::<CENTRE>),
+    ]
+}
+
+/// Entries that are not on the chart, all of them and every other one, in the centre pair.
+fn off_the_chart(
+    random: &mut Random,
+    entries: &str,
+    forms: &Forms,
+    off: impl Fn(&mut Random, &Sheet) -> (i64, i64),
+) {
+    let sheet = largest(random, 1_000_000);
+    let card = sheet.write();
+    let read = plain::read::read_card(card.series, &card.bytes).expect("a valid card");
+    let asked = pairs(|| off(random, &sheet));
+    list(&format!("{entries} off the chart"), &card, &asked, forms);
+    let mut turn = 0;
+    let asked = pairs(|| {
+        turn += 1;
+        match (turn % 2, entries) {
+            (1, _) => off(random, &sheet),
+            (_, "a pixels") => pixel(random, &sheet.record),
+            _ => position(random, &read),
+        }
+    });
+    list(&format!("{entries}, every other off the chart"), &card, &asked, forms);
+}
+
+fn positions_in<const CENTRE: bool>(random: &mut Random, pair: &str) {
+    let forms = position_forms::<CENTRE>();
     for (scale, name) in SCALES {
         let sheet = largest(random, scale);
         let asked = pairs(|| pixel(random, &sheet.record));
@@ -51,13 +98,7 @@ fn positions_in<const CENTRE: bool>(random: &mut Random, pair: &str) {
 }
 
 fn pixels_in<const CENTRE: bool>(random: &mut Random, pair: &str) {
-    let forms: [(&'static str, List); 5] = [
-        ("plain", plain::grid::pixels::<CENTRE>),
-        ("lean", lean::pixels::<CENTRE>),
-        ("ours", our_pixels::<CENTRE>),
-        ("doubles", doubles::pixels::<CENTRE>),
-        ("exact", exact::pixels::<CENTRE>),
-    ];
+    let forms = pixel_forms::<CENTRE>();
     for (scale, name) in SCALES {
         let card = largest(random, scale).write();
         let read = plain::read::read_card(card.series, &card.bytes).expect("a valid card");

@@ -1,3 +1,3 @@
 pub mod Lists
 pub mod Steps
-pub mod Runs
+pub mod Stretches

@@ -76,11 +76,11 @@ spanOf u first rest low n =
       start = scaleUp fine rest 253125 + low * fine;
     }
 
-abbrev pub least : ℕ → ℕ → ℕ
-least x y = cond (ltb x y) x y
+abbrev pub smaller : ℕ → ℕ → ℕ
+smaller x y = cond (ltb x y) x y
 
 abbrev pub downOf : ℕ → ℕ → Card → Span
-downOf u from k = spanOf u (least (from / u) half) (from - u * least (from / u) half) (k .nul) (k .nll + 1 - k .nul)
+downOf u from k = spanOf u (smaller (from / u) half) (from - u * smaller (from / u) half) (k .nul) (k .nll + 1 - k .nul)
 
 abbrev pub acrossOf : ℕ → ℕ → Card → Span
 acrossOf u from k = spanOf u (from / u % circle) (from % u) (k .nls) (k .nus + 1 - k .nls)

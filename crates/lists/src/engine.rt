@@ -7,7 +7,7 @@ ghost use Prim.Native.Nat.{_+_, _-_, _*_, _/_, _≤_, _<_};
 ghost use lib.IntN.{pos};
 ghost use Rattle.arc.specs.Spacing.{Grid};
 ghost use Rattle.card.specs.Read.{Known};
-ghost use Rattle.lists.specs.Steps.{scaleUp, fine, least, startOf, axisOf, spanOf, downOf, acrossOf, engineOf};
+ghost use Rattle.lists.specs.Steps.{scaleUp, fine, smaller, startOf, axisOf, spanOf, downOf, acrossOf, engineOf};
 
 // H / 256.
 const STEP: u64 = 506_250;
@@ -94,7 +94,7 @@ fn span_of(unit: u64, first: u64, rest: u64, low: u64, pixels: u64) -> Span
 
 // The smaller of two numbers.
 fn smaller(x: u64, y: u64) -> u64
-    ensures { λ r. ⌜ r ≡ least x y ⌝ }
+    ensures { λ r. ⌜ r ≡ smaller x y ⌝ }
 {
     if x < y {
         return x;

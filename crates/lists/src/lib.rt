@@ -6,13 +6,13 @@ use charted::Charted;
 use engine::Engine;
 ghost use mathlib.Core.Path.{_≡_};
 ghost use mathlib.Core.Bool.{true};
-ghost use Prim.Native.Nat.{_+_, _*_, _≤_, _<_};
+ghost use Prim.Native.Nat.{_+_, _≤_, _<_};
 ghost use lib.ListN.{length, set};
 ghost use Rattle.whole.specs.Lists.{over};
 ghost use Rattle.card.specs.declared.Pair.{Pair};
 ghost use Rattle.card.specs.Read.{Known};
 ghost use Rattle.lists.specs.Steps.{Made, entryTold};
-ghost use Rattle.lists.specs.Runs.{entryFrom, Ran, Even, zeros};
+ghost use Rattle.lists.specs.Stretches.{entryFrom, Even, ChartedStretch, AskedStretch, zeros};
 ghost use Rattle.lists.specs.Lists.{listsFit, listsVerdict, askedReport, reportAt, positionReportAt, pixelReportAt, valuesLeft, numbersLeft};
 
 mod charted;
@@ -37,7 +37,7 @@ struct Entry {
     second: i64,
 }
 
-// The entry that starts at a place in a list.
+// The entry that starts at an element of a list.
 fn entry_at(list: &[i64], at: usize) -> Entry
     requires { ⌜ at + 1 < length (now list) ⌝ }
     ensures { λ r. ⌜ r ≡ entryFrom (now (list .entry)) at ⌝ }
@@ -47,7 +47,7 @@ fn entry_at(list: &[i64], at: usize) -> Entry
     Entry { first, second }
 }
 
-// Two values at a place in a list.
+// Two values from an element of a list on.
 fn put_values(list: &mut [i64], at: usize, first: i64, second: i64)
     requires { ⌜ at + 1 < length (now list) ⌝ }
     ensures { λ _. ⌜ now (list .exit) ≡ set (set (now (list .entry)) at first) (at + 1) second ⌝ }
@@ -111,10 +111,10 @@ fn clear(numbers: &mut [u32], n: usize)
     }
 }
 
-// The entries from a place in the list on, as far as the chart's own numbers answer them; the place of the first that they do not.
-fn run(e: Engine, asked: Asked, list: &[i64], values: &mut [i64], from: usize) -> usize
+// The entries from an element of the list on, as far as the engine answers them; the element where the first stands that it does not, or the length.
+fn charted_stretch(e: Engine, asked: Asked, list: &[i64], values: &mut [i64], from: usize) -> usize
     requires { ⌜ Made e ⌝ ∗ ⌜ Even (length (now list)) ⌝ ∗ ⌜ length (now list) ≤ length (now values) ⌝ ∗ ⌜ Even from ⌝ ∗ ⌜ from ≤ length (now list) ⌝ }
-    ensures { λ r. ⌜ Ran (reportAt (e .pair) asked (e .card) (now (list .entry))) (length (now (list .entry))) from r
+    ensures { λ r. ⌜ ChartedStretch (reportAt (e .pair) asked (e .card) (now (list .entry))) (length (now (list .entry))) from r
         (now (values .entry)) (now (values .exit)) ⌝ }
 {
     let west = charted::west_of(e);
@@ -135,7 +135,38 @@ fn run(e: Engine, asked: Asked, list: &[i64], values: &mut [i64], from: usize) -
     i
 }
 
-// What is told of each entry: by runs along the chart, and by the card between them.
+// The entries from an element of the list on, asked of the card up to the first that it does not refuse; the element after them.
+fn asked_stretch(
+    pair: Pair,
+    k: Card,
+    asked: Asked,
+    list: &[i64],
+    values: &mut [i64],
+    numbers: &mut [u32],
+    from: usize,
+) -> usize
+    requires { ⌜ Known k ⌝ ∗ ⌜ listsFit (length (now list)) (length (now values)) (length (now numbers)) ≡ true ⌝ ∗ ⌜ Even from ⌝
+        ∗ ⌜ from < length (now list) ⌝ }
+    ensures told { λ r. ⌜ AskedStretch (reportAt pair asked k (now (list .entry))) (length (now (list .entry))) from r
+        (now (values .entry)) (now (values .exit)) (now (numbers .entry)) (now (numbers .exit)) ⌝ }
+    ensures further { λ r. ⌜ from < r ⌝ }
+{
+    let n = list.len();
+    let mut i = from;
+    while i < n {
+        let x = entry_at(list, i);
+        let p = answer_entry(pair, k, asked, x.first, x.second);
+        put_values(values, i, p.first, p.second);
+        put_number(numbers, i / 2, p.number);
+        i += 2;
+        if p.number == 0 {
+            return i;
+        }
+    }
+    i
+}
+
+// What is told of each entry: by the engine, and between its stretches by the card.
 fn fill(e: Engine, asked: Asked, list: &[i64], values: &mut [i64], numbers: &mut [u32])
     requires { ⌜ Made e ⌝ ∗ ⌜ listsFit (length (now list)) (length (now values)) (length (now numbers)) ≡ true ⌝ }
     ensures values { λ _. ⌜ now (values .exit)
@@ -147,13 +178,10 @@ fn fill(e: Engine, asked: Asked, list: &[i64], values: &mut [i64], numbers: &mut
     let k = e.card;
     let n = list.len();
     clear(numbers, n / 2);
-    let mut i = run(e, asked, list, values, 0);
+    let mut i = charted_stretch(e, asked, list, values, 0);
     while i < n {
-        let x = entry_at(list, i);
-        let p = answer_entry(pair, k, asked, x.first, x.second);
-        put_values(values, i, p.first, p.second);
-        put_number(numbers, i / 2, p.number);
-        i = run(e, asked, list, values, i + 2);
+        i = asked_stretch(pair, k, asked, list, values, numbers, i);
+        i = charted_stretch(e, asked, list, values, i);
     }
 }
 

@@ -1,4 +1,4 @@
--- After i turns the entries from the first place to i are the reports of those handed in, and none of them refuses. Assumes nothing.
+-- At each turn the entries from the first to i are the reports of those handed in, and none of them refuses. Assumes nothing.
 use mathlib.Core.Path.{_≡_, sym, ap, _∙_}
 use Prim.Native.Nat.{ℕ, _-_}
 use native.Mathlib.Omega.{arith}
@@ -9,15 +9,15 @@ use Rattle.whole.proofs.Machine.{result-is}
 use Rattle.card.proofs.Answers.{pair-asked}
 use Rattle.lists.specs.declared.Entry.{Entry}
 use Rattle.lists.specs.Lists.{entries, entryAt, askedReport, reportAt}
-use Rattle.lists.specs.Runs.{Ran}
+use Rattle.lists.specs.Stretches.{ChartedStretch}
 use Rattle.lists.proofs.Filling.{report-values}
-use Rattle.lists.proofs.Running.{entry-from, ran-none, ran-next}
+use Rattle.lists.proofs.Stretches.{entry-from, charted-none, charted-next}
 use borrow.Author.Needs.{needs}
-use Rattle.lists.proofs.run.Statement.{statement}
-use Rattle.lists.proofs.run.Tie as tie
+use Rattle.lists.proofs.charted_stretch.Statement.{statement}
+use Rattle.lists.proofs.charted_stretch.Tie as tie
 
 abbrev Inv-loop : tie.InvT-loop
-Inv-loop e asked list values₀ from west n i₀ values i = Ran (reportAt (e .pair) asked (e .card) list) n from i values₀ values
+Inv-loop e asked list values₀ from west n i₀ values i = ChartedStretch (reportAt (e .pair) asked (e .card) list) n from i values₀ values
 
 abbrev μ-loop : tie.MeasureT-loop
 μ-loop e asked list values₀ from west n i₀ values i = n - i
@@ -34,7 +34,7 @@ west-of-requires c κs = c .pre .0
 
 loop-holds : tie.Need-loop-holds Inv-loop μ-loop
 loop-holds c =
-    let s = c .before in ran-none (reports s) (two s) (length (s .args .list .now)) (s .pre .1 .0) (s .args .from) _ (s .pre .1 .1 .1 .0) (s .pre .1 .1 .1 .1)
+    let s = c .before in charted-none (reports s) (two s) (length (s .args .list .now)) (s .pre .1 .0) (s .args .from) _ (s .pre .1 .1 .1 .0) (s .pre .1 .1 .1 .1)
 
 entry-at-requires : tie.Need-entry-at-requires Inv-loop μ-loop
 entry-at-requires c κs =
@@ -83,7 +83,7 @@ loop-again c =
     (b .entry-at .ensures ∙ entry-from (s .args .list .now) (l .i) (l .inv .even)))
     ∙ c .before .before .before .before .before .before .on-chart .ensures .at (a .0 .0) (a .0 .1 .0) (a .1) in
     rw (c .before .put-values .ensures)
-    (ran-next (reports s) (two s) (length (s .args .list .now)) (s .pre .1 .0) (l .inv) (t .loop-test .taken) (a .0 .0) (a .0 .1 .0)
+    (charted-next (reports s) (two s) (length (s .args .list .now)) (s .pre .1 .0) (l .inv) (t .loop-test .taken) (a .0 .0) (a .0 .1 .0)
     (record { sfits = f .0 .1 }) (record { sfits = f .1 .0 .1 }) (ap (λ (r : Report). r .values) told) (ap (λ (r : Report). r .number) told))
 
 same-length-2 : tie.Need-same-length-2 Inv-loop μ-loop
@@ -92,8 +92,8 @@ same-length-2 c = c .before .loop .inv .kept
 returns-2 : tie.Need-returns-2 Inv-loop μ-loop
 returns-2 c = c .before .loop .inv
 
-pub run-spec : {M : Type 1} → statement M
-run-spec =
+pub charted-stretch-spec : {M : Type 1} → statement M
+charted-stretch-spec =
     tie.close
     (tie.spec Inv-loop μ-loop west-of-requires loop-holds entry-at-requires on-chart-requires (λ c. search needs) put-values-requires (λ c. search needs)
     same-length returns add-i loop-less loop-again same-length-2 returns-2)

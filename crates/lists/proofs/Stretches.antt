@@ -1,25 +1,24 @@
--- A list filled by runs, its numbers cleared before: what a run leaves, and what the loop over runs leaves. Assumes nothing.
+-- A list filled stretch by stretch, its numbers cleared before: what a stretch leaves, and what they leave together. Assumes nothing.
 use mathlib.Core.Path.{_≡_, refl, sym, ap, _∙_}
 use mathlib.Core.Bool.{Bool, true, false, _&&_, and-eq-true-iff}
 use mathlib.Core.List.{List, [], _∷_, _++_}
-use Prim.Native.Nat.{ℕ, zero, suc, _+_, _-_, _*_, _/_, _%_, _≤_, _<_}
+use Prim.Native.Nat.{ℕ, zero, suc, _+_, _-_, _*_, _%_, _≤_, _<_}
 use native.Mathlib.Numerals.{add-one}
 use native.Mathlib.Omega.{arith}
 use borrow.Author.Tests.{ltb-true, ltb-false, eqb-true}
 use lib.Dec.{ltb, leb, eqb}
 use lib.ListN.{length, set, getD, drop, length-set, length-append, List·getD-append}
 use lib.Seq.{drop-cons, append-snoc, drop-append-seam, getD-append-seam}
-use lib.IntN.{ℤ, pos}
+use lib.IntN.{ℤ}
 use mir.Syntax.{w64}
 use mir.Val.{SFits, toZ, ofZ}
 use Rattle.arc.specs.Refusals.{Report}
 use Rattle.whole.specs.Lists.{over}
-use Rattle.lists.specs.declared.Entry.{Entry}
 use Rattle.lists.specs.Lists.{entries, listsFit, entryAt, reportValues, reportNumbers}
-use Rattle.lists.specs.Runs.{Even, Ran, entryFrom, zeros}
+use Rattle.lists.specs.Stretches.{Even, ChartedStretch, AskedStretch, entryFrom, zeros}
 use Rattle.lists.proofs.Filling.{length-over, length-each, lists-fit, values-length, numbers-length, values-next, numbers-next}
 
--- ---- places
+-- ---- elements where an entry starts
 pub even-fit : (p o n : ℕ) → listsFit p o n ≡ true → Even p
 even-fit p o n e =
     let t = and-eq-true-iff (eqb (p % 2) 0 && leb p o) (leb (entries p) n) .0 e in
@@ -89,7 +88,7 @@ module _ (f : ℕ → Report) (n : ℕ) (num : List ℕ) (room : n ≤ length nu
       let e : b ≡ a + (b - a) = omega arith in
       ap (λ (k : ℕ). over (reportNumbers k f) clean) e ∙ skip a (b - a) (omega arith) (λ i l t. z i l (omega arith))
 
-  -- at the end no zero is left
+  -- at the end the clearing makes no difference
   pub all-over : over (reportNumbers n f) clean ≡ over (reportNumbers n f) num
   all-over =
       let long : length (reportNumbers n f) ≡ length (zeros n) = omega (arith, numbers-length f n, zeros-length n) in
@@ -97,10 +96,10 @@ module _ (f : ℕ → Report) (n : ℕ) (num : List ℕ) (room : n ≤ length nu
       ∙ ap (λ (s : List ℕ). reportNumbers n f ++ s) (drop-append-seam (zeros n) (drop (length (zeros n)) num))
       ∙ ap (λ (k : ℕ). reportNumbers n f ++ drop k num) (sym long)
 
--- ---- a run
+-- ---- a stretch of entries that the engine answers
 module _ (f : ℕ → Report) (two : (i : ℕ) → length (f i .values) ≡ 2) (n : ℕ) (en : Even n) where
-  pub ran-none : (from : ℕ) (before : List ℤ) → Even from → from ≤ n → Ran f n from from before before
-  ran-none from before h le =
+  pub charted-none : (from : ℕ) (before : List ℤ) → Even from → from ≤ n → ChartedStretch f n from from before before
+  charted-none from before h le =
       record {
         even = h;
         past = omega arith;
@@ -110,10 +109,10 @@ module _ (f : ℕ → Report) (two : (i : ℕ) → length (f i .values) ≡ 2) (
         answers = λ i l t. absurd (omega arith);
       }
 
-  pub ran-next : {from at : ℕ} {before now : List ℤ} → Ran f n from at before now → at < n → (x y : ℤ) → SFits w64 x → SFits w64 y
+  pub charted-next : {from at : ℕ} {before now : List ℤ} → ChartedStretch f n from at before now → at < n → (x y : ℤ) → SFits w64 x → SFits w64 y
       → f (entries at) .values ≡ x ∷ y ∷ [] → f (entries at) .number ≡ 0
-      → Ran f n from (at + 2) before (set (set now at (toZ w64 (ofZ w64 x))) (at + 1) (toZ w64 (ofZ w64 y)))
-  ran-next {from} {at} {before} {now} r h x y fx fy ev ez =
+      → ChartedStretch f n from (at + 2) before (set (set now at (toZ w64 (ofZ w64 x))) (at + 1) (toZ w64 (ofZ w64 y)))
+  charted-next {from} {at} {before} {now} r h x y fx fy ev ez =
       record {
         even = omega (arith, r .even);
         past = omega (arith, r .past);
@@ -133,7 +132,44 @@ module _ (f : ℕ → Report) (two : (i : ℕ) → length (f i .values) ≡ 2) (
           go true e = r .answers i l (ltb-true i (entries at) e)
           go false e = ap (λ (k : ℕ). f k .number) (omega (arith, ltb-false i (entries at) e)) ∙ ez
 
--- ---- the loop over runs
+-- ---- a stretch of entries that the card is asked
+module _ (f : ℕ → Report) (two : (i : ℕ) → length (f i .values) ≡ 2) (n : ℕ) (en : Even n) where
+  pub asked-none : (from : ℕ) (before : List ℤ) (counts : List ℕ) → Even from → from ≤ n → AskedStretch f n from from before before counts counts
+  asked-none from before counts h le =
+      record {
+        even = h;
+        past = omega arith;
+        upto = le;
+        kept = (refl, refl);
+        written = λ out room e. e;
+        counted = λ num room e. e;
+      }
+
+  pub asked-next : {from at : ℕ} {before now after : List ℤ} {counts nums then : List ℕ} → AskedStretch f n from at before now counts nums → at < n
+      → (x y : ℤ) (z : ℕ) → SFits w64 x → SFits w64 y → f (entries at) .values ≡ x ∷ y ∷ [] → f (entries at) .number ≡ z
+      → after ≡ set (set now at (toZ w64 (ofZ w64 x))) (at + 1) (toZ w64 (ofZ w64 y)) → then ≡ set nums (entries at) z
+      → AskedStretch f n from (at + 2) before after counts then
+  asked-next {at = at} {now = now} {nums = nums} r h x y z fx fy ev ez wrote told =
+      record {
+        even = omega (arith, r .even);
+        past = omega (arith, r .past);
+        upto = omega (arith, r .even);
+        kept = (
+          ap length wrote ∙ length-set (set now at (toZ w64 (ofZ w64 x))) (at + 1) (toZ w64 (ofZ w64 y)) ∙ length-set now at (toZ w64 (ofZ w64 x)) ∙ r .kept .0,
+          ap length told ∙ length-set nums (entries at) z ∙ r .kept .1,
+        );
+        written = λ out room e.
+            wrote
+            ∙ ap (λ (k : ℕ). set (set now k (toZ w64 (ofZ w64 x))) (k + 1) (toZ w64 (ofZ w64 y))) (twice at (r .even))
+            ∙ values-next f two out (entries at) (r .written out room e) (omega (arith, r .even)) x y fx fy ev
+            ∙ ap (λ (k : ℕ). over (reportValues k f) out) (next-entry at);
+        counted = λ num room e.
+            told
+            ∙ numbers-next f num (entries at) (r .counted num room e) (omega (arith, r .even)) z ez
+            ∙ ap (λ (k : ℕ). over (reportNumbers k f) num) (next-entry at);
+      }
+
+-- ---- stretch by stretch
 pub record Filled (f : ℕ → Report) (n : ℕ) (out : List ℤ) (num : List ℕ) (at : ℕ) (now : List ℤ) (nums : List ℕ) : Type 0 where
   pub even : Even at
   pub upto : at ≤ n
@@ -156,8 +192,8 @@ module _ (f : ℕ → Report) (two : (i : ℕ) → length (f i .values) ≡ 2) (
       ∙ length-over (reportNumbers (entries at) f) (over (zeros (entries n)) num) (omega (arith, t .upto, room, kept, numbers-length f (entries at)))
       ∙ kept
 
-  -- the first run, from the cleared numbers
-  pub filled-first : {at : ℕ} {now : List ℤ} {nums : List ℕ} → Ran f n 0 at out now → nums ≡ over (zeros (entries n)) num → Filled f n out num at now nums
+  -- the first stretch, from the cleared numbers
+  pub filled-first : {at : ℕ} {now : List ℤ} {nums : List ℕ} → ChartedStretch f n 0 at out now → nums ≡ over (zeros (entries n)) num → Filled f n out num at now nums
   filled-first {at} r e =
       record {
         even = r .even;
@@ -166,32 +202,21 @@ module _ (f : ℕ → Report) (two : (i : ℕ) → length (f i .values) ≡ 2) (
         numbers = e ∙ sym (skip-to f (entries n) num (room .1) 0 (entries at) (omega arith) (omega (arith, r .upto)) (r .answers));
       }
 
-  -- an entry that the card was asked
-  pub filled-put : {at : ℕ} {now after : List ℤ} {nums more : List ℕ} → Filled f n out num at now nums → at < n → (x y : ℤ) (z : ℕ)
-      → SFits w64 x → SFits w64 y → f (entries at) .values ≡ x ∷ y ∷ [] → f (entries at) .number ≡ z
-      → after ≡ set (set now at (toZ w64 (ofZ w64 x))) (at + 1) (toZ w64 (ofZ w64 y)) → more ≡ set nums (entries at) z
-      → Filled f n out num (at + 2) after more
-  filled-put {at} {now} t h x y z fx fy ev ez wrote counted =
+  -- a stretch that the card was asked
+  pub filled-asked : {at to : ℕ} {now after : List ℤ} {nums then : List ℕ} → Filled f n out num at now nums → AskedStretch f n at to now after nums then
+      → Filled f n out num to after then
+  filled-asked t r =
       record {
-        even = omega (arith, t .even);
-        upto = omega (arith, t .even, even-fit n (length out) (length num) fit);
-        values =
-            wrote
-            ∙ ap (λ (k : ℕ). set (set now k (toZ w64 (ofZ w64 x))) (k + 1) (toZ w64 (ofZ w64 y))) (twice at (t .even))
-            ∙ values-next f two out (entries at) (t .values)
-            (omega (arith, t .even, even-fit n (length out) (length num) fit, room)) x y fx fy ev
-            ∙ ap (λ (k : ℕ). over (reportValues k f) out) (next-entry at);
-        numbers =
-            counted
-            ∙ numbers-next f (over (zeros (entries n)) num) (entries at) (t .numbers)
-            (omega (arith, t .even, even-fit n (length out) (length num) fit, room, zeros-kept (entries n) num (room .1))) z ez
-            ∙ ap (λ (k : ℕ). over (reportNumbers k f) (over (zeros (entries n)) num)) (next-entry at);
+        even = r .even;
+        upto = r .upto;
+        values = r .written out (room .0) (t .values);
+        numbers = r .counted (over (zeros (entries n)) num) (omega (arith, room, zeros-kept (entries n) num (room .1))) (t .numbers);
       }
 
-  -- a run after it
-  pub filled-run : {at to : ℕ} {now after : List ℤ} {nums : List ℕ} → Filled f n out num at now nums → Ran f n at to now after
+  -- a stretch that the engine answers
+  pub filled-charted : {at to : ℕ} {now after : List ℤ} {nums : List ℕ} → Filled f n out num at now nums → ChartedStretch f n at to now after
       → Filled f n out num to after nums
-  filled-run {at} {to} t r =
+  filled-charted {at} {to} t r =
       record {
         even = r .even;
         upto = r .upto;
