@@ -1,10 +1,9 @@
--- What the chart's own numbers answer is what the card answers, and where they answer. Assumes nothing.
+-- What the engine answers is what the card answers. Assumes nothing.
 use mathlib.Core.Path.{_≡_, refl, sym, ap, ap₂, _∙_}
-use mathlib.Core.Bool.{Bool, true, false, cond, _&&_, _||_}
+use mathlib.Core.Bool.{Bool, true, false, cond, _||_}
 use mathlib.Core.List.{[], _∷_}
 use Prim.Native.Nat.{ℕ, _+_, _-_, _*_, _/_, _%_, _≤_, _<_}
 use native.Mathlib.Omega.{arith}
-use borrow.Author.Tests.{le-leb}
 use lib.IntN.{ℤ, pos, negℤ, natAbs, _+ℤ_, _-ℤ_}
 use lib.Signed.{ltZ}
 use mir.Syntax.{w64}
@@ -20,10 +19,10 @@ use Rattle.card.specs.declared.PixelAnswer.{PixelAnswer}
 use Rattle.card.specs.Grid.{pixelOf, pixelAt, rowOf, columnOf}
 use Rattle.lists.specs.declared.charted.Charted.{Charted}
 use Rattle.lists.specs.declared.engine.Engine.{Engine}
-use Rattle.lists.specs.Steps.{fine, Made, held}
-use Rattle.lists.specs.Stretches.{southOf, eastOf, westOf, Agrees}
+use Rattle.lists.specs.Steps.{fine, Made}
+use Rattle.lists.specs.Stretches.{southOf, eastOf, Agrees}
 use Rattle.lists.proofs.Signs.{south-inside, south-is, east-round, east-past, east-west, east-straight}
-use Rattle.lists.proofs.Spans.{left-low, row-fits-63, column-fits-63, held-pixel}
+use Rattle.lists.proofs.Spans.{row-fits-63, column-fits-63, held-pixel}
 
 -- ---- an answer, and none
 pub agrees-at : {x y : ℤ} {r : Report} → r ≡ answered (x ∷ y ∷ []) → Agrees (Charted.At x y) r
@@ -89,26 +88,18 @@ module _ (e : Engine) (made : Made e) (lat lon : ℤ) (o : outside quarter lat �
   abbrev east : ℕ
   east = raise half lon
 
-  pub down-fits : d * e .down .rate + e .down .start < 9223372036854775808
-  down-fits = rw is-d (row-fits-63 e made north (raise-high quarter lat o) le (omega arith))
+  pub rows-fit : d * e .down .rate + e .down .start < 9223372036854775808
+  rows-fit = rw is-d (row-fits-63 e made north (raise-high quarter lat o) le (omega arith))
 
-  pub across-fits : i * e .across .rate + e .across .start < 9223372036854775808
-  across-fits = rw is-i (column-fits-63 e made east (omega arith))
-
-  holds : held e north east ≡ true
-  holds =
-      rw (
-        le-leb north (e .down .first) le,
-        le-leb (e .down .first - north) (e .down .most) (omega arith),
-        le-leb ((east + e .across .first) % circle) (e .across .most) (omega arith),
-      )
+  pub columns-fit : i * e .across .rate + e .across .start < 9223372036854775808
+  columns-fit = rw is-i (column-fits-63 e made east (omega arith))
 
   pub chart-pixel : PixelAnswer.At (pos ((d * e .down .rate + e .down .start) / fine)) (pos ((i * e .across .rate + e .across .start) / fine))
       ≡ pixelOf (e .pair) (e .card) lat lon
   unfolding pixelOf
   chart-pixel =
       rw (is-d, is-i, o, j)
-      (held-pixel e made north east (raise-high quarter lat o) holds
+      (held-pixel e made north east (raise-high quarter lat o) le (omega arith) (omega arith)
       ∙ ap₂ (λ (x y : ℤ). pixelAt (e .card) (rowOf (e .pair) (e .card) x) (columnOf (e .pair) (e .card) y))
       (is-unique (pos north -ℤ pos quarter) lat north quarter (is-difference north quarter) (is-raise quarter lat o))
       (is-unique (pos east -ℤ pos half) lon east half (is-difference east half) (is-raise half lon j)))

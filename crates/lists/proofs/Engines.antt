@@ -43,11 +43,11 @@ module _ (x : ℕ) (g : Grid x) where
   pub most : 2 * (x / 512) ≤ 312800
   most = omega (arith, g .most, g .whole)
 
-  -- what the rounding starts from is below one part
+  -- what the rounding starts from is below d
   pub start-high : (v : ℕ) (off : Bool) → startOf (v % (2 * (x / 512))) (2 * (x / 512)) off < 2 * (x / 512)
   start-high v off = start-low (v % (2 * (x / 512))) (2 * (x / 512)) off (mod-lt v some)
 
-  -- the error over a card's pixels stays below one part
+  -- the error over a card's pixels stays below 1 / d of a hundredth
   pub close : (i : ℕ) → i < 127872 → (i + 1) * (2 * (x / 512)) ≤ 68719476736
   close i h = let m : (i + 1) * (2 * (x / 512)) ≤ 127872 * 312800 = mul-le-mul {n₂ = 127872} (omega arith) most in omega arith
 
@@ -63,7 +63,7 @@ module _ (x : ℕ) (g : Grid x) where
       let r : rate * n < 506250 * 68719476736 + n = scale-high coarse n some 506250 in
       omega (arith, most)
 
-  -- less than a whole hundredth, in parts of it
+  -- less than a whole hundredth, in 2^36ths of it
   pub part-low : (R : ℕ) → R < 2 * (x / 512) → scaleUp coarse R (2 * (x / 512)) < 68719476736
   part-low R h =
       let n : ℕ = 2 * (x / 512) in
@@ -194,8 +194,8 @@ module _ (e : Engine) (made : Made e) where
     column-from : e .columns .from ≡ left / m * 68719476736 + columnPart
     column-from = ap (λ (x : Axis). x .from) columns-are
 
-    pub column-fits-63 : c * e .columns .rate < 9223372036854775808
-    column-fits-63 = rw column-rate (reach (k .a) (laid .columns) c (omega (arith, laid .across)))
+    pub column-more-fits : c * e .columns .rate < 9223372036854775808
+    column-more-fits = rw column-rate (reach (k .a) (laid .columns) c (omega (arith, laid .across)))
 
     pub column-from-high : e .columns .from < 8933531975680000000
     column-from-high =
@@ -218,7 +218,7 @@ module _ (e : Engine) (made : Made e) where
         ∙ sym (angle-unit v (506250 * (k .east + c) + s))
         ∙ ap₂ near (omega (arith, shift-is (e .pair))) (sym (laid .columns .whole))
 
-    -- one circle at most
+    -- below two circles
     pub column-below : near ((e .card .east + c) * circle + inward (e .pair)) (e .card .a) < 2 * circle
     column-below =
         let x : ℕ = near ((k .east + c) * circle + inward (e .pair)) (k .a) in

@@ -65,7 +65,8 @@ module _ (v p : ℕ) (hv : v < 8933531975680000000) (hp : p < 2 ^ 63) (low : (v 
   sum-less : SFits w64 (less +ℤ pos p)
   sum-less =
       is-fits (less +ℤ pos p) (v + p - circle * coarse) (circle * coarse - (v + p))
-      (is-same (less +ℤ pos p) (v + p) (circle * coarse) (v + p - circle * coarse) (circle * coarse - (v + p)) sum-is (omega arith)) (omega arith) (omega arith)
+      (is-same (less +ℤ pos p) (v + p) (circle * coarse) (v + p - circle * coarse) (circle * coarse - (v + p)) sum-is (omega arith)) (omega arith)
+      (omega arith)
 
   sum-plain : toZ w64 (ofZ w64 (toZ w64 v -ℤ pos (circle * coarse))) +ℤ toZ w64 p ≡ less +ℤ pos p
   sum-plain = ap₂ _+ℤ_ (toZ-ofZ w64 (toZ w64 v -ℤ pos (circle * coarse)) from-fits ∙ from-plain) (toZ-pos w64 p (omega arith))

@@ -1,13 +1,13 @@
--- An engine's spans hold the chart's positions alone, and give the plain rule's pixel there in its pair. Assumes nothing.
+-- An engine's spans give the plain rule's pixel in its pair for positions on the chart. Assumes nothing.
 use mathlib.Core.Path.{_≡_, refl, sym, ap, ap₂, _∙_}
-use mathlib.Core.Bool.{Bool, true, false, cond, _&&_, and-eq-true-iff}
+use mathlib.Core.Bool.{Bool, true, false, cond}
 use Prim.Native.Nat.{ℕ, _+_, _-_, _*_, _/_, _%_, _≤_, _<_}
 use native.Mathlib.Nat.{mul-add, mul-comm, mul-left-comm, mul-le-mul-left, mod-lt, mod-eq-of-lt, mod-add-mod}
 use native.Mathlib.Nat.{add-mul-mod-self-right, div-add-mod', div-mul-le-self}
 use native.Mathlib.Omega.{arith}
-use borrow.Author.Tests.{ltb-true, ltb-false, leb-true, le-leb}
-use lib.Dec.{leb, ltb}
-use lib.IntN.{ℤ, pos, _-ℤ_}
+use borrow.Author.Tests.{ltb-true, ltb-false, le-leb}
+use lib.Dec.{ltb}
+use lib.IntN.{pos, _-ℤ_}
 use Rattle.whole.proofs.Signed.{is-equal, is-nat, is-difference}
 use Rattle.arc.specs.Zones.{circle, half, quarter}
 use Rattle.card.specs.declared.Card.{Card}
@@ -19,12 +19,12 @@ use Rattle.card.proofs.Regions.{chart-tiles}
 use Rattle.card.proofs.Axes.{north-high, down-high, east-high, row-fits, row-at, column-at}
 use Rattle.lists.specs.declared.engine.Engine.{Engine}
 use Rattle.lists.specs.declared.engine.Span.{Span}
-use Rattle.lists.specs.Steps.{fine, smaller, upOf, Made, held}
+use Rattle.lists.specs.Steps.{fine, smaller, upOf, Made}
 use Rattle.lists.proofs.Counting.{within, counted, fits}
 use Rattle.lists.proofs.Engines.{shift-is, shift-high, by-unit, laid, down-is, across-is}
 
 -- ---- the smaller of two numbers
-pub smaller-cases : (x y : ℕ) (P : ℕ → Type 0) → P x → (y ≤ x → P y) → P (smaller x y)
+smaller-cases : (x y : ℕ) (P : ℕ → Type 0) → P x → (y ≤ x → P y) → P (smaller x y)
 smaller-cases x y P f g = go (ltb x y) refl
   where
     go : (t : Bool) → ltb x y ≡ t → P (cond t x y)
@@ -55,7 +55,7 @@ module _ (c : Card) (g : Laid c) (up : ℕ) (h : up ≤ 126562) where
   pub first-part : unit * smaller (from / unit) half ≤ from
   first-part = omega (arith, mul-le-mul-left unit (smaller-left (from / unit) half), div-mul-le-self from unit, mul-comm unit (from / unit))
 
-  -- what it has: a part of a hundredth, or at the pole half a pixel at most
+  -- what it has is less than a pixel
   pub first-rest : from - unit * smaller (from / unit) half < 253125
   first-rest =
       smaller-cases (from / unit) half (λ (n : ℕ). from - unit * n < 253125)
@@ -218,27 +218,20 @@ module _ (e : Engine) (made : Made e) where
         ∙ mod-eq-of-lt (omega (arith, column-low, l .right, l .across)))
 
   -- ---- a position on the chart
-  module _ (n m : ℕ) (h : n ≤ 64800000) (on : held e n m ≡ true) where
-    pub held-parts : (n ≤ e .down .first) × (e .down .first - n ≤ e .down .most) × ((m + e .across .first) % circle ≤ e .across .most)
-    held-parts =
-        let b = leb ((m + e .across .first) % circle) (e .across .most) in
-        let t = and-eq-true-iff (leb n (e .down .first)) (leb (e .down .first - n) (e .down .most) && b) .0 on in
-        let s = and-eq-true-iff (leb (e .down .first - n) (e .down .most)) b .0 (t .1) in
-        (leb-true n (e .down .first) (t .0), leb-true (e .down .first - n) (e .down .most) (s .0), leb-true _ (e .across .most) (s .1))
-
+  module _ (n m : ℕ) (h : n ≤ 64800000) (le : n ≤ e .down .first) (on-d : e .down .first - n ≤ e .down .most)
+      (on-i : (m + e .across .first) % circle ≤ e .across .most) where
     pub held-pixel : PixelAnswer.At (pos (((e .down .first - n) * e .down .rate + e .down .start) / fine))
         (pos (((m + e .across .first) % circle * e .across .rate + e .across .start) / fine))
         ≡ pixelAt (e .card) (rowOf (e .pair) (e .card) (pos n -ℤ pos 32400000)) (columnOf (e .pair) (e .card) (pos m -ℤ pos 64800000))
     held-pixel =
-        let p = held-parts in
-        let y : ℕ = r n h (p .0) (p .1) in
-        let x : ℕ = c m (p .2) in
+        let y : ℕ = r n h le on-d in
+        let x : ℕ = c m on-i in
         let chart : inChart k (pos y) (pos x) ≡ true =
         rw (
           le-leb (k .nul) y (omega arith),
-          le-leb y (k .nll) (row-low n h (p .0) (p .1)),
+          le-leb y (k .nll) (row-low n h le on-d),
           le-leb (k .nls) x (omega arith),
-          le-leb x (k .nus) (column-low m (p .2)),
+          le-leb x (k .nus) (column-low m on-i),
         ) in
-        rw (row-found n h (p .0) (p .1), column-found m (p .2), chart-tiles k (pos y) (pos x) l chart, chart)
-        (ap₂ PixelAnswer.At (ap pos (row-count n h (p .0) (p .1))) (ap pos (column-count m (p .2))))
+        rw (row-found n h le on-d, column-found m on-i, chart-tiles k (pos y) (pos x) l chart, chart)
+        (ap₂ PixelAnswer.At (ap pos (row-count n h le on-d)) (ap pos (column-count m on-i)))

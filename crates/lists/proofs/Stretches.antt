@@ -83,13 +83,13 @@ module _ (f : ℕ → Report) (n : ℕ) (num : List ℕ) (room : n ≤ length nu
       ∙ skip-one (a + m) (omega arith) (z (a + m) (omega arith) (omega arith))
       ∙ skip a m (omega arith) (λ i le lt. z i le (omega arith))
 
-  pub skip-to : (a b : ℕ) → a ≤ b → b ≤ n → ((i : ℕ) → a ≤ i → i < b → f i .number ≡ 0) → over (reportNumbers b f) clean ≡ over (reportNumbers a f) clean
+  skip-to : (a b : ℕ) → a ≤ b → b ≤ n → ((i : ℕ) → a ≤ i → i < b → f i .number ≡ 0) → over (reportNumbers b f) clean ≡ over (reportNumbers a f) clean
   skip-to a b le h z =
       let e : b ≡ a + (b - a) = omega arith in
       ap (λ (k : ℕ). over (reportNumbers k f) clean) e ∙ skip a (b - a) (omega arith) (λ i l t. z i l (omega arith))
 
   -- at the end the clearing makes no difference
-  pub all-over : over (reportNumbers n f) clean ≡ over (reportNumbers n f) num
+  all-over : over (reportNumbers n f) clean ≡ over (reportNumbers n f) num
   all-over =
       let long : length (reportNumbers n f) ≡ length (zeros n) = omega (arith, numbers-length f n, zeros-length n) in
       ap (λ (k : ℕ). reportNumbers n f ++ drop k clean) long
@@ -155,7 +155,8 @@ module _ (f : ℕ → Report) (two : (i : ℕ) → length (f i .values) ≡ 2) (
         past = omega (arith, r .past);
         upto = omega (arith, r .even);
         kept = (
-          ap length wrote ∙ length-set (set now at (toZ w64 (ofZ w64 x))) (at + 1) (toZ w64 (ofZ w64 y)) ∙ length-set now at (toZ w64 (ofZ w64 x)) ∙ r .kept .0,
+          ap length wrote ∙ length-set (set now at (toZ w64 (ofZ w64 x))) (at + 1) (toZ w64 (ofZ w64 y))
+              ∙ length-set now at (toZ w64 (ofZ w64 x)) ∙ r .kept .0,
           ap length told ∙ length-set nums (entries at) z ∙ r .kept .1,
         );
         written = λ out room e.
@@ -193,7 +194,8 @@ module _ (f : ℕ → Report) (two : (i : ℕ) → length (f i .values) ≡ 2) (
       ∙ kept
 
   -- the first stretch, from the cleared numbers
-  pub filled-first : {at : ℕ} {now : List ℤ} {nums : List ℕ} → ChartedStretch f n 0 at out now → nums ≡ over (zeros (entries n)) num → Filled f n out num at now nums
+  pub filled-first : {at : ℕ} {now : List ℤ} {nums : List ℕ} → ChartedStretch f n 0 at out now → nums ≡ over (zeros (entries n)) num
+      → Filled f n out num at now nums
   filled-first {at} r e =
       record {
         even = r .even;

@@ -1,24 +1,25 @@
 -- What only the code needs: the engine, the numbers that a card gives once, so that no pixel of it needs a division by A or B
--- (001, 3.4.3, 3.4.4; 02, E8). Definitions only; that its answers are the plain rule's is the contract of its methods. H / A is 506,250 / 2u,
+-- (001, 3.4.3, 3.4.4; 02, E8). Definitions only; that what is answered from it is the plain rule's is the contract of `charted.rt`. H / A is 506,250 / 2u,
 -- where u is A / 512.
 --     scaleUp one x d    the smallest whole number not below x × one / d
 --     startOf rest d off what the rounding starts from, the angles being taken off or added
 --     shiftOf p          how far south and east of a pixel's corner the pair's exact place is, a pixel being 506,250
---     axisOf x from off  the angle of the first pixel of an axis in parts of 2^36, x pixels making a circle, and what a pixel adds to it or takes off
+--     axisOf x from off  the angle of the first pixel of an axis in 2^36ths of a hundredth, x pixels making a circle, and what a pixel adds or takes off
 --     axisAt first d off the same, by the nearest's numerator and denominator at the first pixel
 --     rowAxis p k        the northings of the rows, taken off that of row 0
 --     columnAxis p k     the eastings of the columns, added to that of column 0
 --     spanOf u first rest low n   the hundredths of n pixels from pixel low on, the first having rest and each adding u to it, a pixel being 253,125
+--     smaller x y        the smaller of two numbers
+--     downOf, acrossOf   the chart's rows and columns, by u and by what their first edge has
 --     downSpan p k       the chart's rows, counted southward, from no farther north than the pole
 --     acrossSpan p k     the chart's columns, counted eastward round the circle
---     held e north east  a position, counted from the South Pole and from 180° west, is on the chart
 --     engineOf p k       the engine of a card for a pair
 --     Made e             it is the engine of its card and its pair, and some accepted card gives that card
 --     entryTold x        the report that the parts of an entry tell
 use mathlib.Core.Path.{_≡_}
 use Prim.Native.Nat.{ℕ, _+_, _-_, _*_, _/_, _%_}
-use mathlib.Core.Bool.{Bool, true, false, cond, _&&_}
-use lib.Dec.{leb, ltb}
+use mathlib.Core.Bool.{Bool, true, false, cond}
+use lib.Dec.{ltb}
 use mathlib.Core.List.{[], _∷_}
 use Rattle.arc.specs.Refusals.{Report}
 use Rattle.arc.specs.Zones.{circle, half}
@@ -66,7 +67,7 @@ rowAxis p k = axisOf (k .b) (506250 * k .north - shiftOf p) true
 abbrev pub columnAxis : Pair → Card → Axis
 columnAxis p k = axisOf (k .a) (506250 * k .east + shiftOf p) false
 
--- i hundredths past the first is pixel low + (u i + rest) / 253,125, and the last of the n pixels is `most` past it
+-- i hundredths past the first is pixel low + (u i + rest) / 253,125, and the last hundredth in the n pixels is `most` past the first
 abbrev pub spanOf : ℕ → ℕ → ℕ → ℕ → ℕ → Span
 spanOf u first rest low n =
     record {
@@ -85,7 +86,7 @@ downOf u from k = spanOf u (smaller (from / u) half) (from - u * smaller (from /
 abbrev pub acrossOf : ℕ → ℕ → Card → Span
 acrossOf u from k = spanOf u (from / u % circle) (from % u) (k .nls) (k .nus + 1 - k .nls)
 
--- half a pixel is added for the nearest, nothing for the floor
+-- half a pixel, rounded down, is added for the nearest, nothing for the floor
 abbrev pub upOf : Pair → ℕ
 upOf p = (253125 - shiftOf p) / 2
 
@@ -111,10 +112,6 @@ engineOf p k =
 pub record Made (e : Engine) : Type 0 where
   pub known : Known (e .card)
   pub same : e ≡ engineOf (e .pair) (e .card)
-
-abbrev pub held : Engine → ℕ → ℕ → Bool
-held e north east =
-    leb north (e .down .first) && (leb (e .down .first - north) (e .down .most) && leb ((east + e .across .first) % circle) (e .across .most))
 
 abbrev pub entryTold : EntryParts → Report
 entryTold x = record { number = x .number; place = x .at; values = x .first ∷ x .second ∷ [] }

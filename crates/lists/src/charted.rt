@@ -1,4 +1,4 @@
-// Entries answered by the chart's own numbers, with no division (001, 3.4.3, 3.4.4; 02, E8).
+// Entries answered by the engine, with no division by A or B (001, 3.4.3, 3.4.4; 02, E8).
 use crate::Asked;
 use crate::engine;
 use crate::engine::Engine;
@@ -7,7 +7,7 @@ use arc::Verdict;
 use whole::Counted;
 ghost use mathlib.Core.Path.{_≡_};
 ghost use mathlib.Core.Bool.{false};
-ghost use Prim.Native.Nat.{_+_, _-_, _*_, _/_, _%_, _≤_, _<_};
+ghost use Prim.Native.Nat.{_+_, _-_, _*_, _%_, _≤_, _<_};
 ghost use lib.IntN.{pos, _-ℤ_};
 ghost use Rattle.whole.specs.Whole.{near, floorDiv, outside};
 ghost use Rattle.arc.specs.Zones.{circle, half, quarter};
@@ -20,12 +20,12 @@ ghost use Rattle.lists.specs.Stretches.{southOf, eastOf, westOf, Agrees}
 // A shift by 36 divides by 2^36.
 const COARSE_BITS: u32 = 36;
 
-// 90° and 360° in parts of 2^36 to a hundredth.
+// 90° and 360° in 2^36ths of a hundredth.
 const QUARTER_PARTS: i64 = (Circle::QUARTER as i64) * (engine::COARSE as i64);
 
 const CIRCLE_PARTS: i64 = (Circle::H as i64) * (engine::COARSE as i64);
 
-// What the chart's own numbers answer of an entry: two values, or nothing.
+// What the engine answers of an entry: two values, or nothing.
 pub enum Charted {
     At { first: i64, second: i64 },
     Off,
@@ -101,7 +101,7 @@ fn position(e: Engine, row: i64, column: i64) -> Charted
     }
 }
 
-// The longitude from which the chart's columns are counted.
+// The westernmost longitude in the chart's first column.
 pub fn west_of(e: Engine) -> i64
     requires { ⌜ Made e ⌝ }
     ensures { λ r. ⌜ r ≡ westOf e ⌝ }
@@ -132,7 +132,7 @@ fn pixel(e: Engine, west: i64, lat: i64, lon: i64) -> Charted
     }
 }
 
-// What is asked of an entry, where the chart's own numbers answer it.
+// The answer to what is asked of an entry, where the engine gives it.
 pub fn on_chart(e: Engine, west: i64, asked: Asked, first: i64, second: i64) -> Charted
     requires { ⌜ Made e ⌝ ∗ ⌜ west ≡ westOf e ⌝ }
     ensures { λ r. ⌜ Agrees r (askedReport (e .pair) asked (e .card) first second) ⌝ }

@@ -1,4 +1,4 @@
-// The engine: positions and pixels of one card and one pair with no division by A or B (001, 3.4.3, 3.4.4; 02, E8).
+// The engine: the numbers that a card gives once in a pair, so that no pixel of its chart needs a division by A or B (001, 3.4.3, 3.4.4; 02, E8).
 use arc::Circle;
 use card::Card;
 use card::Pair;
@@ -27,7 +27,8 @@ pub struct Axis {
     pub rate: u64,
 }
 
-// The chart along an axis: i hundredths past its first is pixel (i × rate + start) / 2^45, and it ends after `most` of them.
+// The chart along an axis: i hundredths past its first is pixel (i × rate + start) / 2^45, up to `most` past it.
+// The first is counted from the South Pole, southward from there, or westward from 180° east, eastward from there.
 pub struct Span {
     pub first: u64,
     pub most: u64,
@@ -35,7 +36,7 @@ pub struct Span {
     pub start: u64,
 }
 
-// A card's axes in a pair, both ways.
+// A card in a pair: its axes, for positions, and its chart's spans, for pixels.
 pub struct Engine {
     pub card: Card,
     pub pair: Pair,

@@ -3,7 +3,7 @@ ghost use mathlib.Core.Path.{_≡_};
 ghost use lib.IntN.{pos, natAbs, _-ℤ_};
 ghost use Rattle.whole.specs.Whole.{near, countedBy};
 
-// A whole number counted from −limit.
+// A whole number counted from a stated one, or outside.
 pub enum Counted {
     From(u64),
     Outside,

@@ -34,7 +34,8 @@ west-of-requires c κs = c .pre .0
 
 loop-holds : tie.Need-loop-holds Inv-loop μ-loop
 loop-holds c =
-    let s = c .before in charted-none (reports s) (two s) (length (s .args .list .now)) (s .pre .1 .0) (s .args .from) _ (s .pre .1 .1 .1 .0) (s .pre .1 .1 .1 .1)
+    let s = c .before in
+    charted-none (reports s) (two s) (length (s .args .list .now)) (s .pre .1 .0) (s .args .from) _ (s .pre .1 .1 .1 .0) (s .pre .1 .1 .1 .1)
 
 entry-at-requires : tie.Need-entry-at-requires Inv-loop μ-loop
 entry-at-requires c κs =

@@ -98,7 +98,8 @@ loop-again c out num h t =
     let l = c .before .before .before .before .before .before .before .before .before .before in
     let s = start l in
     filled-charted (reports s) (two s) (length (s .args .list .now)) out num h
-    (filled-asked (reports s) (two s) (length (s .args .list .now)) out num h (l .loop .inv out num h t) (c .before .before .before .before .before .before .asked-stretch .ensures .0))
+    (filled-asked (reports s) (two s) (length (s .args .list .now)) out num h (l .loop .inv out num h t)
+    (c .before .before .before .before .before .before .asked-stretch .ensures .0))
     (c .before .charted-stretch2 .ensures)
 
 same-length : tie.Need-same-length Inv-loop μ-loop

@@ -1,6 +1,6 @@
 -- The multiplication's floor is the quotient's, and every number fits. Assumes nothing.
 use mathlib.Core.Path.{_≡_, ap, _∙_}
-use Prim.Native.Nat.{ℕ, _-_, _*_, _/_, _<_, _^_}
+use Prim.Native.Nat.{ℕ, _-_, _*_, _<_}
 use native.Mathlib.Omega.{arith}
 use lib.IntN.{ℤ, pos, _-ℤ_}
 use mir.Syntax.{w64}
@@ -33,20 +33,20 @@ parts-low s = omega (arith, row-from-high _ (s .pre .0) _ (s .pre .1))
 cast-whole-parts : tie.Need-cast-whole-parts
 cast-whole-parts c = omega (arith, parts-low (c .before .before .before))
 
-less-fits : (v : ℕ) → v < 4453022161212276736 → SFits w64 (pos v -ℤ pos (quarter * coarse))
-less-fits v h = is-fits (pos v -ℤ pos (quarter * coarse)) v (quarter * coarse) (is-difference v (quarter * coarse)) (omega arith) (omega arith)
+parts-fits : (v : ℕ) → v < 4453022161212276736 → SFits w64 (pos v -ℤ pos (quarter * coarse))
+parts-fits v h = is-fits (pos v -ℤ pos (quarter * coarse)) v (quarter * coarse) (is-difference v (quarter * coarse)) (omega arith) (omega arith)
 
 sub-whole-parts-2 : tie.Need-sub-whole-parts-2
 sub-whole-parts-2 c =
     let s = c .before .before .before in
-    rw (toZ-pos w64 (parts s) (omega (arith, parts-low s))) (less-fits (parts s) (parts-low s))
+    rw (toZ-pos w64 (parts s) (omega (arith, parts-low s))) (parts-fits (parts s) (parts-low s))
 
 returns : tie.Need-returns
 returns c =
     let s = c .before .before .before .before in
     let low = parts-low s in
     let held : toZ w64 (ofZ w64 (toZ w64 (parts s) -ℤ pos (quarter * coarse))) ≡ pos (parts s) -ℤ pos (quarter * coarse) =
-    rw (toZ-pos w64 (parts s) (omega arith)) (toZ-ofZ w64 (pos (parts s) -ℤ pos (quarter * coarse)) (less-fits (parts s) low)) in
+    rw (toZ-pos w64 (parts s) (omega arith)) (toZ-ofZ w64 (pos (parts s) -ℤ pos (quarter * coarse)) (parts-fits (parts s) low)) in
     result-is (c .whole-parts .ok)
     (c .whole-parts .ensures
     ∙ ap (λ (z : ℤ). floorDiv z coarse) held

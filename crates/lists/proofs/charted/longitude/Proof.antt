@@ -2,10 +2,10 @@
 use mathlib.Core.Path.{_≡_, ap, _∙_}
 use Prim.Native.Nat.{ℕ, _+_, _*_, _/_, _%_, _<_}
 use native.Mathlib.Omega.{arith}
-use lib.IntN.{ℤ, pos, _-ℤ_}
+use lib.IntN.{pos, _-ℤ_}
 use Rattle.arc.specs.Zones.{circle, half}
 use Rattle.lists.specs.Steps.{coarse}
-use Rattle.lists.proofs.Engines.{column-fits-63, column-from-high, column-angle, column-below}
+use Rattle.lists.proofs.Engines.{column-more-fits, column-from-high, column-angle, column-below}
 use Rattle.lists.proofs.Signs.{from-fits, sum-fits, sum-floor, up-fits, up-held, down-fits, down-held}
 use borrow.Author.Needs.{needs}
 use Rattle.lists.proofs.charted.longitude.Statement.{statement}
@@ -22,7 +22,7 @@ from-low : (s : tie.Start) → from s < 8933531975680000000
 from-low s = column-from-high _ (s .pre .0) _ (s .pre .1)
 
 more-low : (s : tie.Start) → more s < 9223372036854775808
-more-low s = column-fits-63 _ (s .pre .0) _ (s .pre .1)
+more-low s = column-more-fits _ (s .pre .0) _ (s .pre .1)
 
 total-low : (s : tie.Start) → (from s + more s) / coarse < 2 * circle
 total-low s = rw (column-angle _ (s .pre .0) _ (s .pre .1)) (column-below _ (s .pre .0) _ (s .pre .1))

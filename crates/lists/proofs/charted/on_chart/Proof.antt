@@ -1,6 +1,5 @@
 -- Each question's own answer. Assumes nothing.
 use mathlib.Core.Path.{_∙_}
-use lib.IntN.{ℤ}
 use mir.Syntax.{w64}
 use mir.ValLaws.{toZ-ofZ}
 use Rattle.card.proofs.Answers.{pair-asked}

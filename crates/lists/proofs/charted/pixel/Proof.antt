@@ -15,7 +15,7 @@ use Rattle.arc.specs.Zones.{circle, half, quarter}
 use Rattle.card.specs.Grid.{pixelReport}
 use Rattle.lists.proofs.Signs.{neither}
 use Rattle.lists.proofs.Spans.{top-low, left-low}
-use Rattle.lists.proofs.Charting.{agrees-at, agrees-off, south-from, west-inside, east-from, down-fits, across-fits, chart-pixel}
+use Rattle.lists.proofs.Charting.{agrees-at, agrees-off, south-from, west-inside, east-from, rows-fit, columns-fit, chart-pixel}
 use borrow.Author.Needs.{needs}
 use Rattle.lists.proofs.charted.pixel.Statement.{statement}
 use Rattle.lists.proofs.charted.pixel.Tie as tie
@@ -72,7 +72,7 @@ pixel-past-requires c κs =
     let s = start c in
     let y = souths c in
     let x = easts c in
-    down-fits (s .args .e) (s .pre .0) (s .args .lat) (s .args .lon) (y .0) (x .0) (south c) (east c) (y .1) (y .2) (x .1) (on c .0) (on c .1)
+    rows-fit (s .args .e) (s .pre .0) (s .args .lat) (s .args .lon) (y .0) (x .0) (south c) (east c) (y .1) (y .2) (x .1) (on c .0) (on c .1)
 
 pixel-past-requires-2 : tie.Need-pixel-past-requires-2
 pixel-past-requires-2 c κs =
@@ -80,7 +80,7 @@ pixel-past-requires-2 c κs =
     let y = souths (c .before) in
     let x = easts (c .before) in
     let h = on (c .before) in
-    across-fits (s .args .e) (s .pre .0) (s .args .lat) (s .args .lon) (y .0) (x .0) (south (c .before)) (east (c .before)) (y .1) (y .2) (x .1) (h .0) (h .1)
+    columns-fit (s .args .e) (s .pre .0) (s .args .lat) (s .args .lon) (y .0) (x .0) (south (c .before)) (east (c .before)) (y .1) (y .2) (x .1) (h .0) (h .1)
 
 returns-4 : tie.Need-returns-4
 returns-4 c =
