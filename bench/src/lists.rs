@@ -23,18 +23,26 @@ type List = fn(Series, &[u8], &[i64], &mut [i64], &mut [u32]) -> Result<(), Refu
 pub fn positions(random: &mut Random) {
     positions_in::<true>(random, "centres");
     positions_in::<false>(random, "corners");
-    off_the_chart(random, "a pixels", &position_forms::<true>(), |random, sheet| {
-        let (row, column) = pixel(random, &sheet.record);
-        (row - 200_000, column)
-    });
+    off_the_chart(
+        random,
+        "a pixels",
+        &position_forms::<true>(),
+        |random, sheet| {
+            let (row, column) = pixel(random, &sheet.record);
+            (row - 200_000, column)
+        },
+    );
 }
 
 pub fn pixels(random: &mut Random) {
     pixels_in::<true>(random, "centre pair");
     pixels_in::<false>(random, "corner pair");
-    off_the_chart(random, "b positions", &pixel_forms::<true>(), |random, _| {
-        (random.within(-H / 4, H / 4), random.within(-H / 2, H / 2))
-    });
+    off_the_chart(
+        random,
+        "b positions",
+        &pixel_forms::<true>(),
+        |random, _| (random.within(-H / 4, H / 4), random.within(-H / 2, H / 2)),
+    );
 }
 
 type Forms = [(&'static str, List); 5];
@@ -80,7 +88,12 @@ fn off_the_chart(
             _ => position(random, &read),
         }
     });
-    list(&format!("{entries}, every other off the chart"), &card, &asked, forms);
+    list(
+        &format!("{entries}, every other off the chart"),
+        &card,
+        &asked,
+        forms,
+    );
 }
 
 fn positions_in<const CENTRE: bool>(random: &mut Random, pair: &str) {
