@@ -20,7 +20,7 @@ use Rattle.card.specs.Grid.{pixelOf, pixelAt, rowOf, columnOf}
 use Rattle.lists.specs.declared.charted.Charted.{Charted}
 use Rattle.lists.specs.declared.engine.Engine.{Engine}
 use Rattle.lists.specs.Steps.{fine, Made}
-use Rattle.lists.specs.Stretches.{southOf, eastOf, Agrees}
+use Rattle.lists.specs.Entries.{southOf, eastOf, Agrees}
 use Rattle.lists.proofs.Signs.{south-inside, south-is, east-round, east-past, east-west, east-straight}
 use Rattle.lists.proofs.Spans.{row-fits-63, column-fits-63, held-pixel}
 

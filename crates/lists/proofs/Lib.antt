@@ -7,4 +7,4 @@ pub mod Filling
 pub mod Told
 pub mod Signs
 pub mod Charting
-pub mod Stretches
+pub mod Entries

@@ -19,23 +19,23 @@ use Rattle.card.proofs.Regions.{chart-tiles}
 use Rattle.card.proofs.Axes.{north-high, down-high, east-high, row-fits, row-at, column-at}
 use Rattle.lists.specs.declared.engine.Engine.{Engine}
 use Rattle.lists.specs.declared.engine.Span.{Span}
-use Rattle.lists.specs.Steps.{fine, smaller, upOf, Made}
+use Rattle.lists.specs.Steps.{fine, lesser, upOf, Made}
 use Rattle.lists.proofs.Counting.{within, counted, fits}
 use Rattle.lists.proofs.Engines.{shift-is, shift-high, by-unit, laid, down-is, across-is}
 
--- ---- the smaller of two numbers
-smaller-cases : (x y : ℕ) (P : ℕ → Type 0) → P x → (y ≤ x → P y) → P (smaller x y)
-smaller-cases x y P f g = go (ltb x y) refl
+-- ---- the lesser of two numbers
+lesser-cases : (x y : ℕ) (P : ℕ → Type 0) → P x → (y ≤ x → P y) → P (lesser x y)
+lesser-cases x y P f g = go (ltb x y) refl
   where
     go : (t : Bool) → ltb x y ≡ t → P (cond t x y)
     go true e = f
     go false e = g (ltb-false x y e)
 
-smaller-left : (x y : ℕ) → smaller x y ≤ x
-smaller-left x y = smaller-cases x y (λ (n : ℕ). n ≤ x) (omega arith) (λ h. h)
+lesser-left : (x y : ℕ) → lesser x y ≤ x
+lesser-left x y = lesser-cases x y (λ (n : ℕ). n ≤ x) (omega arith) (λ h. h)
 
-smaller-right : (x y : ℕ) → smaller x y ≤ y
-smaller-right x y = go (ltb x y) refl
+lesser-right : (x y : ℕ) → lesser x y ≤ y
+lesser-right x y = go (ltb x y) refl
   where
     go : (t : Bool) → ltb x y ≡ t → cond t x y ≤ y
     go true e = omega (arith, ltb-true x y e)
@@ -52,13 +52,13 @@ module _ (c : Card) (g : Laid c) (up : ℕ) (h : up ≤ 126562) where
   unit-some : 0 < unit
   unit-some = omega (arith, g .rows .some, g .rows .whole)
 
-  pub first-part : unit * smaller (from / unit) half ≤ from
-  first-part = omega (arith, mul-le-mul-left unit (smaller-left (from / unit) half), div-mul-le-self from unit, mul-comm unit (from / unit))
+  pub first-part : unit * lesser (from / unit) half ≤ from
+  first-part = omega (arith, mul-le-mul-left unit (lesser-left (from / unit) half), div-mul-le-self from unit, mul-comm unit (from / unit))
 
   -- what it has is less than a pixel
-  pub first-rest : from - unit * smaller (from / unit) half < 253125
+  pub first-rest : from - unit * lesser (from / unit) half < 253125
   first-rest =
-      smaller-cases (from / unit) half (λ (n : ℕ). from - unit * n < 253125)
+      lesser-cases (from / unit) half (λ (n : ℕ). from - unit * n < 253125)
       (omega (arith, mod-lt from unit-some, div-add-mod' from unit, mul-comm unit (from / unit), g .rows .most))
       (λ y. omega (arith, north-high c g, g .rows .whole))
 
@@ -83,13 +83,13 @@ module _ (e : Engine) (made : Made e) where
   chart-north = omega (arith, l .top-down, l .bottom, down-high k l)
 
   abbrev top : ℕ
-  top = smaller (F / u) half
+  top = lesser (F / u) half
 
   top-is : e .down .first ≡ top
   top-is = ap (λ (x : Span). x .first) (down-is e made)
 
   pub top-low : e .down .first ≤ 64800000
-  top-low = rw top-is (smaller-right (F / u) half)
+  top-low = rw top-is (lesser-right (F / u) half)
 
   rest-is : u * top + (F - u * top) ≡ F
   rest-is = omega (arith, first-part k l (upOf (e .pair)) (omega arith))

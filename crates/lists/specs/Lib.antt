@@ -1,3 +1,3 @@
 pub mod Lists
 pub mod Steps
-pub mod Stretches
+pub mod Entries

@@ -9,7 +9,7 @@
 --     rowAxis p k        the northings of the rows, taken off that of row 0
 --     columnAxis p k     the eastings of the columns, added to that of column 0
 --     spanOf u first rest low n   the hundredths of n pixels from pixel low on, the first having rest and each adding u to it, a pixel being 253,125
---     smaller x y        the smaller of two numbers
+--     lesser x y        the lesser of two numbers
 --     downOf, acrossOf   the chart's rows and columns, by u and by what their first edge has
 --     downSpan p k       the chart's rows, counted southward, from no farther north than the pole
 --     acrossSpan p k     the chart's columns, counted eastward round the circle
@@ -77,11 +77,11 @@ spanOf u first rest low n =
       start = scaleUp fine rest 253125 + low * fine;
     }
 
-abbrev pub smaller : ℕ → ℕ → ℕ
-smaller x y = cond (ltb x y) x y
+abbrev pub lesser : ℕ → ℕ → ℕ
+lesser x y = cond (ltb x y) x y
 
 abbrev pub downOf : ℕ → ℕ → Card → Span
-downOf u from k = spanOf u (smaller (from / u) half) (from - u * smaller (from / u) half) (k .nul) (k .nll + 1 - k .nul)
+downOf u from k = spanOf u (lesser (from / u) half) (from - u * lesser (from / u) half) (k .nul) (k .nll + 1 - k .nul)
 
 abbrev pub acrossOf : ℕ → ℕ → Card → Span
 acrossOf u from k = spanOf u (from / u % circle) (from % u) (k .nls) (k .nus + 1 - k .nls)

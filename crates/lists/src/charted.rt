@@ -15,7 +15,7 @@ ghost use Rattle.card.specs.Steps.{inward};
 ghost use Rattle.card.specs.Grid.{positionOf, pixelOf, positionReport, pixelReport};
 ghost use Rattle.lists.specs.Lists.{askedReport};
 ghost use Rattle.lists.specs.Steps.{coarse, Made};
-ghost use Rattle.lists.specs.Stretches.{southOf, eastOf, westOf, Agrees};
+ghost use Rattle.lists.specs.Entries.{southOf, eastOf, westOf, Agrees};
 
 // A shift by 36 divides by 2^36.
 const COARSE_BITS: u32 = 36;

@@ -7,7 +7,7 @@ ghost use Prim.Native.Nat.{_+_, _-_, _*_, _/_, _≤_, _<_};
 ghost use lib.IntN.{pos};
 ghost use Rattle.arc.specs.Spacing.{Grid};
 ghost use Rattle.card.specs.Read.{Known};
-ghost use Rattle.lists.specs.Steps.{scaleUp, fine, smaller, startOf, axisOf, spanOf, downOf, acrossOf, engineOf};
+ghost use Rattle.lists.specs.Steps.{scaleUp, fine, lesser, startOf, axisOf, spanOf, downOf, acrossOf, engineOf};
 
 // H / 256.
 const STEP: u64 = 506_250;
@@ -93,9 +93,9 @@ fn span_of(unit: u64, first: u64, rest: u64, low: u64, pixels: u64) -> Span
     }
 }
 
-// The smaller of two numbers.
-fn smaller(x: u64, y: u64) -> u64
-    ensures { λ r. ⌜ r ≡ smaller x y ⌝ }
+// The lesser of two numbers.
+fn lesser(x: u64, y: u64) -> u64
+    ensures { λ r. ⌜ r ≡ lesser x y ⌝ }
 {
     if x < y {
         return x;
@@ -110,7 +110,7 @@ fn down_of(up: u64, k: Card) -> Span
 {
     let unit = k.b / 512;
     let from = UNIT * (k.north - k.nul) + up;
-    let first = smaller(from / unit, Circle::H / 2);
+    let first = lesser(from / unit, Circle::H / 2);
     span_of(unit, first, from - unit * first, k.nul, k.nll + 1 - k.nul)
 }
 

@@ -12,7 +12,7 @@ ghost use Rattle.whole.specs.Lists.{over};
 ghost use Rattle.card.specs.declared.Pair.{Pair};
 ghost use Rattle.card.specs.Read.{Known};
 ghost use Rattle.lists.specs.Steps.{Made, entryTold};
-ghost use Rattle.lists.specs.Stretches.{entryFrom, Even, ChartedStretch, AskedStretch, zeros};
+ghost use Rattle.lists.specs.Entries.{entryFrom, Even, ChartedEntries, AskedEntries, zeros};
 ghost use Rattle.lists.specs.Lists.{listsFit, listsVerdict, askedReport, reportAt, positionReportAt, pixelReportAt, valuesLeft, numbersLeft};
 
 mod charted;
@@ -112,9 +112,9 @@ fn clear(numbers: &mut [u32], n: usize)
 }
 
 // The entries from an element of the list on, as far as the engine answers them; the element where the first stands that it does not, or the length.
-fn charted_stretch(e: Engine, asked: Asked, list: &[i64], values: &mut [i64], from: usize) -> usize
+fn fill_charted(e: Engine, asked: Asked, list: &[i64], values: &mut [i64], from: usize) -> usize
     requires { ⌜ Made e ⌝ ∗ ⌜ Even (length (now list)) ⌝ ∗ ⌜ length (now list) ≤ length (now values) ⌝ ∗ ⌜ Even from ⌝ ∗ ⌜ from ≤ length (now list) ⌝ }
-    ensures { λ r. ⌜ ChartedStretch (reportAt (e .pair) asked (e .card) (now (list .entry))) (length (now (list .entry))) from r
+    ensures { λ r. ⌜ ChartedEntries (reportAt (e .pair) asked (e .card) (now (list .entry))) (length (now (list .entry))) from r
         (now (values .entry)) (now (values .exit)) ⌝ }
 {
     let west = charted::west_of(e);
@@ -136,7 +136,7 @@ fn charted_stretch(e: Engine, asked: Asked, list: &[i64], values: &mut [i64], fr
 }
 
 // The entries from an element of the list on, asked of the card up to the first that it does not refuse; the element after them.
-fn asked_stretch(
+fn fill_asked(
     pair: Pair,
     k: Card,
     asked: Asked,
@@ -147,7 +147,7 @@ fn asked_stretch(
 ) -> usize
     requires { ⌜ Known k ⌝ ∗ ⌜ listsFit (length (now list)) (length (now values)) (length (now numbers)) ≡ true ⌝ ∗ ⌜ Even from ⌝
         ∗ ⌜ from < length (now list) ⌝ }
-    ensures told { λ r. ⌜ AskedStretch (reportAt pair asked k (now (list .entry))) (length (now (list .entry))) from r
+    ensures told { λ r. ⌜ AskedEntries (reportAt pair asked k (now (list .entry))) (length (now (list .entry))) from r
         (now (values .entry)) (now (values .exit)) (now (numbers .entry)) (now (numbers .exit)) ⌝ }
     ensures further { λ r. ⌜ from < r ⌝ }
 {
@@ -166,7 +166,7 @@ fn asked_stretch(
     i
 }
 
-// What is told of each entry: by the engine, and between its stretches by the card.
+// What is told of each entry: by the engine, and by the card where the engine stops.
 fn fill(e: Engine, asked: Asked, list: &[i64], values: &mut [i64], numbers: &mut [u32])
     requires { ⌜ Made e ⌝ ∗ ⌜ listsFit (length (now list)) (length (now values)) (length (now numbers)) ≡ true ⌝ }
     ensures values { λ _. ⌜ now (values .exit)
@@ -178,10 +178,10 @@ fn fill(e: Engine, asked: Asked, list: &[i64], values: &mut [i64], numbers: &mut
     let k = e.card;
     let n = list.len();
     clear(numbers, n / 2);
-    let mut i = charted_stretch(e, asked, list, values, 0);
+    let mut i = fill_charted(e, asked, list, values, 0);
     while i < n {
-        i = asked_stretch(pair, k, asked, list, values, numbers, i);
-        i = charted_stretch(e, asked, list, values, i);
+        i = fill_asked(pair, k, asked, list, values, numbers, i);
+        i = fill_charted(e, asked, list, values, i);
     }
 }
 

@@ -5,8 +5,8 @@ use mathlib.Core.List.{List}
 use native.Mathlib.Omega.{arith}
 use lib.ListN.{length}
 use Rattle.whole.specs.Lists.{over}
-use Rattle.lists.specs.Stretches.{zeros}
-use Rattle.lists.proofs.Stretches.{zeros-next, zeros-kept}
+use Rattle.lists.specs.Entries.{zeros}
+use Rattle.lists.proofs.Entries.{zeros-next, zeros-kept}
 use Rattle.lists.proofs.clear.Statement.{statement}
 use Rattle.lists.proofs.clear.Tie as tie
 

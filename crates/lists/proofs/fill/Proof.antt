@@ -8,9 +8,9 @@ use lib.IntN.{ℤ}
 use lib.ListN.{length}
 use Rattle.arc.specs.Refusals.{Report}
 use Rattle.lists.specs.Lists.{entries, listsFit, entryAt, reportAt}
-use Rattle.lists.specs.Stretches.{Even}
+use Rattle.lists.specs.Entries.{Even}
 use Rattle.lists.proofs.Filling.{lists-fit, report-values}
-use Rattle.lists.proofs.Stretches.{Filled, even-fit, filled-length, filled-numbers, filled-first, filled-asked, filled-charted, filled-end}
+use Rattle.lists.proofs.Entries.{Filled, even-fit, filled-length, filled-numbers, filled-first, filled-asked, filled-charted, filled-end}
 use Rattle.lists.proofs.fill.Statement.{statement}
 use Rattle.lists.proofs.fill.Tie as tie
 
@@ -44,8 +44,8 @@ room s = lists-fit (length (s .args .list .now)) (length (s .args .values .now))
 clear-requires : tie.Need-clear-requires Inv-loop μ-loop
 clear-requires c κs = room (c .before .before .before) .1
 
-charted-stretch-requires : tie.Need-charted-stretch-requires Inv-loop μ-loop
-charted-stretch-requires c κs =
+fill-charted-requires : tie.Need-fill-charted-requires Inv-loop μ-loop
+fill-charted-requires c κs =
     let s = c .before .before .before .before .before .before .before in (s .pre .0, (even s, (room s .0, (refl, omega arith))))
 
 loop-holds : tie.Need-loop-holds Inv-loop μ-loop
@@ -62,7 +62,7 @@ filled c =
     let s = start c in
     c .loop .inv (s .args .values .now) (s .args .numbers .now) (fit s)
     (filled-first (reports s) (two s) (length (s .args .list .now)) (s .args .values .now) (s .args .numbers .now) (fit s)
-    (c .before .before .charted-stretch .ensures) (c .before .before .before .before .before .before .clear .ensures))
+    (c .before .before .fill-charted .ensures) (c .before .before .before .before .before .before .clear .ensures))
 
 -- as long as they were
 long : (c : tie.At-loop Inv-loop μ-loop)
@@ -74,24 +74,24 @@ long c =
       filled-numbers (reports s) (two s) (length (s .args .list .now)) (s .args .values .now) (s .args .numbers .now) (fit s) t,
     )
 
-asked-stretch-requires : tie.Need-asked-stretch-requires Inv-loop μ-loop
-asked-stretch-requires c κs =
+fill-asked-requires : tie.Need-fill-asked-requires Inv-loop μ-loop
+fill-asked-requires c κs =
     let l = c .before .before .before in
     let s = start l in
     (s .pre .0 .known, (rw (long l .0, long l .1) (fit s), (filled l .even, c .before .before .loop-test .taken)))
 
-charted-stretch-requires-2 : tie.Need-charted-stretch-requires-2 Inv-loop μ-loop
-charted-stretch-requires-2 c κs =
+fill-charted-requires-2 : tie.Need-fill-charted-requires-2 Inv-loop μ-loop
+fill-charted-requires-2 c κs =
     let p = c .before .before .before .before in
     let l = p .before .before .before .before in
     let s = start l in
-    let a = p .asked-stretch .ensures .0 in
+    let a = p .fill-asked .ensures .0 in
     (s .pre .0, (even s, (omega (arith, a .kept, long l, room s), (a .even, a .upto))))
 
 loop-less : tie.Need-loop-less Inv-loop μ-loop
 loop-less c =
-    let a = c .before .before .before .before .before .before .asked-stretch .ensures .1 in
-    omega (arith, c .before .before .before .before .before .before .before .before .before .loop-test .taken, a, c .before .charted-stretch2 .ensures .past)
+    let a = c .before .before .before .before .before .before .fill-asked .ensures .1 in
+    omega (arith, c .before .before .before .before .before .before .before .before .before .loop-test .taken, a, c .before .fill-charted2 .ensures .past)
 
 loop-again : tie.Need-loop-again Inv-loop μ-loop
 loop-again c out num h t =
@@ -99,8 +99,8 @@ loop-again c out num h t =
     let s = start l in
     filled-charted (reports s) (two s) (length (s .args .list .now)) out num h
     (filled-asked (reports s) (two s) (length (s .args .list .now)) out num h (l .loop .inv out num h t)
-    (c .before .before .before .before .before .before .asked-stretch .ensures .0))
-    (c .before .charted-stretch2 .ensures)
+    (c .before .before .before .before .before .before .fill-asked .ensures .0))
+    (c .before .fill-charted2 .ensures)
 
 same-length : tie.Need-same-length Inv-loop μ-loop
 same-length c = long (c .before) .0
@@ -119,5 +119,5 @@ returns c =
 pub fill-spec : {M : Type 1} → statement M
 fill-spec =
     tie.close
-    (tie.spec Inv-loop μ-loop clear-requires charted-stretch-requires loop-holds asked-stretch-requires charted-stretch-requires-2 loop-less loop-again
+    (tie.spec Inv-loop μ-loop clear-requires fill-charted-requires loop-holds fill-asked-requires fill-charted-requires-2 loop-less loop-again
     same-length same-length-2 returns)

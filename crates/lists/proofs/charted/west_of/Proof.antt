@@ -8,7 +8,7 @@ use mir.ValLaws.{toZ-pos, toZ-ofZ}
 use Rattle.whole.proofs.Signed.{is-difference}
 use Rattle.whole.proofs.Machine.{is-fits}
 use Rattle.arc.specs.Zones.{half}
-use Rattle.lists.specs.Stretches.{westOf}
+use Rattle.lists.specs.Entries.{westOf}
 use Rattle.lists.specs.declared.engine.Engine.{Engine}
 use Rattle.lists.specs.Steps.{Made}
 use Rattle.lists.proofs.Spans.{left-low}

@@ -16,19 +16,19 @@ mul-from c = let l = known-laid _ (c .before .before .pre .0) in omega (arith, l
 add-from : tie.Need-add-from
 add-from c = let s = c .before .before in let l = known-laid _ (s .pre .0) in omega (arith, l, north-high _ l, s .pre .1)
 
-div-smaller : tie.Need-div-smaller
-div-smaller c = let l = known-laid _ (c .before .before .pre .0) in omega (arith, l .rows .some, l .rows .whole)
+div-lesser : tie.Need-div-lesser
+div-lesser c = let l = known-laid _ (c .before .before .pre .0) in omega (arith, l .rows .some, l .rows .whole)
 
 mul-span-of : tie.Need-mul-span-of
 mul-span-of c =
     let s = c .before .before .before in
     let l = known-laid _ (s .pre .0) in
-    rw (c .smaller .ensures) (record { fits = omega (arith, first-part _ l (s .args .up) (s .pre .1), l, north-high _ l, s .pre .1) })
+    rw (c .lesser .ensures) (record { fits = omega (arith, first-part _ l (s .args .up) (s .pre .1), l, north-high _ l, s .pre .1) })
 
 sub-span-of : tie.Need-sub-span-of
 sub-span-of c =
     let s = c .before .before .before in
-    rw (c .smaller .ensures) (first-part _ (known-laid _ (s .pre .0)) (s .args .up) (s .pre .1))
+    rw (c .lesser .ensures) (first-part _ (known-laid _ (s .pre .0)) (s .args .up) (s .pre .1))
 
 add-span-of : tie.Need-add-span-of
 add-span-of c = omega (arith, known-laid _ (c .before .before .before .before .pre .0))
@@ -40,12 +40,12 @@ span-of-requires : tie.Need-span-of-requires
 span-of-requires c κs =
     let s = c .before .before .before .before .before in
     let l = known-laid _ (s .pre .0) in
-    rw (c .before .before .smaller .ensures) (omega (arith, first-rest _ l (s .args .up) (s .pre .1), l))
+    rw (c .before .before .lesser .ensures) (omega (arith, first-rest _ l (s .args .up) (s .pre .1), l))
 
 returns : tie.Need-returns
-returns c = rw (c .before .before .before .smaller .ensures) at (c .span-of .ensures)
+returns c = rw (c .before .before .before .lesser .ensures) at (c .span-of .ensures)
 
 pub down-of-spec : {M : Type 1} → statement M
 down-of-spec =
     tie.close
-    (tie.spec sub-from mul-from add-from div-smaller (λ c κs. search needs) mul-span-of sub-span-of add-span-of sub-span-of-2 span-of-requires returns)
+    (tie.spec sub-from mul-from add-from div-lesser (λ c κs. search needs) mul-span-of sub-span-of add-span-of sub-span-of-2 span-of-requires returns)

@@ -1,4 +1,4 @@
--- A list filled stretch by stretch, its numbers cleared before: what a stretch leaves, and what they leave together. Assumes nothing.
+-- A list filled by the engine and by the card in turn, its numbers cleared before: what each leaves, and what they leave together. Assumes nothing.
 use mathlib.Core.Path.{_≡_, refl, sym, ap, _∙_}
 use mathlib.Core.Bool.{Bool, true, false, _&&_, and-eq-true-iff}
 use mathlib.Core.List.{List, [], _∷_, _++_}
@@ -15,7 +15,7 @@ use mir.Val.{SFits, toZ, ofZ}
 use Rattle.arc.specs.Refusals.{Report}
 use Rattle.whole.specs.Lists.{over}
 use Rattle.lists.specs.Lists.{entries, listsFit, entryAt, reportValues, reportNumbers}
-use Rattle.lists.specs.Stretches.{Even, ChartedStretch, AskedStretch, entryFrom, zeros}
+use Rattle.lists.specs.Entries.{Even, ChartedEntries, AskedEntries, entryFrom, zeros}
 use Rattle.lists.proofs.Filling.{length-over, length-each, lists-fit, values-length, numbers-length, values-next, numbers-next}
 
 -- ---- elements where an entry starts
@@ -96,9 +96,9 @@ module _ (f : ℕ → Report) (n : ℕ) (num : List ℕ) (room : n ≤ length nu
       ∙ ap (λ (s : List ℕ). reportNumbers n f ++ s) (drop-append-seam (zeros n) (drop (length (zeros n)) num))
       ∙ ap (λ (k : ℕ). reportNumbers n f ++ drop k num) (sym long)
 
--- ---- a stretch of entries that the engine answers
+-- ---- entries that the engine answers
 module _ (f : ℕ → Report) (two : (i : ℕ) → length (f i .values) ≡ 2) (n : ℕ) (en : Even n) where
-  pub charted-none : (from : ℕ) (before : List ℤ) → Even from → from ≤ n → ChartedStretch f n from from before before
+  pub charted-none : (from : ℕ) (before : List ℤ) → Even from → from ≤ n → ChartedEntries f n from from before before
   charted-none from before h le =
       record {
         even = h;
@@ -109,9 +109,9 @@ module _ (f : ℕ → Report) (two : (i : ℕ) → length (f i .values) ≡ 2) (
         answers = λ i l t. absurd (omega arith);
       }
 
-  pub charted-next : {from at : ℕ} {before now : List ℤ} → ChartedStretch f n from at before now → at < n → (x y : ℤ) → SFits w64 x → SFits w64 y
+  pub charted-next : {from at : ℕ} {before now : List ℤ} → ChartedEntries f n from at before now → at < n → (x y : ℤ) → SFits w64 x → SFits w64 y
       → f (entries at) .values ≡ x ∷ y ∷ [] → f (entries at) .number ≡ 0
-      → ChartedStretch f n from (at + 2) before (set (set now at (toZ w64 (ofZ w64 x))) (at + 1) (toZ w64 (ofZ w64 y)))
+      → ChartedEntries f n from (at + 2) before (set (set now at (toZ w64 (ofZ w64 x))) (at + 1) (toZ w64 (ofZ w64 y)))
   charted-next {from} {at} {before} {now} r h x y fx fy ev ez =
       record {
         even = omega (arith, r .even);
@@ -132,9 +132,9 @@ module _ (f : ℕ → Report) (two : (i : ℕ) → length (f i .values) ≡ 2) (
           go true e = r .answers i l (ltb-true i (entries at) e)
           go false e = ap (λ (k : ℕ). f k .number) (omega (arith, ltb-false i (entries at) e)) ∙ ez
 
--- ---- a stretch of entries that the card is asked
+-- ---- entries that the card is asked
 module _ (f : ℕ → Report) (two : (i : ℕ) → length (f i .values) ≡ 2) (n : ℕ) (en : Even n) where
-  pub asked-none : (from : ℕ) (before : List ℤ) (counts : List ℕ) → Even from → from ≤ n → AskedStretch f n from from before before counts counts
+  pub asked-none : (from : ℕ) (before : List ℤ) (counts : List ℕ) → Even from → from ≤ n → AskedEntries f n from from before before counts counts
   asked-none from before counts h le =
       record {
         even = h;
@@ -145,10 +145,10 @@ module _ (f : ℕ → Report) (two : (i : ℕ) → length (f i .values) ≡ 2) (
         counted = λ num room e. e;
       }
 
-  pub asked-next : {from at : ℕ} {before now after : List ℤ} {counts nums then : List ℕ} → AskedStretch f n from at before now counts nums → at < n
+  pub asked-next : {from at : ℕ} {before now after : List ℤ} {counts nums then : List ℕ} → AskedEntries f n from at before now counts nums → at < n
       → (x y : ℤ) (z : ℕ) → SFits w64 x → SFits w64 y → f (entries at) .values ≡ x ∷ y ∷ [] → f (entries at) .number ≡ z
       → after ≡ set (set now at (toZ w64 (ofZ w64 x))) (at + 1) (toZ w64 (ofZ w64 y)) → then ≡ set nums (entries at) z
-      → AskedStretch f n from (at + 2) before after counts then
+      → AskedEntries f n from (at + 2) before after counts then
   asked-next {at = at} {now = now} {nums = nums} r h x y z fx fy ev ez wrote told =
       record {
         even = omega (arith, r .even);
@@ -170,7 +170,7 @@ module _ (f : ℕ → Report) (two : (i : ℕ) → length (f i .values) ≡ 2) (
             ∙ ap (λ (k : ℕ). over (reportNumbers k f) num) (next-entry at);
       }
 
--- ---- stretch by stretch
+-- ---- the one after the other
 pub record Filled (f : ℕ → Report) (n : ℕ) (out : List ℤ) (num : List ℕ) (at : ℕ) (now : List ℤ) (nums : List ℕ) : Type 0 where
   pub even : Even at
   pub upto : at ≤ n
@@ -193,8 +193,8 @@ module _ (f : ℕ → Report) (two : (i : ℕ) → length (f i .values) ≡ 2) (
       ∙ length-over (reportNumbers (entries at) f) (over (zeros (entries n)) num) (omega (arith, t .upto, room, kept, numbers-length f (entries at)))
       ∙ kept
 
-  -- the first stretch, from the cleared numbers
-  pub filled-first : {at : ℕ} {now : List ℤ} {nums : List ℕ} → ChartedStretch f n 0 at out now → nums ≡ over (zeros (entries n)) num
+  -- what the engine answers first, the numbers cleared
+  pub filled-first : {at : ℕ} {now : List ℤ} {nums : List ℕ} → ChartedEntries f n 0 at out now → nums ≡ over (zeros (entries n)) num
       → Filled f n out num at now nums
   filled-first {at} r e =
       record {
@@ -204,8 +204,8 @@ module _ (f : ℕ → Report) (two : (i : ℕ) → length (f i .values) ≡ 2) (
         numbers = e ∙ sym (skip-to f (entries n) num (room .1) 0 (entries at) (omega arith) (omega (arith, r .upto)) (r .answers));
       }
 
-  -- a stretch that the card was asked
-  pub filled-asked : {at to : ℕ} {now after : List ℤ} {nums then : List ℕ} → Filled f n out num at now nums → AskedStretch f n at to now after nums then
+  -- what the card was asked
+  pub filled-asked : {at to : ℕ} {now after : List ℤ} {nums then : List ℕ} → Filled f n out num at now nums → AskedEntries f n at to now after nums then
       → Filled f n out num to after then
   filled-asked t r =
       record {
@@ -215,8 +215,8 @@ module _ (f : ℕ → Report) (two : (i : ℕ) → length (f i .values) ≡ 2) (
         numbers = r .counted (over (zeros (entries n)) num) (omega (arith, room, zeros-kept (entries n) num (room .1))) (t .numbers);
       }
 
-  -- a stretch that the engine answers
-  pub filled-charted : {at to : ℕ} {now after : List ℤ} {nums : List ℕ} → Filled f n out num at now nums → ChartedStretch f n at to now after
+  -- what the engine answers next
+  pub filled-charted : {at to : ℕ} {now after : List ℤ} {nums : List ℕ} → Filled f n out num at now nums → ChartedEntries f n at to now after
       → Filled f n out num to after nums
   filled-charted {at} {to} t r =
       record {

@@ -9,15 +9,15 @@ use Rattle.whole.proofs.Machine.{result-is}
 use Rattle.card.proofs.Answers.{pair-asked}
 use Rattle.lists.specs.declared.Entry.{Entry}
 use Rattle.lists.specs.Lists.{entries, entryAt, askedReport, reportAt}
-use Rattle.lists.specs.Stretches.{ChartedStretch}
+use Rattle.lists.specs.Entries.{ChartedEntries}
 use Rattle.lists.proofs.Filling.{report-values}
-use Rattle.lists.proofs.Stretches.{entry-from, charted-none, charted-next}
+use Rattle.lists.proofs.Entries.{entry-from, charted-none, charted-next}
 use borrow.Author.Needs.{needs}
-use Rattle.lists.proofs.charted_stretch.Statement.{statement}
-use Rattle.lists.proofs.charted_stretch.Tie as tie
+use Rattle.lists.proofs.fill_charted.Statement.{statement}
+use Rattle.lists.proofs.fill_charted.Tie as tie
 
 abbrev Inv-loop : tie.InvT-loop
-Inv-loop e asked list values₀ from west n i₀ values i = ChartedStretch (reportAt (e .pair) asked (e .card) list) n from i values₀ values
+Inv-loop e asked list values₀ from west n i₀ values i = ChartedEntries (reportAt (e .pair) asked (e .card) list) n from i values₀ values
 
 abbrev μ-loop : tie.MeasureT-loop
 μ-loop e asked list values₀ from west n i₀ values i = n - i
@@ -93,8 +93,8 @@ same-length-2 c = c .before .loop .inv .kept
 returns-2 : tie.Need-returns-2 Inv-loop μ-loop
 returns-2 c = c .before .loop .inv
 
-pub charted-stretch-spec : {M : Type 1} → statement M
-charted-stretch-spec =
+pub fill-charted-spec : {M : Type 1} → statement M
+fill-charted-spec =
     tie.close
     (tie.spec Inv-loop μ-loop west-of-requires loop-holds entry-at-requires on-chart-requires (λ c. search needs) put-values-requires (λ c. search needs)
     same-length returns add-i loop-less loop-again same-length-2 returns-2)

@@ -8,14 +8,14 @@ use Rattle.card.proofs.Answers.{pair-asked}
 use Rattle.lists.specs.declared.Entry.{Entry}
 use Rattle.lists.specs.Steps.{entryTold}
 use Rattle.lists.specs.Lists.{entries, entryAt, askedReport, reportAt}
-use Rattle.lists.specs.Stretches.{Even, AskedStretch}
+use Rattle.lists.specs.Entries.{Even, AskedEntries}
 use Rattle.lists.proofs.Filling.{lists-fit, report-values}
-use Rattle.lists.proofs.Stretches.{even-fit, entry-from, asked-none, asked-next}
-use Rattle.lists.proofs.asked_stretch.Statement.{statement}
-use Rattle.lists.proofs.asked_stretch.Tie as tie
+use Rattle.lists.proofs.Entries.{even-fit, entry-from, asked-none, asked-next}
+use Rattle.lists.proofs.fill_asked.Statement.{statement}
+use Rattle.lists.proofs.fill_asked.Tie as tie
 
 abbrev Inv-loop : tie.InvT-loop
-Inv-loop pair k asked list values₀ numbers₀ from n i₀ values numbers i = AskedStretch (reportAt pair asked k list) n from i values₀ values numbers₀ numbers
+Inv-loop pair k asked list values₀ numbers₀ from n i₀ values numbers i = AskedEntries (reportAt pair asked k list) n from i values₀ values numbers₀ numbers
 
 abbrev μ-loop : tie.MeasureT-loop
 μ-loop pair k asked list values₀ numbers₀ from n i₀ values numbers i = n - i
@@ -83,7 +83,7 @@ told c =
 
 -- past that entry
 put : (c : tie.After-put-number Inv-loop μ-loop)
-    → AskedStretch (reports (begun c)) (length (begun c .args .list .now)) (begun c .args .from) (turn c .before .loop .i + 2)
+    → AskedEntries (reports (begun c)) (length (begun c .args .list .now)) (begun c .args .from) (turn c .before .loop .i + 2)
     (begun c .args .values .now) (c .before .before .before .put-values .last .0) (begun c .args .numbers .now) (c .put-number .last .0)
 put c =
     let s = begun c in
@@ -122,8 +122,8 @@ same-length-4 c = c .before .loop .inv .kept .1
 returns-2 : tie.Need-returns-2 Inv-loop μ-loop
 returns-2 c = (c .before .loop .inv, omega (arith, c .loop-test .left, c .before .before .before .pre .1 .1 .1))
 
-pub asked-stretch-spec : {M : Type 1} → statement M
-asked-stretch-spec =
+pub fill-asked-spec : {M : Type 1} → statement M
+fill-asked-spec =
     tie.close
     (tie.spec Inv-loop μ-loop loop-holds entry-at-requires answer-entry-requires put-values-requires put-number-requires add-i same-length same-length-2
     returns loop-less loop-again same-length-3 same-length-4 returns-2)

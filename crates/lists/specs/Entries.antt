@@ -6,9 +6,9 @@
 --     Agrees c r         what the engine answers, if anything, is the report r
 --     entryFrom ps at    the entry that starts at an element of a list
 --     Even n             n is even: an element where an entry starts, or the length of a list of entries
---     ChartedStretch f n from to before after   in a list of length n, where the values before the element `from` are those of the reports f, so are
+--     ChartedEntries f n from to before after   in a list of length n, where the values before the element `from` are those of the reports f, so are
 --                        those before `to`; and no report between them refuses
---     AskedStretch f n from to before after counts then   the same of values and of numbers, also where reports refuse
+--     AskedEntries f n from to before after counts then   the same of values and of numbers, also where reports refuse
 --     zeros n            n zeros
 use mathlib.Core.Path.{_≡_}
 use Prim.Native.Nat.{ℕ, _+_, _%_, _≤_, _<_}
@@ -47,7 +47,7 @@ entryFrom ps at = record { first = getD ps at (pos 0); second = getD ps (at + 1)
 abbrev pub Even : ℕ → Type 0
 Even n = n % 2 ≡ 0
 
-pub record ChartedStretch (f : ℕ → Report) (n from to : ℕ) (before after : List ℤ) : Type 0 where
+pub record ChartedEntries (f : ℕ → Report) (n from to : ℕ) (before after : List ℤ) : Type 0 where
   pub even : Even to
   pub past : from ≤ to
   pub upto : to ≤ n
@@ -55,7 +55,7 @@ pub record ChartedStretch (f : ℕ → Report) (n from to : ℕ) (before after :
   pub written : (out : List ℤ) → n ≤ length out → before ≡ over (reportValues (entries from) f) out → after ≡ over (reportValues (entries to) f) out
   pub answers : (i : ℕ) → entries from ≤ i → i < entries to → f i .number ≡ 0
 
-pub record AskedStretch (f : ℕ → Report) (n from to : ℕ) (before after : List ℤ) (counts then : List ℕ) : Type 0 where
+pub record AskedEntries (f : ℕ → Report) (n from to : ℕ) (before after : List ℤ) (counts then : List ℕ) : Type 0 where
   pub even : Even to
   pub past : from ≤ to
   pub upto : to ≤ n
