@@ -1,4 +1,4 @@
-pub mod Scales
+pub mod ScaleLaws
 pub mod Spaced
 pub mod Table
 pub mod AsPrinted

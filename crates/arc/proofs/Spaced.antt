@@ -10,7 +10,7 @@ use Rattle.whole.specs.Whole.{floor_div, ceil_div}
 use Rattle.whole.proofs.Signed.{Is, is-nat, is_same, is-ceil, is-size}
 use Rattle.arc.specs.Scales.{is_scale}
 use Rattle.arc.specs.Spacing.{spacing_at, SpacingUnit, Spaced, Grid, SpacingIs, SpacingFalls, ColumnsAtLeast, RowsAtLeast}
-use Rattle.arc.proofs.Scales.{scale-least, scale-most}
+use Rattle.arc.proofs.ScaleLaws.{scale-least, scale-most}
 
 -- the constant as a quotient of naturals
 pub divides : (u s : ℕ) → 0 < s → spacing_at u s ≡ 512 * ((u * 1000000 + (s - 1)) / s)

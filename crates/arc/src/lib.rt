@@ -1,4 +1,6 @@
 // The ARC system's zones and pixel spacing (001, Table 3-1, 3.4.6).
+#![tactic(auto)]
+
 ghost use Rattle.std.specs.Prelude.{◌≡◌};
 ghost use Rattle.arc.specs.Refusals.{refusal};
 ghost use Rattle.arc.specs.Scales.{overview_scale};
@@ -17,7 +19,7 @@ pub use zone_table::{equatorward, northern, poleward, southern};
 
 // A refusal: its number, and its place (01, "Numbers given in refusal").
 #[repr(C)]
-#[derive(Drop)]
+#[derive(Clone, Copy)]
 pub struct Refusal {
     pub number: u32,
     pub at: u64,
@@ -25,7 +27,7 @@ pub struct Refusal {
 
 // What the caller states beside a card: the scale 1:S, the factor of an overview, 1 for a chart, and the zone (02, E4).
 #[repr(C)]
-#[derive(Drop)]
+#[derive(Clone, Copy)]
 pub struct Series {
     pub scale: u64,
     pub factor: u64,
@@ -33,28 +35,28 @@ pub struct Series {
 }
 
 // An answer with no value, or whose value holds an array and so stands beside it.
-#[derive(Drop)]
+#[derive(Clone, Copy)]
 pub enum Verdict {
     Accepted,
     Refused(Refusal),
 }
 
 // The scale that a spacing is read from.
-#[derive(Drop)]
+#[derive(Clone, Copy)]
 enum ScaleAnswer {
     Scale(u64),
     Refused(Refusal),
 }
 
 // A or B alone.
-#[derive(Drop)]
+#[derive(Clone, Copy)]
 pub enum ConstantAnswer {
     Pixels(u64),
     Refused(Refusal),
 }
 
 // A and B.
-#[derive(Drop)]
+#[derive(Clone, Copy)]
 pub enum SpacingAnswer {
     Constants { a: u64, b: u64 },
     Refused(Refusal),

@@ -7,7 +7,7 @@ use crate::{ConstantAnswer, Refusal, SpacingAnswer, Verdict};
 
 // Number, place, and A or B.
 #[repr(C)]
-#[derive(Drop)]
+#[derive(Clone, Copy)]
 pub struct ConstantParts {
     pub number: u32,
     pub at: u64,
@@ -16,7 +16,7 @@ pub struct ConstantParts {
 
 // Number, place, A and B.
 #[repr(C)]
-#[derive(Drop)]
+#[derive(Clone, Copy)]
 pub struct SpacingParts {
     pub number: u32,
     pub at: u64,

@@ -5,7 +5,7 @@ ghost use Rattle.arc.specs.TownScales.{is_town_scale};
 ghost use Rattle.arc.specs.Zones.{is_polar};
 
 // The circle, in hundredths of an arc-second (01, "Units and the zone table").
-#[derive(Drop)]
+#[derive(Clone, Copy)]
 pub struct Circle;
 
 impl Circle {
@@ -24,7 +24,7 @@ impl Circle {
 }
 
 // A tile (01, "Tiles").
-#[derive(Drop)]
+#[derive(Clone, Copy)]
 pub struct Tile;
 
 impl Tile {
@@ -37,7 +37,7 @@ impl Tile {
 }
 
 // The overlap of a zone poleward: 1024 rows (001, 3.3.3).
-#[derive(Drop)]
+#[derive(Clone, Copy)]
 pub struct Overlap;
 
 impl Overlap {
@@ -46,7 +46,7 @@ impl Overlap {
 }
 
 // The scales served: 1:LEAST to 1:MOST; up to 1:LAST_TOWN they are the town scales (02, E13).
-#[derive(Drop)]
+#[derive(Clone, Copy)]
 pub struct Scales;
 
 impl Scales {
@@ -58,7 +58,7 @@ impl Scales {
 }
 
 // The factors of an overview: 1 to MOST (02, E4).
-#[derive(Drop)]
+#[derive(Clone, Copy)]
 pub struct Factors;
 
 impl Factors {

@@ -8,7 +8,7 @@ use crate::zone_table::{FROM, SPACING_UNIT, TABLE, TO};
 use crate::{Circle, ConstantAnswer, refused};
 
 // B, the same in every zone (001, Table 3-3).
-#[derive(Drop)]
+#[derive(Clone, Copy)]
 pub struct Meridian;
 
 impl Meridian {
@@ -22,7 +22,7 @@ impl Meridian {
 }
 
 // Zones 1 and 10.
-#[derive(Drop)]
+#[derive(Clone, Copy)]
 pub struct Zone1;
 
 impl Zone1 {
@@ -40,7 +40,7 @@ impl Zone1 {
 }
 
 // Zones 2 and 11.
-#[derive(Drop)]
+#[derive(Clone, Copy)]
 pub struct Zone2;
 
 impl Zone2 {
@@ -58,7 +58,7 @@ impl Zone2 {
 }
 
 // Zones 3 and 12.
-#[derive(Drop)]
+#[derive(Clone, Copy)]
 pub struct Zone3;
 
 impl Zone3 {
@@ -76,7 +76,7 @@ impl Zone3 {
 }
 
 // Zones 4 and 13.
-#[derive(Drop)]
+#[derive(Clone, Copy)]
 pub struct Zone4;
 
 impl Zone4 {
@@ -94,7 +94,7 @@ impl Zone4 {
 }
 
 // Zones 5 and 14.
-#[derive(Drop)]
+#[derive(Clone, Copy)]
 pub struct Zone5;
 
 impl Zone5 {
@@ -112,7 +112,7 @@ impl Zone5 {
 }
 
 // Zones 6 and 15.
-#[derive(Drop)]
+#[derive(Clone, Copy)]
 pub struct Zone6;
 
 impl Zone6 {
@@ -130,7 +130,7 @@ impl Zone6 {
 }
 
 // Zones 7 and 16.
-#[derive(Drop)]
+#[derive(Clone, Copy)]
 pub struct Zone7;
 
 impl Zone7 {
@@ -148,7 +148,7 @@ impl Zone7 {
 }
 
 // Zones 8 and 17.
-#[derive(Drop)]
+#[derive(Clone, Copy)]
 pub struct Zone8;
 
 impl Zone8 {
@@ -166,7 +166,7 @@ impl Zone8 {
 }
 
 // Zones 9 and 18.
-#[derive(Drop)]
+#[derive(Clone, Copy)]
 pub struct Zone9;
 
 impl Zone9 {

@@ -3,10 +3,12 @@ use crate::indexes::Stated;
 use crate::look_up::STORE;
 use crate::{print, word};
 use arc::Verdict;
+use std::io;
 use tiles::NumberAnswer;
 
 // Whether the line is one of these questions, well formed; then it is answered.
 pub fn asked(
+    rt: &HostRuntime,
     name: &[u8],
     line: &[u8],
     at: usize,
@@ -14,34 +16,34 @@ pub fn asked(
     card: &[u8],
     words: &[u64],
     store: &[u8],
-) -> bool {
+) -> io::Result<bool> {
     let length = word::natural(line, at);
     let row = word::signed(line, length.next);
     let column = word::signed(line, row.next);
     if !word::ended(column.next) {
-        return false;
+        return Ok(false);
     }
     if STORE < length.value {
-        return false;
+        return Ok(false);
     }
     if (store.len() as u64) < length.value {
-        return false;
+        return Ok(false);
     }
     let n = length.value as usize;
     let lent = &store[..n];
-    if check::same(name, b"bits_number") {
-        number(s, card, words, lent, row.value, column.value);
-        return true;
+    if word::same(name, b"bits_number") {
+        number(rt, s, card, words, lent, row.value, column.value)?;
+        return Ok(true);
     }
-    if check::same(name, b"bits_tile") {
-        tile(s, card, words, lent, row.value, column.value);
-        return true;
+    if word::same(name, b"bits_tile") {
+        tile(rt, s, card, words, lent, row.value, column.value)?;
+        return Ok(true);
     }
-    if check::same(name, b"bits_bands") {
-        bands(s, card, words, lent, row.value, column.value);
-        return true;
+    if word::same(name, b"bits_bands") {
+        bands(rt, s, card, words, lent, row.value, column.value)?;
+        return Ok(true);
     }
-    false
+    Ok(false)
 }
 
 // Reading's refusals, then those of the stored number.
@@ -62,9 +64,17 @@ fn number_of(
     }
 }
 
-fn number(s: Stated, card: &[u8], words: &[u64], store: &[u8], row: i64, column: i64) {
+fn number(
+    rt: &HostRuntime,
+    s: Stated,
+    card: &[u8],
+    words: &[u64],
+    store: &[u8],
+    row: i64,
+    column: i64,
+) -> io::Result<()> {
     let r = number_of(s, card, words, store, row, column).into_parts();
-    print::answer(r.number, r.at, &[r.stored]);
+    print::answer(rt, r.number, r.at, &[r.stored])
 }
 
 // The part of the store; none where reading refuses.
@@ -85,17 +95,33 @@ fn part<'a>(
     }
 }
 
-fn tile(s: Stated, card: &[u8], words: &[u64], store: &[u8], row: i64, column: i64) {
+fn tile(
+    rt: &HostRuntime,
+    s: Stated,
+    card: &[u8],
+    words: &[u64],
+    store: &[u8],
+    row: i64,
+    column: i64,
+) -> io::Result<()> {
     let r = fordcask::fordcask_bits_tile(s.series, card, words, s.count, store, row, column);
-    print::refusal(r.number, r.at);
-    print::naturals(&[r.stored, r.offset, r.length]);
-    print::ends(part(s, card, words, store, row, column));
-    print::end_card(r.blanks);
+    print::refusal(rt, r.number, r.at)?;
+    print::naturals(rt, &[r.stored, r.offset, r.length])?;
+    print::ends(rt, part(s, card, words, store, row, column))?;
+    print::end_card(rt, r.blanks)
 }
 
-fn bands(s: Stated, card: &[u8], words: &[u64], store: &[u8], row: i64, column: i64) {
+fn bands(
+    rt: &HostRuntime,
+    s: Stated,
+    card: &[u8],
+    words: &[u64],
+    store: &[u8],
+    row: i64,
+    column: i64,
+) -> io::Result<()> {
     let r = fordcask::fordcask_bits_bands(s.series, card, words, s.count, store, row, column);
-    print::refusal(r.number, r.at);
-    print::naturals(&[r.red as u64, r.green as u64, r.blue as u64]);
-    print::end_card(r.blanks);
+    print::refusal(rt, r.number, r.at)?;
+    print::naturals(rt, &[r.red as u64, r.green as u64, r.blue as u64])?;
+    print::end_card(rt, r.blanks)
 }

@@ -6,14 +6,14 @@ use crate::{series, word};
 use arc::Series;
 
 // How much of a buffer a word fills, and where the next word starts.
-#[derive(Drop)]
+#[derive(Clone, Copy)]
 pub struct Filled {
     pub length: usize,
     pub next: usize,
 }
 
 // Scale, factor and zone, and the length of a card, and where the next word starts.
-#[derive(Drop)]
+#[derive(Clone, Copy)]
 pub struct CardWords {
     pub series: Series,
     pub length: usize,
@@ -21,7 +21,7 @@ pub struct CardWords {
 }
 
 // A byte as it is written, and where the next one is; 0 where this is none.
-#[derive(Drop)]
+#[derive(Clone, Copy)]
 pub struct Byte {
     pub value: u8,
     pub next: usize,

@@ -2,97 +2,111 @@
 use crate::{buffer, lent, overview, print, word};
 use arc::{Refusal, Series, Verdict};
 use fordcask::CardParts;
+use std::io;
 
 // Whether the line is one of these questions, well formed; then it is answered.
-pub fn asked(name: &[u8], line: &[u8], at: usize) -> bool {
-    if check::same(name, b"overview_pixel") {
-        return overview::asked(line, at);
+pub fn asked(rt: &HostRuntime, name: &[u8], line: &[u8], at: usize) -> io::Result<bool> {
+    if word::same(name, b"overview_pixel") {
+        return overview::asked(rt, line, at);
     }
-    let mut bytes = lent::bytes();
-    let k = buffer::card(line, at, &mut bytes);
+    let mut bytes = lent::bytes(rt.alloc())?;
+    let bytes = bytes.as_mut_slice();
+    let k = buffer::card(line, at, bytes);
     let n = k.length;
     if word::ended(k.next) {
-        return on_card(name, k.series, &bytes[..n]);
+        return on_card(rt, name, k.series, &bytes[..n]);
     }
     let x = word::signed(line, k.next);
     let y = word::signed(line, x.next);
     if word::ended(y.next) {
-        return on_pair(name, k.series, &bytes[..n], x.value, y.value);
+        return on_pair(rt, name, k.series, &bytes[..n], x.value, y.value);
     }
-    false
+    Ok(false)
 }
 
-fn on_card(name: &[u8], series: Series, card: &[u8]) -> bool {
-    if check::same(name, b"read_card") {
-        read(fordcask::fordcask_read_card(series, card));
-        return true;
+fn on_card(rt: &HostRuntime, name: &[u8], series: Series, card: &[u8]) -> io::Result<bool> {
+    if word::same(name, b"read_card") {
+        read(rt, fordcask::fordcask_read_card(series, card))?;
+        return Ok(true);
     }
-    if check::same(name, b"read_strict") {
-        read(fordcask::fordcask_read_strict(series, card));
-        return true;
+    if word::same(name, b"read_strict") {
+        read(rt, fordcask::fordcask_read_strict(series, card))?;
+        return Ok(true);
     }
-    if check::same(name, b"extents") {
-        extents(series, card);
-        return true;
+    if word::same(name, b"extents") {
+        extents(rt, series, card)?;
+        return Ok(true);
     }
-    false
+    Ok(false)
 }
 
-fn on_pair(name: &[u8], series: Series, card: &[u8], x: i64, y: i64) -> bool {
-    if check::same(name, b"place") {
+fn on_pair(
+    rt: &HostRuntime,
+    name: &[u8],
+    series: Series,
+    card: &[u8],
+    x: i64,
+    y: i64,
+) -> io::Result<bool> {
+    if word::same(name, b"place") {
         let r = fordcask::fordcask_place(series, card, x, y);
-        print::pair(r.number, r.at, r.row, r.column, r.blanks);
-        return true;
+        print::pair(rt, r.number, r.at, r.row, r.column, r.blanks)?;
+        return Ok(true);
     }
-    if check::same(name, b"position") {
+    if word::same(name, b"position") {
         let r = fordcask::fordcask_position(series, card, x, y);
-        print::pair(r.number, r.at, r.lat, r.lon, r.blanks);
-        return true;
+        print::pair(rt, r.number, r.at, r.lat, r.lon, r.blanks)?;
+        return Ok(true);
     }
-    if check::same(name, b"pixel") {
+    if word::same(name, b"pixel") {
         let r = fordcask::fordcask_pixel(series, card, x, y);
-        print::pair(r.number, r.at, r.row, r.column, r.blanks);
-        return true;
+        print::pair(rt, r.number, r.at, r.row, r.column, r.blanks)?;
+        return Ok(true);
     }
-    if check::same(name, b"corner_position") {
+    if word::same(name, b"corner_position") {
         let r = fordcask::fordcask_corner_position(series, card, x, y);
-        print::pair(r.number, r.at, r.lat, r.lon, r.blanks);
-        return true;
+        print::pair(rt, r.number, r.at, r.lat, r.lon, r.blanks)?;
+        return Ok(true);
     }
-    if check::same(name, b"corner_pixel") {
+    if word::same(name, b"corner_pixel") {
         let r = fordcask::fordcask_corner_pixel(series, card, x, y);
-        print::pair(r.number, r.at, r.row, r.column, r.blanks);
-        return true;
+        print::pair(rt, r.number, r.at, r.row, r.column, r.blanks)?;
+        return Ok(true);
     }
-    if check::same(name, b"judge_pixel") {
+    if word::same(name, b"judge_pixel") {
         let r = judged(series, card, x, y);
-        print::refusal(r.number, r.at);
-        print::end_line();
-        return true;
+        print::refusal(rt, r.number, r.at)?;
+        print::end_line(rt)?;
+        return Ok(true);
     }
-    false
+    Ok(false)
 }
 
 // What reading answered.
-fn read(k: CardParts) {
+fn read(rt: &HostRuntime, k: CardParts) -> io::Result<()> {
     let bad = k.bad;
-    print::refusal(k.number, k.at);
-    print::naturals(&[k.a, k.b]);
-    print::signed(k.n);
-    print::signed(k.m);
-    print::naturals(&[k.nul, k.nus, k.nll, k.nls, k.nfl, k.nfc]);
-    print::name(&bad);
-    print::natural(k.tif as u64);
-    print::end_card(k.blanks);
+    print::refusal(rt, k.number, k.at)?;
+    print::naturals(rt, &[k.a, k.b])?;
+    print::signed(rt, k.n)?;
+    print::signed(rt, k.m)?;
+    print::naturals(rt, &[k.nul, k.nus, k.nll, k.nls, k.nfl, k.nfc])?;
+    print::name(rt, &bad)?;
+    print::natural(rt, k.tif as u64)?;
+    print::end_card(rt, k.blanks)
 }
 
-fn extents(series: Series, card: &[u8]) {
+fn extents(rt: &HostRuntime, series: Series, card: &[u8]) -> io::Result<()> {
     let reading = card_text::read_card(series, card);
     let verdict = reading.verdict;
     let k = reading.card;
     let r = verdict.refusal();
     let e = k.extents();
-    print::answer(r.number, r.at, &[e.nul, e.nus, e.nll, e.nls, e.nfl, e.nfc]);
+    print::answer(
+        rt,
+        r.number,
+        r.at,
+        &[e.nul, e.nus, e.nll, e.nls, e.nfl, e.nfc],
+    )
 }
 
 // What a pixel is refused with, after reading's own refusals.

@@ -3,10 +3,11 @@ use crate::indexes::Stated;
 use crate::look_up::STORE;
 use crate::{lent, list, print, word};
 use arc::Verdict;
+use std::io;
 use tiles::SourceAnswer;
 
 // What is stated beside the card, the lengths of the two stores, the corrected count and the pixel.
-#[derive(Drop)]
+#[derive(Clone, Copy)]
 pub struct Question {
     pub stated: Stated,
     pub store: u64,
@@ -18,6 +19,7 @@ pub struct Question {
 
 // Whether the line is a look-up with corrections, well formed; then it is answered.
 pub fn asked(
+    rt: &HostRuntime,
     name: &[u8],
     line: &[u8],
     at: usize,
@@ -25,19 +27,20 @@ pub fn asked(
     card: &[u8],
     index: &[u32],
     store: &[u8],
-) -> bool {
+) -> io::Result<bool> {
     let length = word::natural(line, at);
     if line.len() <= length.next {
-        return false;
+        return Ok(false);
     }
-    let mut entries = lent::numbers();
-    let filled = list::index(line, length.next, &mut entries);
+    let mut entries = lent::numbers(rt.alloc())?;
+    let entries = entries.as_mut_slice();
+    let filled = list::index(rt.alloc(), line, length.next, entries)?;
     let corrected = word::natural(line, filled.next);
     let second = word::natural(line, corrected.next);
     let row = word::signed(line, second.next);
     let column = word::signed(line, row.next);
     if !word::ended(column.next) {
-        return false;
+        return Ok(false);
     }
     let i = filled.length;
     let x = Question {
@@ -48,36 +51,38 @@ pub fn asked(
         row: row.value,
         column: column.value,
     };
-    stored(name, x, card, index, &entries[..i], store)
+    stored(rt, name, x, card, index, &entries[..i], store)
 }
 
 // The two stores stand one after the other.
 fn stored(
+    rt: &HostRuntime,
     name: &[u8],
     x: Question,
     card: &[u8],
     index: &[u32],
     corrections: &[u32],
     store: &[u8],
-) -> bool {
+) -> io::Result<bool> {
     if (STORE < x.store) | (STORE < x.second) {
-        return false;
+        return Ok(false);
     }
     if (store.len() as u64) < x.store {
-        return false;
+        return Ok(false);
     }
     let n = x.store as usize;
     let base = &store[..n];
     let rest = &store[n..];
     if (rest.len() as u64) < x.second {
-        return false;
+        return Ok(false);
     }
     let m = x.second as usize;
     let second = &rest[..m];
-    answered(name, x, card, index, base, corrections, second)
+    answered(rt, name, x, card, index, base, corrections, second)
 }
 
 fn answered<'a>(
+    rt: &HostRuntime,
     name: &[u8],
     x: Question,
     card: &[u8],
@@ -85,20 +90,20 @@ fn answered<'a>(
     store: &'a [u8],
     corrections: &[u32],
     second: &'a [u8],
-) -> bool {
-    if check::same(name, b"corrected_number") {
-        number(x, card, index, store, corrections, second);
-        return true;
+) -> io::Result<bool> {
+    if word::same(name, b"corrected_number") {
+        number(rt, x, card, index, store, corrections, second)?;
+        return Ok(true);
     }
-    if check::same(name, b"corrected_tile") {
-        tile(x, card, index, store, corrections, second);
-        return true;
+    if word::same(name, b"corrected_tile") {
+        tile(rt, x, card, index, store, corrections, second)?;
+        return Ok(true);
     }
-    if check::same(name, b"corrected_bands") {
-        bands(x, card, index, store, corrections, second);
-        return true;
+    if word::same(name, b"corrected_bands") {
+        bands(rt, x, card, index, store, corrections, second)?;
+        return Ok(true);
     }
-    false
+    Ok(false)
 }
 
 // Reading's refusals, then those of the number.
@@ -131,15 +136,16 @@ fn number_of(
 }
 
 fn number(
+    rt: &HostRuntime,
     x: Question,
     card: &[u8],
     index: &[u32],
     store: &[u8],
     corrections: &[u32],
     second: &[u8],
-) {
+) -> io::Result<()> {
     let r = number_of(x, card, index, store, corrections, second).into_parts();
-    print::answer(r.number, r.at, &[r.source, r.stored]);
+    print::answer(rt, r.number, r.at, &[r.source, r.stored])
 }
 
 // The part of either store; none where reading refuses.
@@ -172,13 +178,14 @@ fn part<'a>(
 }
 
 fn tile<'a>(
+    rt: &HostRuntime,
     x: Question,
     card: &[u8],
     index: &[u32],
     store: &'a [u8],
     corrections: &[u32],
     second: &'a [u8],
-) {
+) -> io::Result<()> {
     let s = x.stated;
     let r = fordcask::fordcask_corrected_tile(
         s.series,
@@ -192,20 +199,21 @@ fn tile<'a>(
         x.row,
         x.column,
     );
-    print::refusal(r.number, r.at);
-    print::naturals(&[r.source, r.stored, r.offset, r.length]);
-    print::ends(part(x, card, index, store, corrections, second));
-    print::end_card(r.blanks);
+    print::refusal(rt, r.number, r.at)?;
+    print::naturals(rt, &[r.source, r.stored, r.offset, r.length])?;
+    print::ends(rt, part(x, card, index, store, corrections, second))?;
+    print::end_card(rt, r.blanks)
 }
 
 fn bands(
+    rt: &HostRuntime,
     x: Question,
     card: &[u8],
     index: &[u32],
     store: &[u8],
     corrections: &[u32],
     second: &[u8],
-) {
+) -> io::Result<()> {
     let s = x.stated;
     let r = fordcask::fordcask_corrected_bands(
         s.series,
@@ -219,7 +227,7 @@ fn bands(
         x.row,
         x.column,
     );
-    print::refusal(r.number, r.at);
-    print::naturals(&[r.red as u64, r.green as u64, r.blue as u64]);
-    print::end_card(r.blanks);
+    print::refusal(rt, r.number, r.at)?;
+    print::naturals(rt, &[r.red as u64, r.green as u64, r.blue as u64])?;
+    print::end_card(rt, r.blanks)
 }

@@ -1,21 +1,30 @@
 // The window with corrections, and setting one of them (02, E1).
 use crate::indexes::Stated;
 use crate::{lent, list, print, word};
+use std::io;
 
 // The window with corrections.
-pub fn window(line: &[u8], at: usize, s: Stated, card: &[u8], index: &[u32]) -> bool {
+pub fn window(
+    rt: &HostRuntime,
+    line: &[u8],
+    at: usize,
+    s: Stated,
+    card: &[u8],
+    index: &[u32],
+) -> io::Result<bool> {
     if line.len() <= at {
-        return false;
+        return Ok(false);
     }
-    let mut entries = lent::numbers();
-    let filled = list::index(line, at, &mut entries);
+    let mut entries = lent::numbers(rt.alloc())?;
+    let entries = entries.as_mut_slice();
+    let filled = list::index(rt.alloc(), line, at, entries)?;
     let corrected = word::natural(line, filled.next);
     let top = word::natural(line, corrected.next);
     let left = word::natural(line, top.next);
     let height = word::natural(line, left.next);
     let width = word::natural(line, height.next);
     if !word::ended(width.next) {
-        return false;
+        return Ok(false);
     }
     let i = filled.length;
     let r = fordcask::fordcask_corrected_window(
@@ -30,18 +39,25 @@ pub fn window(line: &[u8], at: usize, s: Stated, card: &[u8], index: &[u32]) -> 
         height.value,
         width.value,
     );
-    print::refusal(r.number, r.at);
-    print::naturals(&[r.missing, r.tile]);
-    print::end_card(r.blanks);
-    true
+    print::refusal(rt, r.number, r.at)?;
+    print::naturals(rt, &[r.missing, r.tile])?;
+    print::end_card(rt, r.blanks)?;
+    Ok(true)
 }
 
 // One entry set, and what the list then holds.
-pub fn set(line: &[u8], at: usize, s: Stated, card: &[u8], corrections: &mut [u32]) -> bool {
+pub fn set(
+    rt: &HostRuntime,
+    line: &[u8],
+    at: usize,
+    s: Stated,
+    card: &[u8],
+    corrections: &mut [u32],
+) -> io::Result<bool> {
     let tile = word::natural(line, at);
     let number = word::natural(line, tile.next);
     if !word::ended(number.next) {
-        return false;
+        return Ok(false);
     }
     let r = fordcask::fordcask_set_correction(
         s.series,
@@ -51,8 +67,8 @@ pub fn set(line: &[u8], at: usize, s: Stated, card: &[u8], corrections: &mut [u3
         tile.value,
         number.value,
     );
-    print::refusal(r.number, r.at);
-    print::numbers(corrections);
-    print::end_card(r.blanks);
-    true
+    print::refusal(rt, r.number, r.at)?;
+    print::numbers(rt, corrections)?;
+    print::end_card(rt, r.blanks)?;
+    Ok(true)
 }

@@ -1,48 +1,60 @@
 // Questions on lists of pixels or positions of one card (001, 3.4.3, 3.4.4; 02, E8).
 use crate::{buffer, lent, list, print, word};
 use arc::Series;
+use std::io;
 
 // Whether the line is one of these questions, well formed; then it is answered.
-pub fn asked(name: &[u8], line: &[u8], at: usize) -> bool {
-    if check::same(name, b"positions") {
-        return listed(false, true, line, at);
+pub fn asked(rt: &HostRuntime, name: &[u8], line: &[u8], at: usize) -> io::Result<bool> {
+    if word::same(name, b"positions") {
+        return listed(rt, false, true, line, at);
     }
-    if check::same(name, b"pixels") {
-        return listed(false, false, line, at);
+    if word::same(name, b"pixels") {
+        return listed(rt, false, false, line, at);
     }
-    if check::same(name, b"corner_positions") {
-        return listed(true, true, line, at);
+    if word::same(name, b"corner_positions") {
+        return listed(rt, true, true, line, at);
     }
-    if check::same(name, b"corner_pixels") {
-        return listed(true, false, line, at);
+    if word::same(name, b"corner_pixels") {
+        return listed(rt, true, false, line, at);
     }
-    false
+    Ok(false)
 }
 
 // The positions of pixels, or the pixels of positions, and the two lists that are lent.
-fn listed(corner: bool, positions: bool, line: &[u8], at: usize) -> bool {
-    let mut bytes = lent::bytes();
-    let mut given = lent::values();
-    let k = buffer::card(line, at, &mut bytes);
-    let filled = list::list(line, k.next, true, &mut given);
+fn listed(
+    rt: &HostRuntime,
+    corner: bool,
+    positions: bool,
+    line: &[u8],
+    at: usize,
+) -> io::Result<bool> {
+    let mut bytes = lent::bytes(rt.alloc())?;
+    let bytes = bytes.as_mut_slice();
+    let mut given = lent::values(rt.alloc())?;
+    let given = given.as_mut_slice();
+    let k = buffer::card(line, at, bytes);
+    let filled = list::list(line, k.next, true, given);
     let values = word::natural(line, filled.next);
     let numbers = word::natural(line, values.next);
     if !word::ended(numbers.next) {
-        return false;
+        return Ok(false);
     }
     if lent::MOST < values.value {
-        return false;
+        return Ok(false);
     }
     if lent::MOST < numbers.value {
-        return false;
+        return Ok(false);
     }
     let n = k.length;
     let i = filled.length;
     let v = values.value as usize;
     let u = numbers.value as usize;
-    let mut left = lent::values();
-    let mut told = lent::numbers();
+    let mut left = lent::values(rt.alloc())?;
+    let left = left.as_mut_slice();
+    let mut told = lent::numbers(rt.alloc())?;
+    let told = told.as_mut_slice();
     answer(
+        rt,
         corner,
         positions,
         k.series,
@@ -50,11 +62,12 @@ fn listed(corner: bool, positions: bool, line: &[u8], at: usize) -> bool {
         &given[..i],
         &mut left[..v],
         &mut told[..u],
-    );
-    true
+    )?;
+    Ok(true)
 }
 
 fn answer(
+    rt: &HostRuntime,
     corner: bool,
     positions: bool,
     series: Series,
@@ -62,22 +75,22 @@ fn answer(
     given: &[i64],
     values: &mut [i64],
     numbers: &mut [u32],
-) {
+) -> io::Result<()> {
     if corner & positions {
         let r = fordcask::fordcask_corner_positions(series, card, given, values, numbers);
-        print::lists(r.number, r.at, values, numbers, r.blanks);
-        return;
+        print::lists(rt, r.number, r.at, values, numbers, r.blanks)?;
+        return Ok(());
     }
     if corner {
         let r = fordcask::fordcask_corner_pixels(series, card, given, values, numbers);
-        print::lists(r.number, r.at, values, numbers, r.blanks);
-        return;
+        print::lists(rt, r.number, r.at, values, numbers, r.blanks)?;
+        return Ok(());
     }
     if positions {
         let r = fordcask::fordcask_positions(series, card, given, values, numbers);
-        print::lists(r.number, r.at, values, numbers, r.blanks);
-        return;
+        print::lists(rt, r.number, r.at, values, numbers, r.blanks)?;
+        return Ok(());
     }
     let r = fordcask::fordcask_pixels(series, card, given, values, numbers);
-    print::lists(r.number, r.at, values, numbers, r.blanks);
+    print::lists(rt, r.number, r.at, values, numbers, r.blanks)
 }

@@ -2,6 +2,7 @@
 use crate::indexes::Stated;
 use crate::{print, word};
 use arc::Verdict;
+use std::io;
 use tiles::NumberAnswer;
 
 // The longest store that is lent.
@@ -9,6 +10,7 @@ pub const STORE: u64 = 1_048_576;
 
 // Whether the line is one of these questions, well formed; then it is answered.
 pub fn asked(
+    rt: &HostRuntime,
     name: &[u8],
     line: &[u8],
     at: usize,
@@ -16,34 +18,34 @@ pub fn asked(
     card: &[u8],
     index: &[u32],
     store: &[u8],
-) -> bool {
+) -> io::Result<bool> {
     let length = word::natural(line, at);
     let row = word::signed(line, length.next);
     let column = word::signed(line, row.next);
     if !word::ended(column.next) {
-        return false;
+        return Ok(false);
     }
     if STORE < length.value {
-        return false;
+        return Ok(false);
     }
     if (store.len() as u64) < length.value {
-        return false;
+        return Ok(false);
     }
     let n = length.value as usize;
     let lent = &store[..n];
-    if check::same(name, b"stored_number") {
-        stored_number(s, card, index, lent, row.value, column.value);
-        return true;
+    if word::same(name, b"stored_number") {
+        stored_number(rt, s, card, index, lent, row.value, column.value)?;
+        return Ok(true);
     }
-    if check::same(name, b"tile") {
-        tile(s, card, index, lent, row.value, column.value);
-        return true;
+    if word::same(name, b"tile") {
+        tile(rt, s, card, index, lent, row.value, column.value)?;
+        return Ok(true);
     }
-    if check::same(name, b"bands") {
-        bands(s, card, index, lent, row.value, column.value);
-        return true;
+    if word::same(name, b"bands") {
+        bands(rt, s, card, index, lent, row.value, column.value)?;
+        return Ok(true);
     }
-    false
+    Ok(false)
 }
 
 // Reading's refusals, then those of the stored number.
@@ -64,9 +66,17 @@ fn number_of(
     }
 }
 
-fn stored_number(s: Stated, card: &[u8], index: &[u32], store: &[u8], row: i64, column: i64) {
+fn stored_number(
+    rt: &HostRuntime,
+    s: Stated,
+    card: &[u8],
+    index: &[u32],
+    store: &[u8],
+    row: i64,
+    column: i64,
+) -> io::Result<()> {
     let r = number_of(s, card, index, store, row, column).into_parts();
-    print::answer(r.number, r.at, &[r.stored]);
+    print::answer(rt, r.number, r.at, &[r.stored])
 }
 
 // The part of the store; none where reading refuses.
@@ -87,17 +97,33 @@ fn part<'a>(
     }
 }
 
-fn tile(s: Stated, card: &[u8], index: &[u32], store: &[u8], row: i64, column: i64) {
+fn tile(
+    rt: &HostRuntime,
+    s: Stated,
+    card: &[u8],
+    index: &[u32],
+    store: &[u8],
+    row: i64,
+    column: i64,
+) -> io::Result<()> {
     let r = fordcask::fordcask_tile(s.series, card, index, s.count, store, row, column);
-    print::refusal(r.number, r.at);
-    print::naturals(&[r.stored, r.offset, r.length]);
-    print::ends(part(s, card, index, store, row, column));
-    print::end_card(r.blanks);
+    print::refusal(rt, r.number, r.at)?;
+    print::naturals(rt, &[r.stored, r.offset, r.length])?;
+    print::ends(rt, part(s, card, index, store, row, column))?;
+    print::end_card(rt, r.blanks)
 }
 
-fn bands(s: Stated, card: &[u8], index: &[u32], store: &[u8], row: i64, column: i64) {
+fn bands(
+    rt: &HostRuntime,
+    s: Stated,
+    card: &[u8],
+    index: &[u32],
+    store: &[u8],
+    row: i64,
+    column: i64,
+) -> io::Result<()> {
     let r = fordcask::fordcask_bands(s.series, card, index, s.count, store, row, column);
-    print::refusal(r.number, r.at);
-    print::naturals(&[r.red as u64, r.green as u64, r.blue as u64]);
-    print::end_card(r.blanks);
+    print::refusal(rt, r.number, r.at)?;
+    print::naturals(rt, &[r.red as u64, r.green as u64, r.blue as u64])?;
+    print::end_card(rt, r.blanks)
 }

@@ -2,9 +2,13 @@
 // Taken: 1 MiB of input; bytes and lists, lent or read, of up to 65,536, so that the largest index has 65,536 entries; 16,384 words of presence bits;
 // a store of up to 1 MiB.
 // Lent bytes are `*`, lent numbers 7. In the store's k-th tile each red byte is k, each green byte its row, each blue byte 128 + its column.
-ghost use Rattle.std.specs.Prelude.{◌≡◌, ◌≤◌, length};
+#![tactic(auto)]
 
-use libc::STDIN_FILENO;
+ghost use Rattle.std.specs.Prelude.{◌≡◌, ◌≤◌, length, IfOk};
+
+use std::alloc::{AllocError, Global};
+use std::io;
+use std::io::Read;
 
 mod bits;
 mod buffer;
@@ -62,73 +66,72 @@ fn until(s: &[u8], at: usize, stop: u8) -> usize
 }
 
 // Whether the line is a question; then it is answered.
-fn asked(line: &[u8], store: &[u8]) -> bool {
+fn asked(rt: &HostRuntime, line: &[u8], store: &[u8]) -> io::Result<bool> {
     let end = until(line, 0, word::BLANK);
     if line.len() <= end {
-        return false;
+        return Ok(false);
     }
     let name = &line[..end];
     let at = end + 1;
-    if plain::asked(name, line, at) {
-        return true;
+    if plain::asked(rt, name, line, at)? {
+        return Ok(true);
     }
-    if check::same(name, b"write_card") {
-        return record::write_card(line, at);
+    if word::same(name, b"write_card") {
+        return record::write_card(rt, line, at);
     }
-    if cards::asked(name, line, at) {
-        return true;
+    if cards::asked(rt, name, line, at)? {
+        return Ok(true);
     }
-    if listed::asked(name, line, at) {
-        return true;
+    if listed::asked(rt, name, line, at)? {
+        return Ok(true);
     }
-    if indexes::asked(name, line, at, store) {
-        return true;
+    if indexes::asked(rt, name, line, at, store)? {
+        return Ok(true);
     }
-    by_bits::asked(name, line, at, store)
+    by_bits::asked(rt, name, line, at, store)
 }
 
-fn answer(line: &[u8], store: &[u8]) {
+fn answer(rt: &HostRuntime, line: &[u8], store: &[u8]) -> io::Result<()> {
     if line.len() == 0 {
-        print::end_line();
-        return;
+        return print::end_line(rt);
     }
     if line[0] == 35 {
-        print::text(line);
-        print::end_line();
-        return;
+        print::text(rt, line)?;
+        return print::end_line(rt);
     }
-    if !asked(line, store) {
-        print::text(b"bad line\n");
+    if !asked(rt, line, store)? {
+        print::text(rt, b"bad line\n")?;
     }
+    Ok(())
 }
 
-fn answer_lines(input: &[u8], store: &[u8]) {
+fn answer_lines(rt: &HostRuntime, input: &[u8], store: &[u8]) -> io::Result<()> {
     let mut at = 0;
     while at < input.len() {
         let end = until(input, at, 10);
-        answer(&input[at..end], store);
+        answer(rt, &input[at..end], store)?;
         if input.len() <= end {
-            return;
+            return Ok(());
         }
         at = end + 1;
     }
+    Ok(())
 }
 
 // 1 MiB and a byte, as long as they are.
-fn sized(bytes: [u8; 1_048_577]) -> [u8; 1_048_577]
-    ensures { 1048577 ≡ length result }
+fn sized(alloc: Global) -> Result<Vec<u8>, AllocError>
+    ensures { IfOk result (λ bytes. 1048577 ≡ length bytes.items) }
 {
-    bytes
+    Vec::from_elem(alloc, 0u8, 1_048_577)
 }
 
-fn main() {
-    let mut input = sized([0; 1_048_577]);
-    let n = io::read_full(STDIN_FILENO, &mut input);
-    if 1_048_576 < n {
-        print::text(b"input too long\n");
-        return;
+fn main(rt: HostRuntime) -> io::Result<()> {
+    let mut input = Vec::new(rt.alloc());
+    rt.reader().take(1_048_577).read_to_end(&mut input)?;
+    if 1_048_576 < input.len() {
+        return print::text(&rt, b"input too long\n");
     }
-    let mut store = sized([0; 1_048_577]);
-    fill(&mut store);
-    answer_lines(&input[..n], &store);
+    let mut store = sized(rt.alloc())?;
+    fill(store.as_mut_slice());
+    answer_lines(&rt, input.as_slice(), store.as_slice())
 }

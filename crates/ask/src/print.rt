@@ -1,187 +1,202 @@
 // The words of an answer on standard output, a blank before each but the first.
-use libc::STDOUT_FILENO;
+use std::io;
+use std::io::Write;
 
-pub fn text(words: &[u8]) {
-    io::write_all(STDOUT_FILENO, words);
+pub fn text(rt: &HostRuntime, words: &[u8]) -> io::Result<()> {
+    io::writer(rt).write_all(words)
 }
 
-pub fn end_line() {
-    text(b"\n");
+pub fn end_line(rt: &HostRuntime) -> io::Result<()> {
+    text(rt, b"\n")
 }
 
-fn size(n: u64) {
-    io::print_decimal(STDOUT_FILENO, n);
+fn size(rt: &HostRuntime, n: u64) -> io::Result<()> {
+    print!(rt; "{n}")
 }
 
-fn whole_number(z: i64) {
+fn whole_number(rt: &HostRuntime, z: i64) -> io::Result<()> {
     if z < 0 {
-        text(b"-");
+        text(rt, b"-")?;
     }
-    size(whole::size(z));
+    size(rt, whole::size(z))
 }
 
-pub fn natural(n: u64) {
-    text(b" ");
-    size(n);
+pub fn natural(rt: &HostRuntime, n: u64) -> io::Result<()> {
+    text(rt, b" ")?;
+    size(rt, n)
 }
 
-pub fn signed(z: i64) {
-    text(b" ");
-    whole_number(z);
+pub fn signed(rt: &HostRuntime, z: i64) -> io::Result<()> {
+    text(rt, b" ")?;
+    whole_number(rt, z)
 }
 
 // Number and place (01, "Numbers given in refusal").
-pub fn refusal(number: u32, at: u64) {
-    size(number as u64);
-    natural(at);
+pub fn refusal(rt: &HostRuntime, number: u32, at: u64) -> io::Result<()> {
+    size(rt, number as u64)?;
+    natural(rt, at)
 }
 
 // Numbers without sign.
-pub fn naturals(s: &[u64]) {
+pub fn naturals(rt: &HostRuntime, s: &[u64]) -> io::Result<()> {
     for i in 0..s.len() {
-        natural(s[i]);
+        natural(rt, s[i])?;
     }
+    Ok(())
 }
 
 // A line of number, place and values without sign.
-pub fn answer(number: u32, at: u64, values: &[u64]) {
-    refusal(number, at);
-    naturals(values);
-    end_line();
+pub fn answer(rt: &HostRuntime, number: u32, at: u64, values: &[u64]) -> io::Result<()> {
+    refusal(rt, number, at)?;
+    naturals(rt, values)?;
+    end_line(rt)
 }
 
 // The end of a line on a card: the total of its blanks, where there are any (02, E2).
-pub fn end_card(blanks: u64) {
+pub fn end_card(rt: &HostRuntime, blanks: u64) -> io::Result<()> {
     if blanks != 0 {
-        text(b" blanks");
-        natural(blanks);
+        text(rt, b" blanks")?;
+        natural(rt, blanks)?;
     }
-    end_line();
+    end_line(rt)
 }
 
 // The totals of blanks of two cards.
-pub fn totals(blanks: u64, overview: u64) {
-    text(b" blanks");
-    natural(blanks);
-    natural(overview);
+pub fn totals(rt: &HostRuntime, blanks: u64, overview: u64) -> io::Result<()> {
+    text(rt, b" blanks")?;
+    natural(rt, blanks)?;
+    natural(rt, overview)
 }
 
 // A line of number, place and two signed values, on a card.
-pub fn pair(number: u32, at: u64, x: i64, y: i64, blanks: u64) {
-    refusal(number, at);
-    signed(x);
-    signed(y);
-    end_card(blanks);
+pub fn pair(rt: &HostRuntime, number: u32, at: u64, x: i64, y: i64, blanks: u64) -> io::Result<()> {
+    refusal(rt, number, at)?;
+    signed(rt, x)?;
+    signed(rt, y)?;
+    end_card(rt, blanks)
 }
 
 // A byte as a line has it.
-fn byte(b: u8) {
+fn byte(rt: &HostRuntime, b: u8) -> io::Result<()> {
     if (33 <= b) & (b <= 126) & (b != 92) {
         let one = [b];
-        text(&one);
+        text(rt, &one)?;
     } else {
-        text(b"\\x");
-        io::print_hex(STDOUT_FILENO, b as u64, 2);
+        text(rt, b"\\x")?;
+        print!(rt; "{b:02x}")?;
     }
+    Ok(())
 }
 
-pub fn bytes(s: &[u8]) {
-    text(b" ");
+pub fn bytes(rt: &HostRuntime, s: &[u8]) -> io::Result<()> {
+    text(rt, b" ")?;
     for i in 0..s.len() {
-        byte(s[i]);
+        byte(rt, s[i])?;
     }
+    Ok(())
 }
 
 // BAD.
-pub fn name(s: &[u8; 12]) {
-    bytes(s);
+pub fn name(rt: &HostRuntime, s: &[u8; 12]) -> io::Result<()> {
+    bytes(rt, s)
 }
 
 // A comma before each number of a list but the first.
-fn comma(i: usize) {
+fn comma(rt: &HostRuntime, i: usize) -> io::Result<()> {
     if i != 0 {
-        text(b",");
+        text(rt, b",")?;
     }
+    Ok(())
 }
 
 // A line of number, place and a list of zones, the unused slots too.
-pub fn zones(number: u32, at: u64, count: u64, s: &[u64]) {
-    refusal(number, at);
-    natural(count);
-    words(s);
-    end_line();
+pub fn zones(rt: &HostRuntime, number: u32, at: u64, count: u64, s: &[u64]) -> io::Result<()> {
+    refusal(rt, number, at)?;
+    natural(rt, count)?;
+    words(rt, s)?;
+    end_line(rt)
 }
 
 // A list of numbers without sign.
-pub fn words(s: &[u64]) {
-    text(b" [");
+pub fn words(rt: &HostRuntime, s: &[u64]) -> io::Result<()> {
+    text(rt, b" [")?;
     for i in 0..s.len() {
-        comma(i);
-        size(s[i]);
+        comma(rt, i)?;
+        size(rt, s[i])?;
     }
-    text(b"]");
+    text(rt, b"]")
 }
 
 // A lent list of values.
-fn values(s: &[i64]) {
-    text(b" [");
+fn values(rt: &HostRuntime, s: &[i64]) -> io::Result<()> {
+    text(rt, b" [")?;
     for i in 0..s.len() {
-        comma(i);
-        whole_number(s[i]);
+        comma(rt, i)?;
+        whole_number(rt, s[i])?;
     }
-    text(b"]");
+    text(rt, b"]")
 }
 
-fn number(n: u32) {
-    size(n as u64);
+fn number(rt: &HostRuntime, n: u32) -> io::Result<()> {
+    size(rt, n as u64)
 }
 
 // A lent list of refusals' numbers, or of entries.
-pub fn numbers(s: &[u32]) {
-    text(b" [");
+pub fn numbers(rt: &HostRuntime, s: &[u32]) -> io::Result<()> {
+    text(rt, b" [")?;
     for i in 0..s.len() {
-        comma(i);
-        number(s[i]);
+        comma(rt, i)?;
+        number(rt, s[i])?;
     }
-    text(b"]");
+    text(rt, b"]")
 }
 
-fn band(b: u8) {
-    size(b as u64);
+fn band(rt: &HostRuntime, b: u8) -> io::Result<()> {
+    size(rt, b as u64)
 }
 
 // A line of number, place and the two lists that were lent, on a card.
-pub fn lists(number: u32, at: u64, s: &[i64], told: &[u32], blanks: u64) {
-    refusal(number, at);
-    values(s);
-    numbers(told);
-    end_card(blanks);
+pub fn lists(
+    rt: &HostRuntime,
+    number: u32,
+    at: u64,
+    s: &[i64],
+    told: &[u32],
+    blanks: u64,
+) -> io::Result<()> {
+    refusal(rt, number, at)?;
+    values(rt, s)?;
+    numbers(rt, told)?;
+    end_card(rt, blanks)
 }
 
 // The first and the last byte of a part.
-pub fn ends(part: &[u8]) {
-    text(b" [");
+pub fn ends(rt: &HostRuntime, part: &[u8]) -> io::Result<()> {
+    text(rt, b" [")?;
     if part.len() != 0 {
-        band(part[0]);
-        text(b",");
-        band(part[part.len() - 1]);
+        band(rt, part[0])?;
+        text(rt, b",")?;
+        band(rt, part[part.len() - 1])?;
     }
-    text(b"]");
+    text(rt, b"]")
 }
 
 // A double that holds a whole number, as an offset's does.
-pub fn double(x: f64) {
+pub fn double(rt: &HostRuntime, x: f64) -> io::Result<()> {
     if x >= -9223372036854775808.0 {
         if x < 9223372036854775808.0 {
-            signed(std::num::truncating_f64_to_i64(x));
+            signed(rt, std::num::truncating_f64_to_i64(x))?;
         }
     }
+    Ok(())
 }
 
 // A double's bits, which show that it has no fraction and is no minus zero.
-pub fn bits(x: f64) {
+pub fn bits(rt: &HostRuntime, x: f64) -> io::Result<()> {
     if x < 9223372036854775808.0 {
-        text(b" ");
-        io::print_hex(STDOUT_FILENO, f64::to_bits(x), 16);
+        text(rt, b" ")?;
+        let bits = x.to_bits();
+        print!(rt; "{bits:016x}")?;
     }
+    Ok(())
 }

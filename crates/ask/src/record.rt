@@ -2,9 +2,10 @@
 use crate::{buffer, lent, print, series, word};
 use arc::Series;
 use fordcask::RecordParts;
+use std::io;
 
 // Scale, factor, zone and a record, and where the next word starts.
-#[derive(Drop)]
+#[derive(Clone, Copy)]
 struct RecordWords {
     series: Series,
     record: RecordParts,
@@ -12,7 +13,7 @@ struct RecordWords {
 }
 
 // BAD, and where the next word starts.
-#[derive(Drop)]
+#[derive(Clone, Copy)]
 struct NameWord {
     value: [u8; 12],
     next: usize,
@@ -64,26 +65,27 @@ fn record(line: &[u8], at: usize) -> RecordWords {
 }
 
 // An output that is lent, and what it then holds.
-fn written(r: RecordWords, out: &mut [u8]) {
+fn written(rt: &HostRuntime, r: RecordWords, out: &mut [u8]) -> io::Result<()> {
     let parts = r.record;
     let series = r.series;
     let e = fordcask::fordcask_write_card(series, parts, out);
-    print::refusal(e.number, e.at);
-    print::bytes(out);
-    print::end_line();
+    print::refusal(rt, e.number, e.at)?;
+    print::bytes(rt, out)?;
+    print::end_line(rt)
 }
 
-pub fn write_card(line: &[u8], at: usize) -> bool {
+pub fn write_card(rt: &HostRuntime, line: &[u8], at: usize) -> io::Result<bool> {
     let r = record(line, at);
     let length = word::natural(line, r.next);
     if !word::ended(length.next) {
-        return false;
+        return Ok(false);
     }
     if lent::MOST < length.value {
-        return false;
+        return Ok(false);
     }
     let n = length.value as usize;
-    let mut out = lent::bytes();
-    written(r, &mut out[..n]);
-    true
+    let mut out = lent::bytes(rt.alloc())?;
+    let out = out.as_mut_slice();
+    written(rt, r, &mut out[..n])?;
+    Ok(true)
 }

@@ -3,7 +3,7 @@ use crate::word;
 use arc::Series;
 
 // The three numbers, and where the next word starts.
-#[derive(Drop)]
+#[derive(Clone, Copy)]
 pub struct SeriesWords {
     pub series: Series,
     pub next: usize,

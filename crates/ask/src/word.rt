@@ -1,5 +1,5 @@
 // The words of a line, one space between two. What is no word of its kind answers BAD as the place of the next.
-ghost use Rattle.std.specs.Prelude.{◌≤◌};
+ghost use Rattle.std.specs.Prelude.{◌≡◌, ◌≤◌, ◌↔◌, IsTrue};
 
 // There is no further word.
 const END: usize = 18_446_744_073_709_551_615;
@@ -8,27 +8,34 @@ pub const BAD: usize = 18_446_744_073_709_551_614;
 
 pub const BLANK: u8 = 32;
 
+// Whether a name is this word.
+pub fn same(name: &[u8], word: &[u8]) -> bool
+    ensures { IsTrue result ↔ name.now ≡ word.now }
+{
+    name == word
+}
+
 // A number, and where the next word starts.
-#[derive(Drop)]
+#[derive(Clone, Copy)]
 pub struct NaturalWord {
     pub value: u64,
     pub next: usize,
 }
 
-#[derive(Drop)]
+#[derive(Clone, Copy)]
 pub struct ByteWord {
     pub value: u8,
     pub next: usize,
 }
 
-#[derive(Drop)]
+#[derive(Clone, Copy)]
 pub struct SignedWord {
     pub value: i64,
     pub next: usize,
 }
 
 // Decimal digits, a minus before them or none; `end` is past them, or where they should start.
-#[derive(Drop)]
+#[derive(Clone, Copy)]
 pub struct Number {
     pub minus: bool,
     pub size: u64,

@@ -1,4 +1,6 @@
 // The card value, and the questions put to it (001, 3.4.3 to 3.4.5; 002, 3.17.1).
+#![tactic(auto)]
+
 ghost use Rattle.std.specs.Prelude.{◌≡◌};
 ghost use Rattle.card.specs.Read.{no_card};
 
@@ -15,7 +17,7 @@ pub use parts::{OffsetParts, PixelParts, PlaceParts, PositionParts};
 pub use range::{Ranged, RangedParts, count_position};
 
 // The value of an accepted card. "Card" and "chart" are document 01's words; "overview" is 02's (E4).
-#[derive(Drop)]
+#[derive(Clone, Copy)]
 pub struct Card {
     pub series: Series,
     pub a: u64,
@@ -63,14 +65,14 @@ pub fn no_card() -> Card
 }
 
 // What may stand before the digits of a number: zeros alone, as in 01, or blanks too (02, E2).
-#[derive(Drop)]
+#[derive(Clone, Copy)]
 pub enum Fill {
     Zeros,
     Blanks,
 }
 
 // What reading answers: the verdict, the card, and the total of blanks met; card and total are all 0 in a refusal.
-#[derive(Drop)]
+#[derive(Clone, Copy)]
 pub struct Reading {
     pub verdict: Verdict,
     pub card: Card,
@@ -78,7 +80,7 @@ pub struct Reading {
 }
 
 // What is written on a card.
-#[derive(Drop)]
+#[derive(Clone, Copy)]
 pub struct Record {
     pub n: i64,
     pub m: i64,
@@ -93,7 +95,7 @@ pub struct Record {
 }
 
 // The chart's edges, top, right, bottom and left, and the tiles down and across.
-#[derive(Drop)]
+#[derive(Clone, Copy)]
 pub struct Extents {
     pub nul: u64,
     pub nus: u64,
@@ -104,39 +106,39 @@ pub struct Extents {
 }
 
 // The two pairs of questions (02, E8): a pixel's corner and the pixel whose corner is nearest, or its centre and the pixel that contains a position.
-#[derive(Drop)]
+#[derive(Clone, Copy)]
 pub enum Pair {
     Corner,
     Centre,
 }
 
 // A place of the zone grid.
-#[derive(Drop)]
+#[derive(Clone, Copy)]
 pub enum PlaceAnswer {
     At { row: i64, column: i64 },
     Refused(Refusal),
 }
 
-#[derive(Drop)]
+#[derive(Clone, Copy)]
 pub enum PositionAnswer {
     At { lat: i64, lon: i64 },
     Refused(Refusal),
 }
 
-#[derive(Drop)]
+#[derive(Clone, Copy)]
 pub enum PixelAnswer {
     At { row: i64, column: i64 },
     Refused(Refusal),
 }
 
 // An offset from a centre, in whole hundredths of an arc-second.
-#[derive(Drop)]
+#[derive(Clone, Copy)]
 pub struct Offset {
     pub lat: f64,
     pub lon: f64,
 }
 
-#[derive(Drop)]
+#[derive(Clone, Copy)]
 pub enum OffsetAnswer {
     At(Offset),
     Refused(Refusal),

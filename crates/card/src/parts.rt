@@ -7,7 +7,7 @@ use crate::{OffsetAnswer, PixelAnswer, PlaceAnswer, PositionAnswer};
 
 // Number, the refusal's place, and the place of the zone grid.
 #[repr(C)]
-#[derive(Drop)]
+#[derive(Clone, Copy)]
 pub struct PlaceParts {
     pub number: u32,
     pub at: u64,
@@ -17,7 +17,7 @@ pub struct PlaceParts {
 
 // Number, place, latitude and longitude.
 #[repr(C)]
-#[derive(Drop)]
+#[derive(Clone, Copy)]
 pub struct PositionParts {
     pub number: u32,
     pub at: u64,
@@ -27,7 +27,7 @@ pub struct PositionParts {
 
 // Number, place, row and column.
 #[repr(C)]
-#[derive(Drop)]
+#[derive(Clone, Copy)]
 pub struct PixelParts {
     pub number: u32,
     pub at: u64,
@@ -37,7 +37,7 @@ pub struct PixelParts {
 
 // Number, place and the offset.
 #[repr(C)]
-#[derive(Drop)]
+#[derive(Clone, Copy)]
 pub struct OffsetParts {
     pub number: u32,
     pub at: u64,

@@ -6,14 +6,14 @@ use arc::{Circle, Refusal};
 use whole::Counted;
 
 // A position counted from the South Pole and from 180° west.
-#[derive(Drop)]
+#[derive(Clone, Copy)]
 pub enum Ranged {
     At { north: u64, east: u64 },
     Refused(Refusal),
 }
 
 // Number, place, and the two counts.
-#[derive(Drop)]
+#[derive(Clone, Copy)]
 pub struct RangedParts {
     pub number: u32,
     pub at: u64,

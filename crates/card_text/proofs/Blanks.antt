@@ -46,6 +46,7 @@ lead-next s i h e =
 -- ---- what is left
 
 pub lead-below : (s : List ℕ) → 0 < length s → lead s < length s
+lead-below [] h = elim h [ ]
 lead-below (b ∷ []) h = omega arith
 lead-below (b ∷ c ∷ bs) h = go (eqb b 32) (lead-below (c ∷ bs) (omega arith))
   where
@@ -61,6 +62,7 @@ ltb-suc m n = go (ltb m n) refl
     go false e = le-ltb (suc m) (suc n) (omega (arith, ltb-false m n e))
 
 lead-laid : (s : List ℕ) → 0 < length s → all is_digit (drop (lead s) s) ≡ filled s
+lead-laid [] h = elim h [ ]
 lead-laid (b ∷ []) h = sym (one-digit (b ∷ []) refl)
 lead-laid (b ∷ c ∷ bs) h = go (eqb b 32) refl (lead-laid (c ∷ bs) (omega arith))
   where
@@ -81,6 +83,7 @@ lead-number (b ∷ c ∷ bs) = go (eqb b 32) refl (lead-number (c ∷ bs))
 
 -- all blank has one more than is passed over, and is no number
 lead-counted : (s : List ℕ) → 0 < length s → filled s ≡ true → lead s ≡ blanks s
+lead-counted [] h e = elim h [ ]
 lead-counted (b ∷ []) h e = sym (digits-none (b ∷ []) (sym (one-digit (b ∷ []) refl) ∙ e))
 lead-counted (b ∷ c ∷ bs) h e = go (eqb b 32) refl e (lead-counted (c ∷ bs) (omega arith))
   where

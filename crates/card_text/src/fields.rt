@@ -14,14 +14,14 @@ use text::Digits;
 const ANY: u64 = 99_999_999;
 
 // A subfield: its value, and the first refusal up to it.
-#[derive(Drop)]
+#[derive(Clone, Copy)]
 pub struct Field {
     pub value: u64,
     pub verdict: Verdict,
 }
 
 // Every value, and the first refusal.
-#[derive(Drop)]
+#[derive(Clone, Copy)]
 pub struct Fields {
     pub values: [u64; 20],
     pub verdict: Verdict,

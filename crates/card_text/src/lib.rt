@@ -1,4 +1,6 @@
 // Reads and writes the 98 bytes of the image card (002, 3.17.1; 01, "The image card, 98 bytes").
+#![tactic(auto)]
+
 ghost use Rattle.std.specs.Prelude.{◌≡◌};
 ghost use Rattle.arc.specs.declared.SpacingAnswer.{SpacingAnswer};
 ghost use Rattle.arc.specs.Spacing.{Grid};

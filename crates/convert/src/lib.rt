@@ -1,4 +1,6 @@
 // Converting the tile index between a list and presence bits (02, E7).
+#![tactic(auto)]
+
 ghost use Rattle.std.specs.Prelude.{◌≡◌, cond, ◌*◌, ◌≤◌, eqb, length, get_or};
 ghost use Rattle.whole.specs.Lists.{each};
 ghost use Rattle.presence.specs.Presence.{numbers_to};

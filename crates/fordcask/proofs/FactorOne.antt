@@ -1,5 +1,5 @@
 -- S × 1 is S, and every question reads its scale from there. Assumes nothing.
-use Rattle.arc.proofs.Scales.{scale-at-one}
+use Rattle.arc.proofs.ScaleLaws.{scale-at-one}
 use Rattle.card.specs.Write.{write_of, out_of}
 use Rattle.fordcask.specs.FactorOne.{FactorOne}
 

@@ -18,8 +18,7 @@ use arc::{Series, Verdict};
 use tiles::{BandsAnswer, NumberAnswer, WindowAnswer};
 
 // Writes the presence bits of an index in reading order. Refuses reading's numbers, then 6, 20; in a refusal the words stay.
-#[unsafe(no_mangle)]
-pub extern "C" fn fordcask_to_bits(
+pub fn fordcask_to_bits(
     series: Series,
     card: &[u8],
     index: &[u32],
@@ -43,8 +42,7 @@ pub extern "C" fn fordcask_to_bits(
 }
 
 // Writes the index of presence bits. Refuses reading's numbers, then 6, 21; in a refusal the index stays.
-#[unsafe(no_mangle)]
-pub extern "C" fn fordcask_to_list(
+pub fn fordcask_to_list(
     series: Series,
     card: &[u8],
     words: &[u64],
@@ -68,8 +66,7 @@ pub extern "C" fn fordcask_to_list(
 }
 
 // The stored number of a pixel's tile, by presence bits, and where its bytes stand in the store. Refuses reading's numbers, then 6, 21, 12, 13, 14, 15.
-#[unsafe(no_mangle)]
-pub extern "C" fn fordcask_bits_tile(
+pub fn fordcask_bits_tile(
     series: Series,
     card: &[u8],
     words: &[u64],
@@ -94,8 +91,7 @@ pub extern "C" fn fordcask_bits_tile(
 }
 
 // The band values of a pixel, by presence bits. Refuses reading's numbers, then 6, 21, 12, 13, 14, 15.
-#[unsafe(no_mangle)]
-pub extern "C" fn fordcask_bits_bands(
+pub fn fordcask_bits_bands(
     series: Series,
     card: &[u8],
     words: &[u64],
@@ -123,8 +119,7 @@ pub extern "C" fn fordcask_bits_bands(
 }
 
 // The first tile of a window, in reading order, that is not stored, by presence bits. Refuses reading's numbers, then 6, 21, 12, 15.
-#[unsafe(no_mangle)]
-pub extern "C" fn fordcask_bits_window(
+pub fn fordcask_bits_window(
     series: Series,
     card: &[u8],
     words: &[u64],

@@ -43,8 +43,7 @@ fn list_on_card(
 }
 
 // The positions of the centres of a list of pixels, the card read once (02, E8). Refuses reading's numbers, then 6; on a refusal both lists stay.
-#[unsafe(no_mangle)]
-pub extern "C" fn fordcask_positions(
+pub fn fordcask_positions(
     series: Series,
     card: &[u8],
     pixels: &[i64],
@@ -70,8 +69,7 @@ pub extern "C" fn fordcask_positions(
 }
 
 // The positions of the corners, likewise.
-#[unsafe(no_mangle)]
-pub extern "C" fn fordcask_corner_positions(
+pub fn fordcask_corner_positions(
     series: Series,
     card: &[u8],
     pixels: &[i64],
@@ -97,8 +95,7 @@ pub extern "C" fn fordcask_corner_positions(
 }
 
 // The pixels that contain a list of positions, likewise.
-#[unsafe(no_mangle)]
-pub extern "C" fn fordcask_pixels(
+pub fn fordcask_pixels(
     series: Series,
     card: &[u8],
     positions: &[i64],
@@ -124,8 +121,7 @@ pub extern "C" fn fordcask_pixels(
 }
 
 // The pixels whose corners are nearest, likewise.
-#[unsafe(no_mangle)]
-pub extern "C" fn fordcask_corner_pixels(
+pub fn fordcask_corner_pixels(
     series: Series,
     card: &[u8],
     positions: &[i64],

@@ -20,24 +20,21 @@ use arc::{Refusal, Series, Verdict};
 use card::{Card, Pair, PixelAnswer, PlaceAnswer, PositionAnswer, Record};
 
 // Reads a card, in which blanks may stand before a number's digits (02, E2). Refuses 1, 17, 1, 2, 3, 6, the subfields' 7 and 8, 9, 10, 11.
-#[unsafe(no_mangle)]
-pub extern "C" fn fordcask_read_card(series: Series, card: &[u8]) -> CardParts
+pub fn fordcask_read_card(series: Series, card: &[u8]) -> CardParts
     ensures { result ≡ card_parts (read_of series card.now) }
 {
     on_card::card_parts(card_text::read_card(series, card))
 }
 
 // Reads a card as 01 has it: no blank may stand before a number's digits. Refuses as `fordcask_read_card`.
-#[unsafe(no_mangle)]
-pub extern "C" fn fordcask_read_strict(series: Series, card: &[u8]) -> CardParts
+pub fn fordcask_read_strict(series: Series, card: &[u8]) -> CardParts
     ensures { result ≡ card_parts (read_strict series card.now) }
 {
     on_card::card_parts(card_text::read_strict(series, card))
 }
 
 // Writes a card. Refuses 1, 24, 17, 1, 2, 3, 6, NFL, NFC (8), BAD (7), 10, 11; on a refusal the output stays.
-#[unsafe(no_mangle)]
-pub extern "C" fn fordcask_write_card(series: Series, r: RecordParts, out: &mut [u8]) -> Refusal
+pub fn fordcask_write_card(series: Series, r: RecordParts, out: &mut [u8]) -> Refusal
     ensures answer { result ≡ refusal_of (write_of series (record_from r) out.old) }
     ensures left { out.new ≡ out_of series (record_from r) out.old }
 {
@@ -58,8 +55,7 @@ pub extern "C" fn fordcask_write_card(series: Series, r: RecordParts, out: &mut 
 }
 
 // The place of a pixel. Refuses reading's numbers, then 12.
-#[unsafe(no_mangle)]
-pub extern "C" fn fordcask_place(series: Series, card: &[u8], row: i64, column: i64) -> PlaceOnCard
+pub fn fordcask_place(series: Series, card: &[u8], row: i64, column: i64) -> PlaceOnCard
     ensures { place_block result
         ≡ told_on_card place_report (read_of series card.now) PlaceAnswer.Refused (λ k. place_of k row column) }
 {
@@ -76,13 +72,7 @@ pub extern "C" fn fordcask_place(series: Series, card: &[u8], row: i64, column: 
 }
 
 // The position of a pixel's centre (02, E8). Refuses reading's numbers, then 12, 13.
-#[unsafe(no_mangle)]
-pub extern "C" fn fordcask_position(
-    series: Series,
-    card: &[u8],
-    row: i64,
-    column: i64,
-) -> PositionOnCard
+pub fn fordcask_position(series: Series, card: &[u8], row: i64, column: i64) -> PositionOnCard
     ensures { position_block result
         ≡ told_on_card position_report (read_of series card.now) PositionAnswer.Refused (λ k. position_of Pair.Centre k row column) }
 {
@@ -102,8 +92,7 @@ pub extern "C" fn fordcask_position(
 }
 
 // The position of a pixel's corner (02, E8). Refuses reading's numbers, then 12, 13.
-#[unsafe(no_mangle)]
-pub extern "C" fn fordcask_corner_position(
+pub fn fordcask_corner_position(
     series: Series,
     card: &[u8],
     row: i64,
@@ -128,8 +117,7 @@ pub extern "C" fn fordcask_corner_position(
 }
 
 // The pixel that contains a position (02, E8). Refuses reading's numbers, then 4, 5, 12, 13.
-#[unsafe(no_mangle)]
-pub extern "C" fn fordcask_pixel(series: Series, card: &[u8], lat: i64, lon: i64) -> PixelOnCard
+pub fn fordcask_pixel(series: Series, card: &[u8], lat: i64, lon: i64) -> PixelOnCard
     ensures { pixel_block result
         ≡ told_on_card pixel_report (read_of series card.now) PixelAnswer.Refused (λ k. pixel_of Pair.Centre k lat lon) }
 {
@@ -146,13 +134,7 @@ pub extern "C" fn fordcask_pixel(series: Series, card: &[u8], lat: i64, lon: i64
 }
 
 // The pixel whose corner is nearest to a position (02, E8). Refuses reading's numbers, then 4, 5, 12, 13.
-#[unsafe(no_mangle)]
-pub extern "C" fn fordcask_corner_pixel(
-    series: Series,
-    card: &[u8],
-    lat: i64,
-    lon: i64,
-) -> PixelOnCard
+pub fn fordcask_corner_pixel(series: Series, card: &[u8], lat: i64, lon: i64) -> PixelOnCard
     ensures { pixel_block result
         ≡ told_on_card pixel_report (read_of series card.now) PixelAnswer.Refused (λ k. pixel_of Pair.Corner k lat lon) }
 {
@@ -204,8 +186,7 @@ fn pixel_over(
 }
 
 // The overview pixel of a chart's pixel, in the corner pair (02, E4, E8). Refuses reading's numbers, then 12, 13, of the chart first each time.
-#[unsafe(no_mangle)]
-pub extern "C" fn fordcask_overview_pixel(
+pub fn fordcask_overview_pixel(
     series: Series,
     card: &[u8],
     overview_series: Series,

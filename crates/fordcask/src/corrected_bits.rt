@@ -15,8 +15,7 @@ use arc::{Series, Verdict};
 use tiles::{BandsAnswer, SourceAnswer, WindowAnswer};
 
 // The store that holds a pixel's tile, its number there and its bytes. Refuses reading's numbers, then 6, 6, 21, 12, 13, 15 of a correction, 14, 15.
-#[unsafe(no_mangle)]
-pub extern "C" fn fordcask_corrected_bits_tile(
+pub fn fordcask_corrected_bits_tile(
     series: Series,
     card: &[u8],
     words: &[u64],
@@ -54,8 +53,7 @@ pub extern "C" fn fordcask_corrected_bits_tile(
 }
 
 // The band values of a pixel, corrected first. Refuses reading's numbers, then 6, 6, 21, 12, 13, 15 of a correction, 14, 15.
-#[unsafe(no_mangle)]
-pub extern "C" fn fordcask_corrected_bits_bands(
+pub fn fordcask_corrected_bits_bands(
     series: Series,
     card: &[u8],
     words: &[u64],
@@ -97,8 +95,7 @@ pub extern "C" fn fordcask_corrected_bits_bands(
 }
 
 // The first tile of a window, in reading order, that is neither corrected nor stored. Refuses reading's numbers, then 6, 6, 21, 12, 15.
-#[unsafe(no_mangle)]
-pub extern "C" fn fordcask_corrected_bits_window(
+pub fn fordcask_corrected_bits_window(
     series: Series,
     card: &[u8],
     words: &[u64],

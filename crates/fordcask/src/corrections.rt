@@ -17,8 +17,7 @@ use arc::{Series, Verdict};
 use tiles::{BandsAnswer, SourceAnswer, WindowAnswer};
 
 // The store that holds a pixel's tile, its number there and its bytes. Refuses reading's numbers, then 6, 6, 12, 13, 15 of a correction, 14, 15.
-#[unsafe(no_mangle)]
-pub extern "C" fn fordcask_corrected_tile(
+pub fn fordcask_corrected_tile(
     series: Series,
     card: &[u8],
     index: &[u32],
@@ -56,8 +55,7 @@ pub extern "C" fn fordcask_corrected_tile(
 }
 
 // The band values of a pixel, corrected first. Refuses reading's numbers, then 6, 6, 12, 13, 15 of a correction, 14, 15.
-#[unsafe(no_mangle)]
-pub extern "C" fn fordcask_corrected_bands(
+pub fn fordcask_corrected_bands(
     series: Series,
     card: &[u8],
     index: &[u32],
@@ -99,8 +97,7 @@ pub extern "C" fn fordcask_corrected_bands(
 }
 
 // The first tile of a window, in reading order, that is neither corrected nor stored. Refuses reading's numbers, then 6, 6, 12, 15.
-#[unsafe(no_mangle)]
-pub extern "C" fn fordcask_corrected_window(
+pub fn fordcask_corrected_window(
     series: Series,
     card: &[u8],
     index: &[u32],
@@ -142,8 +139,7 @@ pub extern "C" fn fordcask_corrected_window(
 }
 
 // Sets a tile's entry in the corrections, 0 to take one back. Refuses reading's numbers, then 6, 12, 15; then the list stays.
-#[unsafe(no_mangle)]
-pub extern "C" fn fordcask_set_correction(
+pub fn fordcask_set_correction(
     series: Series,
     card: &[u8],
     corrections: &mut [u32],

@@ -17,8 +17,7 @@ use arc::{Series, Verdict};
 use tiles::{BandsAnswer, NumberAnswer, WindowAnswer};
 
 // Whether each number 1 to count occurs exactly once. Refuses reading's numbers, then 6, 15; on those and 6 the marks stay.
-#[unsafe(no_mangle)]
-pub extern "C" fn fordcask_index_check(
+pub fn fordcask_index_check(
     series: Series,
     card: &[u8],
     index: &[u32],
@@ -43,8 +42,7 @@ pub extern "C" fn fordcask_index_check(
 }
 
 // The stored number of a pixel's tile, and where its bytes stand in the store. Refuses reading's numbers, then 6, 12, 13, 14, 15.
-#[unsafe(no_mangle)]
-pub extern "C" fn fordcask_tile(
+pub fn fordcask_tile(
     series: Series,
     card: &[u8],
     index: &[u32],
@@ -69,8 +67,7 @@ pub extern "C" fn fordcask_tile(
 }
 
 // The band values of a pixel. Refuses reading's numbers, then 6, 12, 13, 14, 15.
-#[unsafe(no_mangle)]
-pub extern "C" fn fordcask_bands(
+pub fn fordcask_bands(
     series: Series,
     card: &[u8],
     index: &[u32],
@@ -98,8 +95,7 @@ pub extern "C" fn fordcask_bands(
 }
 
 // The first tile of a window, in reading order, that is not stored. Refuses reading's numbers, then 6, 12, 15.
-#[unsafe(no_mangle)]
-pub extern "C" fn fordcask_window(
+pub fn fordcask_window(
     series: Series,
     card: &[u8],
     index: &[u32],

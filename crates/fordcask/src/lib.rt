@@ -1,4 +1,6 @@
-// The library for C: numbers and slices in, a block of numbers out (bindings/c/fordcask.h).
+// The library for C: numbers and slices in, a block of numbers out. crates/fordcask_c exports these functions (bindings/c/fordcask.h).
+#![tactic(auto)]
+
 mod bits;
 mod card_lists;
 mod cards;

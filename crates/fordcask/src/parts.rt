@@ -2,7 +2,7 @@
 
 // Number, place, and the zones that cover a latitude: the first `length` slots, the others 0.
 #[repr(C)]
-#[derive(Drop)]
+#[derive(Clone, Copy)]
 pub struct CoverParts {
     pub number: u32,
     pub at: u64,
@@ -12,7 +12,7 @@ pub struct CoverParts {
 
 // Number, place, and the zones of a rectangle: the first `length` slots, the others 0.
 #[repr(C)]
-#[derive(Drop)]
+#[derive(Clone, Copy)]
 pub struct RectangleParts {
     pub number: u32,
     pub at: u64,
@@ -22,7 +22,7 @@ pub struct RectangleParts {
 
 // Number, place, what a card holds, and the total of its blanks; TIF is 1 for Y.
 #[repr(C)]
-#[derive(Drop)]
+#[derive(Clone, Copy)]
 pub struct CardParts {
     pub number: u32,
     pub at: u64,
@@ -43,7 +43,7 @@ pub struct CardParts {
 
 // What is written on a card; TIF is N for 0, else Y.
 #[repr(C)]
-#[derive(Drop)]
+#[derive(Clone, Copy)]
 pub struct RecordParts {
     pub n: i64,
     pub m: i64,
@@ -59,7 +59,7 @@ pub struct RecordParts {
 
 // Number, place, and the total of blanks of the card, of a question whose answer is left in buffers.
 #[repr(C)]
-#[derive(Drop)]
+#[derive(Clone, Copy)]
 pub struct VerdictParts {
     pub number: u32,
     pub at: u64,
@@ -68,7 +68,7 @@ pub struct VerdictParts {
 
 // Number, the refusal's place, the place of the zone grid, and the total of blanks of the card.
 #[repr(C)]
-#[derive(Drop)]
+#[derive(Clone, Copy)]
 pub struct PlaceOnCard {
     pub number: u32,
     pub at: u64,
@@ -79,7 +79,7 @@ pub struct PlaceOnCard {
 
 // Number, place, latitude and longitude, and the total of blanks of the card.
 #[repr(C)]
-#[derive(Drop)]
+#[derive(Clone, Copy)]
 pub struct PositionOnCard {
     pub number: u32,
     pub at: u64,
@@ -90,7 +90,7 @@ pub struct PositionOnCard {
 
 // Number, place, row and column, and the total of blanks of the card.
 #[repr(C)]
-#[derive(Drop)]
+#[derive(Clone, Copy)]
 pub struct PixelOnCard {
     pub number: u32,
     pub at: u64,
@@ -101,7 +101,7 @@ pub struct PixelOnCard {
 
 // Number, place, row and column of an overview's pixel, and the totals of blanks of the chart's card and of the overview's.
 #[repr(C)]
-#[derive(Drop)]
+#[derive(Clone, Copy)]
 pub struct OverviewOnCards {
     pub number: u32,
     pub at: u64,
@@ -113,7 +113,7 @@ pub struct OverviewOnCards {
 
 // Number, place, the three band values, and the total of blanks of the card.
 #[repr(C)]
-#[derive(Drop)]
+#[derive(Clone, Copy)]
 pub struct BandsOnCard {
     pub number: u32,
     pub at: u64,
@@ -125,7 +125,7 @@ pub struct BandsOnCard {
 
 // Number, place, 1 where a tile is missing, that tile, and the total of blanks of the card.
 #[repr(C)]
-#[derive(Drop)]
+#[derive(Clone, Copy)]
 pub struct WindowOnCard {
     pub number: u32,
     pub at: u64,
@@ -136,7 +136,7 @@ pub struct WindowOnCard {
 
 // Number, place, the stored number of a tile, where its bytes stand in the store, and the total of blanks of the card.
 #[repr(C)]
-#[derive(Drop)]
+#[derive(Clone, Copy)]
 pub struct TileParts {
     pub number: u32,
     pub at: u64,
@@ -148,7 +148,7 @@ pub struct TileParts {
 
 // Number, place, 0 for the base store or 1 for the corrections store, a tile's number and bytes there, and the total of blanks of the card.
 #[repr(C)]
-#[derive(Drop)]
+#[derive(Clone, Copy)]
 pub struct CorrectedTile {
     pub number: u32,
     pub at: u64,

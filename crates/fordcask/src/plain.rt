@@ -15,24 +15,21 @@ use origin::OriginParts;
 use zones::ZoneParts;
 
 // A and B. Refuses 1, 17, 1, 2.
-#[unsafe(no_mangle)]
-pub extern "C" fn fordcask_spacing(series: Series) -> SpacingParts
+pub fn fordcask_spacing(series: Series) -> SpacingParts
     ensures { spacing_told result ≡ spacing_report (spacing_of series) }
 {
     arc::spacing(series).into_parts()
 }
 
 // The basic zone of a latitude. Refuses 4.
-#[unsafe(no_mangle)]
-pub extern "C" fn fordcask_basic_zone(lat: i64) -> ZoneParts
+pub fn fordcask_basic_zone(lat: i64) -> ZoneParts
     ensures { zone_told result ≡ zone_report (basic_zone_of lat) }
 {
     zones::basic_zone(lat).into_parts()
 }
 
 // The zones that cover a latitude, the basic zone first, then equatorward. Refuses 1, 17, 1, 4.
-#[unsafe(no_mangle)]
-pub extern "C" fn fordcask_cover(scale: u64, factor: u64, lat: i64) -> CoverParts
+pub fn fordcask_cover(scale: u64, factor: u64, lat: i64) -> CoverParts
     ensures { result ≡ cover_parts (cover_of scale factor lat) }
 {
     let answer = zones::cover(scale, factor, lat);
@@ -48,13 +45,7 @@ pub extern "C" fn fordcask_cover(scale: u64, factor: u64, lat: i64) -> CoverPart
 }
 
 // The zones of a rectangle, in ascending number. Refuses 1, 17, 1, south 4, north 4, 16.
-#[unsafe(no_mangle)]
-pub extern "C" fn fordcask_rectangle(
-    scale: u64,
-    factor: u64,
-    south: i64,
-    north: i64,
-) -> RectangleParts
+pub fn fordcask_rectangle(scale: u64, factor: u64, south: i64, north: i64) -> RectangleParts
     ensures { result ≡ rectangle_parts (rectangle_of scale factor south north) }
 {
     let answer = rectangle::rectangle(scale, factor, south, north);
@@ -70,16 +61,14 @@ pub extern "C" fn fordcask_rectangle(
 }
 
 // The origin of an upper left point. Refuses 1, 24, 17, 1, 2, 3, 4, 5.
-#[unsafe(no_mangle)]
-pub extern "C" fn fordcask_align(series: Series, lat: i64, lon: i64) -> OriginParts
+pub fn fordcask_align(series: Series, lat: i64, lon: i64) -> OriginParts
     ensures { origin_told result ≡ origin_report (align_of series lat lon) }
 {
     origin::align(series, lat, lon).into_parts()
 }
 
 // Position minus centre. Refuses 4, 5 of the position, then 4, 5 of the centre.
-#[unsafe(no_mangle)]
-pub extern "C" fn fordcask_offset(lat: i64, lon: i64, clat: i64, clon: i64) -> OffsetParts
+pub fn fordcask_offset(lat: i64, lon: i64, clat: i64, clon: i64) -> OffsetParts
     ensures { result ≡ offset_parts (offset_of lat lon clat clon) }
 {
     card::offset_from(lat, lon, clat, clon).into_parts()

@@ -22,7 +22,7 @@ const QUARTER_PARTS: i64 = (Circle::QUARTER as i64) * (engine::COARSE as i64);
 const CIRCLE_PARTS: i64 = (Circle::H as i64) * (engine::COARSE as i64);
 
 // What the engine answers of an entry: two values, or nothing.
-#[derive(Drop)]
+#[derive(Clone, Copy)]
 pub enum Charted {
     At { first: i64, second: i64 },
     Off,

@@ -20,7 +20,7 @@ const UNIT: u64 = 253_125;
 const FINE: u64 = 35_184_372_088_832;
 
 // An axis: i pixels along it is (from − i × rate) / 2^36 hundredths, or (from + i × rate) / 2^36.
-#[derive(Drop)]
+#[derive(Clone, Copy)]
 pub struct Axis {
     pub from: u64,
     pub rate: u64,
@@ -28,7 +28,7 @@ pub struct Axis {
 
 // The chart along an axis: i hundredths past its first is pixel (i × rate + start) / 2^45, up to `most` past it.
 // The first is counted from the South Pole, southward from there, or westward from 180° east, eastward from there.
-#[derive(Drop)]
+#[derive(Clone, Copy)]
 pub struct Span {
     pub first: u64,
     pub most: u64,
@@ -37,7 +37,7 @@ pub struct Span {
 }
 
 // A card in a pair: its axes, for positions, and its chart's spans, for pixels.
-#[derive(Drop)]
+#[derive(Clone, Copy)]
 pub struct Engine {
     pub card: Card,
     pub pair: Pair,

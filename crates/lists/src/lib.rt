@@ -1,4 +1,6 @@
 // Lists of pixels and of positions of one card, in either pair (01, "Origins and the zone grid"; 02, E8).
+#![tactic(auto)]
+
 ghost use Rattle.std.specs.Prelude.{◌≡◌, true, ◌+◌, ◌≤◌, ◌<◌, length, set};
 ghost use Rattle.whole.specs.Lists.{over};
 ghost use Rattle.card.specs.declared.Pair.{Pair};
@@ -16,7 +18,7 @@ mod charted;
 mod engine;
 
 // What is asked of each entry of a list: the position of a pixel, or the pixel at a position.
-#[derive(Drop)]
+#[derive(Clone, Copy)]
 pub enum Asked {
     Positions,
     Pixels,
@@ -30,7 +32,7 @@ fn lists_fit(handed: usize, fill: usize, numbers: usize) -> bool
 }
 
 // A row and a column, or a latitude and a longitude.
-#[derive(Drop)]
+#[derive(Clone, Copy)]
 struct Entry {
     first: i64,
     second: i64,
@@ -64,7 +66,7 @@ fn put_number(numbers: &mut [u32], i: usize, number: u32)
 }
 
 // What is told of an entry: number, place, and two values.
-#[derive(Drop)]
+#[derive(Clone, Copy)]
 struct EntryParts {
     number: u32,
     at: u64,

@@ -1,4 +1,6 @@
 // Origins: a whole number of 128-pixel tiles from the Equator and from the zero meridian (001, 3.4.5).
+#![tactic(auto)]
+
 ghost use Rattle.std.specs.Prelude.{◌≡◌, ◌≤◌, pos, ◌-ℤ◌};
 ghost use Rattle.arc.specs.declared.SpacingAnswer.{SpacingAnswer};
 ghost use Rattle.arc.specs.Spacing.{Grid};
@@ -13,7 +15,7 @@ mod parts;
 pub use parts::OriginParts;
 
 // An origin: n and m in tiles, and the angles that a card stores for them.
-#[derive(Drop)]
+#[derive(Clone, Copy)]
 pub struct Origin {
     pub n: i64,
     pub m: i64,
@@ -21,7 +23,7 @@ pub struct Origin {
     pub lso: i64,
 }
 
-#[derive(Drop)]
+#[derive(Clone, Copy)]
 pub enum OriginAnswer {
     Aligned(Origin),
     Refused(Refusal),

@@ -6,7 +6,7 @@ use crate::OriginAnswer;
 
 // Number, place, n and m in tiles, and the two stored angles.
 #[repr(C)]
-#[derive(Drop)]
+#[derive(Clone, Copy)]
 pub struct OriginParts {
     pub number: u32,
     pub at: u64,

@@ -1,12 +1,15 @@
 // Prints positions of a card's pixels, from standard input to standard output (01, "The printing program").
+#![tactic(auto)]
+
 ghost use Rattle.std.specs.Prelude.{◌≤◌, length};
 ghost use Rattle.card.specs.Read.{Known};
 
 use card::Card;
-use libc::{STDIN_FILENO, STDOUT_FILENO};
+use std::io;
+use std::io::{Read, Write};
 
 // The lines of row and column, from an offset on.
-fn print_lines(k: Card, input: &[u8], start: usize)
+fn print_lines(rt: &HostRuntime, k: Card, input: &[u8], start: usize) -> io::Result<()>
     requires fact_1 { Known k }
     requires fact_2 { length input.now ≤ 65536 }
 {
@@ -14,18 +17,21 @@ fn print_lines(k: Card, input: &[u8], start: usize)
     while at < input.len() {
         let mut out = [0u8; 64];
         let line = printing::pixel_line(k, input, at, &mut out);
-        io::write_all(STDOUT_FILENO, &out[..line.length]);
+        io::writer(rt).write_all(&out[..line.length])?;
         at = line.next;
     }
+    Ok(())
 }
 
-fn main() {
-    let mut input = [0u8; 65537];
-    let n = io::read_full(STDIN_FILENO, &mut input);
+fn main(rt: HostRuntime) -> io::Result<()> {
+    let mut input = Vec::new(rt.alloc());
+    rt.reader().take(65_537).read_to_end(&mut input)?;
+    let text = input.as_slice();
     let mut out = [0u8; 64];
-    let first = printing::opening(&input[..n], &mut out);
-    io::write_all(STDOUT_FILENO, &out[..first.length]);
+    let first = printing::opening(text, &mut out);
+    io::writer(&rt).write_all(&out[..first.length])?;
     if first.more {
-        print_lines(first.card, &input[..n], first.next);
+        print_lines(&rt, first.card, text, first.next)?;
     }
+    Ok(())
 }

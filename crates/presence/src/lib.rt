@@ -1,10 +1,12 @@
 // Presence bits: one bit a tile, 64 to a word, first tile lowest (02, E7). Every public function answers for every list of words.
+#![tactic(auto)]
+
 ghost use Rattle.std.specs.Prelude.{◌≡◌, ◌+◌, ◌-◌, ◌*◌, ◌/◌, ◌%◌, ◌^◌, ◌≤◌, ◌<◌, length};
 ghost use Rattle.presence.specs.Presence.{present, counted, number_at, any_set_from, within};
 ghost use Rattle.presence.specs.Steps.{PassedWords};
 
 // Whole words that were passed, and the ones in them.
-#[derive(Drop)]
+#[derive(Clone, Copy)]
 struct WordsPassed {
     words: usize,
     ones: u64,

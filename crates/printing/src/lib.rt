@@ -1,4 +1,6 @@
 // Lines in, lines out, on slices (01, "The printing program").
+#![tactic(auto)]
+
 ghost use Rattle.std.specs.Prelude.{◌≡◌};
 ghost use Rattle.card.specs.Read.{Known};
 ghost use Rattle.printing.specs.Steps.{opening_for, opening_answer, opening_left, line_answer, line_left, nothing};
@@ -11,7 +13,7 @@ mod start;
 
 // What is printed first: its length; then whether lines follow, of which card, with how many blanks (02, E2), and from where; the end of the
 // input, where none do.
-#[derive(Drop)]
+#[derive(Clone, Copy)]
 pub struct OpeningAnswer {
     pub length: usize,
     pub more: bool,
@@ -21,7 +23,7 @@ pub struct OpeningAnswer {
 }
 
 // What is printed for a line: its length, and where the caller goes on.
-#[derive(Drop)]
+#[derive(Clone, Copy)]
 pub struct LineAnswer {
     pub length: usize,
     pub next: usize,

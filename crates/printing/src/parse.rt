@@ -6,7 +6,7 @@ ghost use Rattle.printing.specs.Steps.{ReadNumber, numbers_answer};
 use text::Digits;
 
 // What a line holds.
-#[derive(Drop)]
+#[derive(Clone, Copy)]
 pub enum Numbers {
     Two { left: u64, right: u64 },
     Bad,

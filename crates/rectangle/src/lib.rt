@@ -1,4 +1,6 @@
 // The zones that share a stretch of latitude with a rectangle (02, E3; 001, 3.3.3).
+#![tactic(auto)]
+
 ghost use Rattle.std.specs.Prelude.{◌≡◌, ◌-◌, ◌<◌, ◌≤◌, pos, ◌-ℤ◌};
 ghost use Rattle.arc.specs.Zones.{half, quarter, row_at};
 ghost use Rattle.zones.specs.Steps.{Rows};
@@ -10,7 +12,7 @@ use arc::{Circle, ConstantAnswer, Overlap, Refusal, Verdict};
 use whole::Counted;
 
 // The zones of a rectangle: the first `length` slots, the others 0.
-#[derive(Drop)]
+#[derive(Clone, Copy)]
 pub struct RectangleAnswer {
     pub verdict: Verdict,
     pub length: u64,

@@ -1,11 +1,13 @@
 // Text in bytes: digits read, and text put at an offset of a lent buffer (01, "The image card, 98 bytes", "The printing program").
 // A function that puts answers where the text ends; where it does not fit, nothing is put and the answer is the offset.
+#![tactic(auto)]
+
 ghost use Rattle.std.specs.Prelude.{◌≡◌, ◌+◌, ◌-◌, ◌/◌, ◌<◌, ◌≤◌, true, [], ◌∷◌, pos, if◌then◌else◌, int_lt, nat_le};
 ghost use Rattle.text.specs.Text.{is_digit, digits, decimal, angle_text};
 ghost use Rattle.text.specs.Buffer.{put_at, end_of, less_zero, digits_in};
 
 // A run of bytes: whether it is one of digits, and then its number.
-#[derive(Drop)]
+#[derive(Clone, Copy)]
 pub struct Digits {
     pub value: u64,
     pub ok: bool,

@@ -1,4 +1,6 @@
 // The tile index (002, 3.8.5; 01, "Tiles"): its check; look-up and window by the list or by presence bits (02, E7); corrections beside it (02, E1).
+#![tactic(auto)]
+
 ghost use Rattle.std.specs.Prelude.{◌≡◌, false, ◌<◌, length, get_or};
 ghost use Rattle.arc.specs.Refusals.{refusal_at};
 ghost use Rattle.card.specs.Read.{Known};
@@ -30,7 +32,7 @@ pub use parts::{BandsParts, NumberParts, SourceParts, WindowParts};
 pub use scan::window;
 
 // What is said of a tile: its stored number, that it is not stored, or that its entry is above the count.
-#[derive(Drop)]
+#[derive(Clone, Copy)]
 enum Said {
     Stored(u64),
     Missing,
@@ -38,21 +40,21 @@ enum Said {
 }
 
 // The stored number of a tile, from 1.
-#[derive(Drop)]
+#[derive(Clone, Copy)]
 pub enum NumberAnswer {
     Stored(u64),
     Refused(Refusal),
 }
 
 // Which of the two stores a tile is looked for in (02, E1).
-#[derive(Drop)]
+#[derive(Clone, Copy)]
 enum Source {
     Base,
     Corrections,
 }
 
 // The stored number of a tile, from 1, in the base store or in the corrections store (02, E1).
-#[derive(Drop)]
+#[derive(Clone, Copy)]
 pub enum SourceAnswer {
     Base(u64),
     Corrections(u64),
@@ -60,14 +62,14 @@ pub enum SourceAnswer {
 }
 
 // The three band values of a pixel.
-#[derive(Drop)]
+#[derive(Clone, Copy)]
 pub enum BandsAnswer {
     Bands { red: u8, green: u8, blue: u8 },
     Refused(Refusal),
 }
 
 // The first tile of a window that is not stored, by its number from 0 in the image.
-#[derive(Drop)]
+#[derive(Clone, Copy)]
 pub enum WindowAnswer {
     Missing(u64),
     AllStored,

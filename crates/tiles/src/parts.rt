@@ -9,7 +9,7 @@ use crate::{BandsAnswer, NumberAnswer, SourceAnswer, WindowAnswer};
 
 // Number, place and the stored number.
 #[repr(C)]
-#[derive(Drop)]
+#[derive(Clone, Copy)]
 pub struct NumberParts {
     pub number: u32,
     pub at: u64,
@@ -18,7 +18,7 @@ pub struct NumberParts {
 
 // Number, place, 0 for the base store or 1 for the corrections store, and the stored number there.
 #[repr(C)]
-#[derive(Drop)]
+#[derive(Clone, Copy)]
 pub struct SourceParts {
     pub number: u32,
     pub at: u64,
@@ -28,7 +28,7 @@ pub struct SourceParts {
 
 // Number, place and the three band values.
 #[repr(C)]
-#[derive(Drop)]
+#[derive(Clone, Copy)]
 pub struct BandsParts {
     pub number: u32,
     pub at: u64,
@@ -39,7 +39,7 @@ pub struct BandsParts {
 
 // Number, place, 1 where a tile is missing, and that tile.
 #[repr(C)]
-#[derive(Drop)]
+#[derive(Clone, Copy)]
 pub struct WindowParts {
     pub number: u32,
     pub at: u64,

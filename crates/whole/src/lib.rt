@@ -1,9 +1,11 @@
 // Signed numbers at the edge of unsigned arithmetic, and the nearest whole number. Every function answers for every number of its parameters' types.
+#![tactic(auto)]
+
 ghost use Rattle.std.specs.Prelude.{◌≡◌, pos, nat_abs, ◌-ℤ◌};
 ghost use Rattle.whole.specs.Whole.{near, counted_by};
 
 // A whole number counted from a stated one, or outside.
-#[derive(Drop)]
+#[derive(Clone, Copy)]
 pub enum Counted {
     From(u64),
     Outside,

@@ -1,4 +1,6 @@
 // Which zone holds a latitude, and which cover it (001, 3.3.3).
+#![tactic(auto)]
+
 ghost use Rattle.std.specs.Prelude.{◌≡◌, ◌+◌};
 ghost use Rattle.arc.specs.Zones.{row_at};
 ghost use Rattle.zones.specs.Basic.{holds_size, row_holding, basic_zone_of};
@@ -12,14 +14,14 @@ mod parts;
 pub use parts::ZoneParts;
 
 // The basic zone.
-#[derive(Drop)]
+#[derive(Clone, Copy)]
 pub enum ZoneAnswer {
     Zone(u64),
     Refused(Refusal),
 }
 
 // The zones that cover a latitude: the first `length` slots, the others 0.
-#[derive(Drop)]
+#[derive(Clone, Copy)]
 pub struct CoverAnswer {
     pub verdict: Verdict,
     pub length: u64,
@@ -27,7 +29,7 @@ pub struct CoverAnswer {
 }
 
 // Where a latitude in range lies: its basic zone, the place of the row that holds it, and its size.
-#[derive(Drop)]
+#[derive(Clone, Copy)]
 enum Located {
     At { zone: u64, row: u64, size: u64 },
     Outside,

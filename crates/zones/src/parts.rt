@@ -6,7 +6,7 @@ use crate::ZoneAnswer;
 
 // Number, place and zone.
 #[repr(C)]
-#[derive(Drop)]
+#[derive(Clone, Copy)]
 pub struct ZoneParts {
     pub number: u32,
     pub at: u64,

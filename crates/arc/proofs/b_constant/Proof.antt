@@ -5,15 +5,15 @@ use borrow.Author.Rules.{rules}
 use Rattle.arc.proofs.b_constant.Statement.{statement}
 use Rattle.arc.proofs.b_constant.Tie as tie
 
-returns : tie.Need-returns
+returns : tie.Need-returns-in-Scale
 returns c =
-    rw (sym c.before.before.before.before.overview-scale.ensures ∙ c.before.before.product.given.1)
+    rw (sym c.overview_scale.ensures ∙ c.in-Scale.is)
     (ap ConstantAnswer.Pixels c.rows.ensures)
 
-returns-2 : tie.Need-returns-2
-returns-2 c = rw (sym c.before.before.before.overview-scale.ensures ∙ c.before.r.given.1)
+returns-2 : tie.Need-returns-in-Refused
+returns-2 c = rw (sym c.overview_scale.ensures ∙ c.in-Refused.is)
 
-pub b-constant-spec : {M : Type 1} → statement M
-b-constant-spec =
+pub b_constant_spec : {M : Type 1} → statement M
+b_constant_spec =
     tie.close
     (tie.spec (λ c κs. search rules) (λ c. search rules) (λ c κs. search rules) (λ c. search rules) returns returns-2)

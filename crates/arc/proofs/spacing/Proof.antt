@@ -5,28 +5,28 @@ use borrow.Author.Rules.{rules}
 use Rattle.arc.proofs.spacing.Statement.{statement}
 use Rattle.arc.proofs.spacing.Tie as tie
 
-returns : tie.Need-returns
+returns : tie.Need-returns-in-Pixels
 returns c =
-    let d = c.before.before.before.before in
+    let d = c in
     rw (
-      sym d.before.before.before.before.overview-scale.ensures ∙ d.before.before.product.given.1,
-      sym d.columns.ensures ∙ c.before.before.a.given.1,
+      sym d.overview_scale.ensures ∙ d.in-Scale.is,
+      sym d.columns.ensures ∙ c.in-Pixels.is,
     )
-    (ap (SpacingAnswer.Constants c.before.before.a.given.0.0) c.rows.ensures)
+    (ap (SpacingAnswer.Constants c.in-Pixels.a) c.rows.ensures)
 
-returns-2 : tie.Need-returns-2
+returns-2 : tie.Need-returns-in-Refused-columns
 returns-2 c =
-    let d = c.before.before.before in
+    let d = c in
     rw (
-      sym d.before.before.before.before.overview-scale.ensures ∙ d.before.before.product.given.1,
-      sym d.columns.ensures ∙ c.before.r.given.1,
+      sym d.overview_scale.ensures ∙ d.in-Scale.is,
+      sym d.columns.ensures ∙ c.in-Refused-columns.is,
     )
 
-returns-3 : tie.Need-returns-3
-returns-3 c = rw (sym c.before.before.before.overview-scale.ensures ∙ c.before.r2.given.1)
+returns-3 : tie.Need-returns-in-Refused
+returns-3 c = rw (sym c.overview_scale.ensures ∙ c.in-Refused.is)
 
-pub spacing-spec : {M : Type 1} → statement M
-spacing-spec =
+pub spacing_spec : {M : Type 1} → statement M
+spacing_spec =
     tie.close
     (tie.spec (λ c κs. search rules) (λ c. search rules) (λ c κs. search rules) (λ c. search rules) (λ c κs. search rules) (λ c. search rules)
     (λ c. search rules) returns returns-2 returns-3)

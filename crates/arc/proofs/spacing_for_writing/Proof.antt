@@ -6,19 +6,19 @@ use borrow.Author.Rules.{rules}
 use Rattle.arc.proofs.spacing_for_writing.Statement.{statement}
 use Rattle.arc.proofs.spacing_for_writing.Tie as tie
 
-returns : tie.Need-returns
+returns : tie.Need-returns-then-is_town_scale
 returns c =
-    let a = c.before.before.before.args in
-    let e = sym c.before.before.is-town-scale.ensures ∙ c.before.if1.true in
+    let a = c.args in
+    let e = sym c.is_town_scale.ensures ∙ c.if-is_town_scale.true in
     ap SpacingAnswer.Refused c.refused.ensures ∙ sym (at-town a.series e)
 
-returns-2 : tie.Need-returns-2
+returns-2 : tie.Need-returns
 returns-2 c =
-    let a = c.before.before.before.args in
-    let e = sym c.before.before.is-town-scale.ensures ∙ c.before.if1.false in
+    let a = c.args in
+    let e = sym c.is_town_scale.ensures ∙ c.if-is_town_scale.false in
     c.spacing.ensures ∙ sym (at_other a.series e)
 
-pub spacing-for-writing-spec : {M : Type 1} → statement M
-spacing-for-writing-spec =
+pub spacing_for_writing_spec : {M : Type 1} → statement M
+spacing_for_writing_spec =
     tie.close
     (tie.spec (λ c κs. search rules) (λ c κs. search rules) returns (λ c κs. search rules) returns-2)

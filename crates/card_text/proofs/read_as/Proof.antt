@@ -6,20 +6,20 @@ use borrow.Author.Rules.{rules}
 use Rattle.card_text.proofs.read_as.Statement.{statement}
 use Rattle.card_text.proofs.read_as.Tie as tie
 
-read-spaced-requires : tie.Need-read-spaced-requires
+read-spaced-requires : tie.Need-read_spaced-requires
 read-spaced-requires c κs =
-    let s = c.before.before.before.before.before in
-    let g = answered-grids s.args.series _ _ (sym c.before.before.before.spacing.ensures ∙ c.before.a.given.1) in
+    let s = c in
+    let g = answered-grids s.args.series _ _ (sym c.spacing.ensures ∙ c.in-Constants.is) in
     (g.columns, g.rows)
 
-returns : tie.Need-returns
-returns c = rw (sym c.before.before.before.before.spacing.ensures ∙ c.before.before.a.given.1) c.read-spaced.ensures
+returns : tie.Need-returns-in-Constants
+returns c = rw (sym c.spacing.ensures ∙ c.in-Constants.is) c.read_spaced.ensures
 
-returns-2 : tie.Need-returns-2
+returns-2 : tie.Need-returns-in-Refused
 unfolding read_in
-returns-2 c = rw (sym c.before.before.before.before.spacing.ensures ∙ c.before.before.r.given.1) c.refused-with.ensures
+returns-2 c = rw (sym c.spacing.ensures ∙ c.in-Refused.is) c.refused_with.ensures
 
-pub read-as-spec : {M : Type 1} → statement M
-read-as-spec =
+pub read_as_spec : {M : Type 1} → statement M
+read_as_spec =
     tie.close
     (tie.spec (λ c κs. search rules) (λ c. search rules) read-spaced-requires (λ c. search rules) (λ c κs. search rules) returns returns-2)

@@ -6,14 +6,14 @@ use borrow.Author.Rules.{rules}
 use Rattle.convert.proofs.bit_at.Statement.{statement}
 use Rattle.convert.proofs.bit_at.Tie as tie
 
-returns : tie.Need-returns
-returns c = sym (bit-none _ (get_or-eq_default c.before.args.index.now 0 {n = c.before.args.tile} c.if1.true))
+returns : tie.Need-returns-then-index-tile
+returns c = sym (bit-none _ (get_or-eq_default c.args.index.now 0 {n = c.args.tile} c.if-index-tile.true))
 
-returns-2 : tie.Need-returns-2
-returns-2 c = sym (bit-none _ c.if2.true)
+returns-2 : tie.Need-returns-then-index-tile-eq0
+returns-2 c = sym (bit-none _ c.if-index-tile-eq0.true)
 
-returns-3 : tie.Need-returns-3
-returns-3 c = sym (bit-some _ c.if2.false)
+returns-3 : tie.Need-returns
+returns-3 c = sym (bit-some _ c.if-index-tile-eq0.false)
 
-pub bit-at-spec : {M : Type 1} → statement M
-bit-at-spec = tie.close (tie.spec returns (λ c. search rules) (λ c. search rules) returns-2 returns-3)
+pub bit_at_spec : {M : Type 1} → statement M
+bit_at_spec = tie.close (tie.spec returns (λ c. search rules) (λ c. search rules) returns-2 returns-3)

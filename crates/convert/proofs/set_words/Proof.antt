@@ -12,54 +12,54 @@ use Rattle.convert.proofs.set_words.Tie as tie
 abbrev word_of : List ℕ → ℕ → ℕ
 word_of index i = word_from index (i * 64) 64
 
-abbrev invariant-loop : tie.invariant-loop
+abbrev invariant-loop : tie.invariant-loop-i
 invariant-loop index words₀ i₀ words i = (i ≤ length words₀) × (words ≡ listed (word_of index) i ++ drop i words₀)
 
-abbrev decreases-loop : tie.decreases-loop
+abbrev decreases-loop : tie.decreases-loop-i
 decreases-loop index words₀ i₀ words i = length words₀ - i
 
 -- the words keep their length
-long : (c : tie.At-loop invariant-loop decreases-loop) → length c.loop.words ≡ length c.before.before.before.args.words.now
-long c = let l = c.loop in written-length (word_of c.before.before.before.args.index.now) l.i c.before.before.before.args.words.now
+long : (c : tie.At-loop-i invariant-loop decreases-loop) → length c.loop-i.words ≡ length c.args.words.now
+long c = let l = c.loop-i in written-length (word_of c.args.index.now) l.i c.args.words.now
     l.words l.invariant.0 l.invariant.1
 
-loop-holds : tie.Need-loop-init invariant-loop decreases-loop
+loop-holds : tie.Need-loop-i-init invariant-loop decreases-loop
 loop-holds c = (omega arith, refl)
 
-word-at-requires : tie.Need-word-at-requires invariant-loop decreases-loop
+word-at-requires : tie.Need-word_at-w-requires invariant-loop decreases-loop
 word-at-requires c κs = omega (arith, long c.before)
 
-mul_words : tie.Need-overflow-mul-words invariant-loop decreases-loop
+mul_words : tie.Need-offset_bounds-words-i invariant-loop decreases-loop
 mul_words c = omega arith
 
-slice-write-words : tie.Need-slice-write-words invariant-loop decreases-loop
+slice-write-words : tie.Need-bounds-words-i invariant-loop decreases-loop
 slice-write-words c = omega (arith, long c.before.before)
 
-add-i : tie.Need-overflow-add-i invariant-loop decreases-loop
+add-i : tie.Need-overflow_add-i invariant-loop decreases-loop
 add-i c = omega arith
 
-loop-less : tie.Need-loop-smaller invariant-loop decreases-loop
+loop-less : tie.Need-loop-i-smaller invariant-loop decreases-loop
 loop-less c = omega (arith, long c.before.before)
 
-loop-again : tie.Need-loop-preserved invariant-loop decreases-loop
+loop-again : tie.Need-loop-i-preserved invariant-loop decreases-loop
 loop-again c =
-    let l = c.before.before.loop in
-    let a = c.before.before.before.before.before.args in (
+    let l = c.loop-i in
+    let a = c.args in (
       omega (arith, long c.before.before),
-      ap (λ (s : List ℕ). set s l.i c.word_at.result) l.invariant.1
-          ∙ listed_more (word_of a.index.now) l.i c.word_at.result a.words.now (omega (arith, long c.before.before)) c.word_at.ensures,
+      ap (λ (s : List ℕ). set s l.i c.word_at-w.result) l.invariant.1
+          ∙ listed_more (word_of a.index.now) l.i c.word_at-w.result a.words.now (omega (arith, long c.before.before)) c.word_at-w.ensures,
     )
 
-same_length : tie.Need-same-length invariant-loop decreases-loop
+same_length : tie.Need-shape_of-words invariant-loop decreases-loop
 same_length c = long c.before
 
 returns : tie.Need-returns invariant-loop decreases-loop
 returns c =
-    let l = c.before.loop in
-    let a = c.before.before.before.before.args in
+    let l = c.loop-i in
+    let a = c.args in
     written_all (word_of a.index.now) l.i a.words.now l.words l.invariant.0 l.invariant.1 (omega (arith, long c.before))
 
-pub set-words-spec : {M : Type 1} → statement M
-set-words-spec =
+pub set_words_spec : {M : Type 1} → statement M
+set_words_spec =
     tie.close
     (tie.spec invariant-loop decreases-loop loop-holds word-at-requires mul_words slice-write-words add-i loop-less loop-again same_length returns)

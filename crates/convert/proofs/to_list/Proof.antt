@@ -16,29 +16,29 @@ use Rattle.convert.proofs.to_list.Statement.{statement}
 use Rattle.convert.proofs.to_list.Tie as tie
 
 -- the lengths are right
-right : (c : tie.Else1) → let a = c.before.before.before.before.args in lengths_wrong a.k (length a.index.now) (length a.words.now) ≡ false
-right c = sym c.before.lengths-wrong.ensures ∙ c.if1.false
+right : (c : tie.Else-lengths_wrong) → let a = c.args in lengths_wrong a.k (length a.index.now) (length a.words.now) ≡ false
+right c = sym c.lengths_wrong.ensures ∙ c.if-lengths_wrong.false
 
 -- the bits past the last tile
-stray : (c : tie.After-any-set) → let a = c.before.before.before.before.before.before.args in stray_bit a.k a.words.now ≡ c.any-set.result
-stray c = let a = c.before.before.before.before.before.before.args in
+stray : (c : tie.After-any_set) → let a = c.args in stray_bit a.k a.words.now ≡ c.any_set.result
+stray c = let a = c.args in
     stray-is a.k a.words.now (lengths-right a.k (length a.index.now) (length a.words.now) (right c.before.before)).1
-    ∙ sym c.any-set.ensures
+    ∙ sym c.any_set.ensures
 
-returns : tie.Need-returns
+returns : tie.Need-returns-then-lengths_wrong
 unfolding to_list_of list_left
-returns c = rw (sym c.before.before.lengths-wrong.ensures ∙ c.before.if1.true) (ap Verdict.Refused c.refused.ensures, refl)
+returns c = rw (sym c.lengths_wrong.ensures ∙ c.if-lengths_wrong.true) (ap Verdict.Refused c.refused.ensures, refl)
 
-mul-any-set : tie.Need-overflow-mul-any-set
-mul-any-set c = let l = known-laid _ c.before.before.before.before.before.requires in fits-mul 999 999 tt l.down-most l.across-most
+mul-any-set : tie.Need-overflow_mul-k
+mul-any-set c = let l = known-laid _ c.requires in fits-mul 999 999 tt l.down-most l.across-most
 
-returns-2 : tie.Need-returns-2
+returns-2 : tie.Need-returns-then-any_set
 unfolding to_list_of list_left
-returns-2 c = rw (right c.before.before.before.before, stray c.before.before ∙ c.before.if2.true)
-    (ap Verdict.Refused c.refused2.ensures, refl)
+returns-2 c = rw (right c.before.before.before.before, stray c.before.before ∙ c.if-any_set.true)
+    (ap Verdict.Refused c.refused-then-any_set.ensures, refl)
 
-set-list-requires : tie.Need-set-list-requires
-set-list-requires c κs = let s = c.before.before.before.before.before.before.before.before in
+set-list-requires : tie.Need-set_list-requires
+set-list-requires c κs = let s = c in
     omega (
       arith,
       index-few s.args.k s.requires,
@@ -46,22 +46,22 @@ set-list-requires c κs = let s = c.before.before.before.before.before.before.be
           (right c.before.before.before.before)).0,
     )
 
-returns-3 : tie.Need-returns-3
+returns-3 : tie.Need-returns
 unfolding to_list_of list_left
 returns-3 c =
-    let a = c.before.before.before.before.before.before.before.before.before.before.before.args in
+    let a = c.args in
     rw (
       right c.before.before.before.before.before.before.before,
       stray c.before.before.before.before.before
-          ∙ c.before.before.before.before.if2.false,
+          ∙ c.if-any_set.false,
     ) (
       refl,
-      c.before.before.set-list.ensures ∙ ap (numbers_to a.words.now)
+      c.set_list.ensures ∙ ap (numbers_to a.words.now)
           (lengths-right a.k (length a.index.now) (length a.words.now) (right c.before.before.before.before.before.before.before)).0,
     )
 
-pub to-list-spec : {M : Type 1} → statement M
-to-list-spec =
+pub to_list_spec : {M : Type 1} → statement M
+to_list_spec =
     tie.close
     (tie.spec (λ c κs. search rules) (λ c κs. search rules) returns mul-any-set (λ c κs. search rules) (λ c κs. search rules) returns-2 set-list-requires
     (λ c. search rules) returns-3)

@@ -8,24 +8,24 @@ use borrow.Author.Rules.{rules}
 use Rattle.lists.proofs.answer_entry.Statement.{statement}
 use Rattle.lists.proofs.answer_entry.Tie as tie
 
-returns : tie.Need-returns
+returns : tie.Need-returns-in-Positions
 returns c =
-    let s = c.before.before.before.before.before in
-    rw c.before.before.before.enum_told.given.1
+    let s = c in
+    rw c.in-Positions.is
     (entry-told (asked_report s.args.pair Asked.Positions s.args.k) s.ranges.first s.ranges.second
-    (record { sfits = c.struct_told.given.1.1.0.1 }) (record { sfits = c.struct_told.given.1.1.1.0.1 })
-    (c.before.into-parts.ensures ∙ ap position_report c.before.before.position_in.ensures))
+    (record { sfits = c.struct_told-1.given.1.1.0.1 }) (record { sfits = c.struct_told-1.given.1.1.1.0.1 })
+    (c.into_parts-p.ensures ∙ ap position_report c.position_in.ensures))
 
-returns-2 : tie.Need-returns-2
+returns-2 : tie.Need-returns-in-Pixels
 returns-2 c =
-    let s = c.before.before.before.before.before in
-    rw c.before.before.before.enum-told2.given.1
+    let s = c in
+    rw c.in-Pixels.is
     (entry-told (asked_report s.args.pair Asked.Pixels s.args.k) s.ranges.first s.ranges.second
-    (record { sfits = c.struct-told2.given.1.1.0.1 }) (record { sfits = c.struct-told2.given.1.1.1.0.1 })
-    (c.before.into-parts2.ensures ∙ ap pixel_report c.before.before.pixel-in.ensures))
+    (record { sfits = c.struct_told-in-Pixels-1.given.1.1.0.1 }) (record { sfits = c.struct_told-in-Pixels-1.given.1.1.1.0.1 })
+    (c.into_parts-p-in-Pixels.ensures ∙ ap pixel_report c.pixel_in.ensures))
 
-pub answer-entry-spec : {M : Type 1} → statement M
-answer-entry-spec =
+pub answer_entry_spec : {M : Type 1} → statement M
+answer_entry_spec =
     tie.close
     (tie.spec (λ c. search rules) (λ c κs. search rules) (λ c κs. search rules) (λ c. search rules) (λ c κs. search rules) (λ c κs. search rules)
     returns returns-2)

@@ -14,49 +14,49 @@ record Cleared (num : List ℕ) (n i : ℕ) (now : List ℕ) : Type 0 where
   pub upto : i ≤ n
   pub numbers : now ≡ over (zeros i) num
 
-abbrev invariant-loop : tie.invariant-loop
+abbrev invariant-loop : tie.invariant-loop-i
 invariant-loop numbers₀ n i₀ numbers i = Cleared numbers₀ n i numbers
 
-abbrev decreases-loop : tie.decreases-loop
+abbrev decreases-loop : tie.decreases-loop-i
 decreases-loop numbers₀ n i₀ numbers i = n - i
 
-loop-holds : tie.Need-loop-init invariant-loop decreases-loop
+loop-holds : tie.Need-loop-i-init invariant-loop decreases-loop
 loop-holds c = record { upto = omega arith; numbers = refl }
 
 -- as long as it was
-kept : (c : tie.At-loop invariant-loop decreases-loop) → length c.loop.numbers ≡ length c.before.args.numbers.now
+kept : (c : tie.At-loop-i invariant-loop decreases-loop) → length c.loop-i.numbers ≡ length c.args.numbers.now
 kept c =
-    let t = c.loop.invariant in
-    ap length t.numbers ∙ zeros-kept c.loop.i c.before.args.numbers.now (omega (arith, t.upto, c.before.requires))
+    let t = c.loop-i.invariant in
+    ap length t.numbers ∙ zeros-kept c.loop-i.i c.args.numbers.now (omega (arith, t.upto, c.requires))
 
-mul-numbers : tie.Need-overflow-mul-numbers invariant-loop decreases-loop
-mul-numbers c = omega (arith, c.loop-test.true, c.before.before.requires, c.before.before.well-formed)
+mul-numbers : tie.Need-offset_bounds-numbers-i invariant-loop decreases-loop
+mul-numbers c = omega (arith, c.loop-i-test.true, c.requires, c.well_formed)
 
-slice-write-numbers : tie.Need-slice-write-numbers invariant-loop decreases-loop
-slice-write-numbers c = omega (arith, c.loop-test.true, c.before.before.requires, kept c.before)
+slice-write-numbers : tie.Need-bounds-numbers-i invariant-loop decreases-loop
+slice-write-numbers c = omega (arith, c.loop-i-test.true, c.requires, kept c.before)
 
-add-i : tie.Need-overflow-add-i invariant-loop decreases-loop
-add-i c = omega (arith, c.loop-test.true, c.before.before.requires, c.before.before.well-formed)
+add-i : tie.Need-overflow_add-i invariant-loop decreases-loop
+add-i c = omega (arith, c.loop-i-test.true, c.requires, c.well_formed)
 
-loop-less : tie.Need-loop-smaller invariant-loop decreases-loop
-loop-less c = omega (arith, c.loop-test.true)
+loop-less : tie.Need-loop-i-smaller invariant-loop decreases-loop
+loop-less c = omega (arith, c.loop-i-test.true)
 
-loop-again : tie.Need-loop-preserved invariant-loop decreases-loop
+loop-again : tie.Need-loop-i-preserved invariant-loop decreases-loop
 loop-again c =
-    let t = c.before.loop.invariant in
+    let t = c.loop-i.invariant in
     record {
-      upto = omega (arith, c.loop-test.true);
-      numbers = zeros-next _ _ t.numbers (omega (arith, c.loop-test.true, c.before.before.requires));
+      upto = omega (arith, c.loop-i-test.true);
+      numbers = zeros-next _ _ t.numbers (omega (arith, c.loop-i-test.true, c.requires));
     }
 
-same_length : tie.Need-same-length invariant-loop decreases-loop
+same_length : tie.Need-shape_of-numbers invariant-loop decreases-loop
 same_length c = kept c.before
 
 returns : tie.Need-returns invariant-loop decreases-loop
 returns c =
-    let t = c.before.loop.invariant in
-    let e : c.before.loop.i ≡ c.before.before.args.n = omega (arith, c.loop-test.false, t.upto) in
-    t.numbers ∙ ap (λ (k : ℕ). over (zeros k) c.before.before.args.numbers.now) e
+    let t = c.loop-i.invariant in
+    let e : c.loop-i.i ≡ c.args.n = omega (arith, c.loop-i-test.false, t.upto) in
+    t.numbers ∙ ap (λ (k : ℕ). over (zeros k) c.args.numbers.now) e
 
 pub clear_spec : {M : Type 1} → statement M
 clear_spec =

@@ -15,13 +15,13 @@ use Rattle.lists.proofs.fill.Statement.{statement}
 use Rattle.lists.proofs.fill.Tie as tie
 
 -- where `Filled` held before the loop, it holds now
-abbrev invariant-loop : tie.invariant-loop
+abbrev invariant-loop : tie.invariant-loop-i
 invariant-loop e asked list values₀ numbers₀ pair k n i₀ values numbers i =
     (out : List ℤ) (num : List ℕ) → lists_fit n (length out) (length num) ≡ true
     → Filled (report_at e.pair asked e.card list) n out num i₀ values₀ numbers₀
     → Filled (report_at e.pair asked e.card list) n out num i values numbers
 
-abbrev decreases-loop : tie.decreases-loop
+abbrev decreases-loop : tie.decreases-loop-i
 decreases-loop e asked list values₀ numbers₀ pair k n i₀ values numbers i = n - i
 
 -- the reports of the entries handed in, and their value parts
@@ -44,29 +44,29 @@ room s = lists-fit (length s.args.list.now) (length s.args.values.now) (length s
 clear-requires : tie.Need-clear-requires invariant-loop decreases-loop
 clear-requires c κs = (room c.before.before.before).1
 
-fill-charted-requires : tie.Need-fill-charted-requires invariant-loop decreases-loop
+fill-charted-requires : tie.Need-fill_charted-i-requires invariant-loop decreases-loop
 fill-charted-requires c κs =
-    let s = c.before.before.before.before.before.before.before in (s.requires.0, (even s, ((room s).0, (refl, omega arith))))
+    let s = c in (s.requires.0, (even s.before.before.before.before.before.before.before, ((room s.before.before.before.before.before.before.before).0, (refl, omega arith))))
 
-loop-holds : tie.Need-loop-init invariant-loop decreases-loop
+loop-holds : tie.Need-loop-i-init invariant-loop decreases-loop
 loop-holds c = λ out num h t. t
 
-abbrev start : tie.At-loop invariant-loop decreases-loop → tie.Start invariant-loop decreases-loop
+abbrev start : tie.At-loop-i invariant-loop decreases-loop → tie.Start invariant-loop decreases-loop
 start c = c.before.before.before.before.before.before.before.before.before.before
 
 -- at each turn, of the lists handed in
-filled : (c : tie.At-loop invariant-loop decreases-loop)
+filled : (c : tie.At-loop-i invariant-loop decreases-loop)
     → Filled (reports (start c)) (length (start c).args.list.now) (start c).args.values.now (start c).args.numbers.now
-    c.loop.i c.loop.values c.loop.numbers
+    c.loop-i.i c.loop-i.values c.loop-i.numbers
 filled c =
     let s = start c in
-    c.loop.invariant s.args.values.now s.args.numbers.now (fit s)
+    c.loop-i.invariant s.args.values.now s.args.numbers.now (fit s)
     (filled-first (reports s) (two s) (length s.args.list.now) s.args.values.now s.args.numbers.now (fit s)
-    c.before.before.fill-charted.ensures c.before.before.before.before.before.before.clear.ensures)
+    c.fill_charted-i.ensures c.clear.ensures)
 
 -- as long as they were
-long : (c : tie.At-loop invariant-loop decreases-loop)
-    → (length c.loop.values ≡ length (start c).args.values.now) × (length c.loop.numbers ≡ length (start c).args.numbers.now)
+long : (c : tie.At-loop-i invariant-loop decreases-loop)
+    → (length c.loop-i.values ≡ length (start c).args.values.now) × (length c.loop-i.numbers ≡ length (start c).args.numbers.now)
 long c =
     let s = start c in
     let t = filled c in (
@@ -74,38 +74,38 @@ long c =
       filled-numbers (reports s) (two s) (length s.args.list.now) s.args.values.now s.args.numbers.now (fit s) t,
     )
 
-fill-asked-requires : tie.Need-fill-asked-requires invariant-loop decreases-loop
+fill-asked-requires : tie.Need-fill_asked-i-requires invariant-loop decreases-loop
 fill-asked-requires c κs =
-    let l = c.before.before.before in
-    let s = start l in
-    (s.pre.0.known, (rw ((long l).0, (long l).1) (fit s), ((filled l).even, c.before.before.loop-test.true)))
+    let l = c in
+    let s = start l.before.before.before in
+    (s.requires.0.known, (rw ((long l.before.before.before).0, (long l.before.before.before).1) (fit s), ((filled l.before.before.before).even, c.loop-i-test.true)))
 
-fill-charted-requires-2 : tie.Need-fill-charted-requires-2 invariant-loop decreases-loop
+fill-charted-requires-2 : tie.Need-fill_charted-i-requires-in-loop-i invariant-loop decreases-loop
 fill-charted-requires-2 c κs =
-    let p = c.before.before.before.before in
-    let l = p.before.before.before.before in
-    let s = start l in
-    let a = p.fill-asked.ensures.0 in
-    (s.pre.0, (even s, (omega (arith, a.kept, long l, room s), (a.even, a.upto))))
+    let p = c in
+    let l = p in
+    let s = start l.before.before.before.before.before.before.before.before in
+    let a = p.fill_asked-i.ensures.0 in
+    (s.requires.0, (even s, (omega (arith, a.kept, long l.before.before.before.before.before.before.before.before, room s), (a.even, a.upto))))
 
-loop-less : tie.Need-loop-smaller invariant-loop decreases-loop
+loop-less : tie.Need-loop-i-smaller invariant-loop decreases-loop
 loop-less c =
-    let a = c.before.before.before.before.before.before.fill-asked.ensures.1 in
-    omega (arith, c.before.before.before.before.before.before.before.before.before.loop-test.true, a, c.before.fill-charted2.ensures.past)
+    let a = c.fill_asked-i.ensures.1 in
+    omega (arith, c.loop-i-test.true, a, c.fill_charted-i-in-loop-i.ensures.past)
 
-loop-again : tie.Need-loop-preserved invariant-loop decreases-loop
+loop-again : tie.Need-loop-i-preserved invariant-loop decreases-loop
 loop-again c out num h t =
-    let l = c.before.before.before.before.before.before.before.before.before.before in
-    let s = start l in
+    let l = c in
+    let s = start l.before.before.before.before.before.before.before.before.before.before in
     filled-charted (reports s) (two s) (length s.args.list.now) out num h
-    (filled-asked (reports s) (two s) (length s.args.list.now) out num h (l.loop.invariant out num h t)
-    c.before.before.before.before.before.before.fill-asked.ensures.0)
-    c.before.fill-charted2.ensures
+    (filled-asked (reports s) (two s) (length s.args.list.now) out num h (l.loop-i.invariant out num h t)
+    c.fill_asked-i.ensures.0)
+    c.fill_charted-i-in-loop-i.ensures
 
-same_length : tie.Need-same-length invariant-loop decreases-loop
+same_length : tie.Need-shape_of-values invariant-loop decreases-loop
 same_length c = (long c.before).0
 
-same-length-2 : tie.Need-same-length-2 invariant-loop decreases-loop
+same-length-2 : tie.Need-shape_of-numbers invariant-loop decreases-loop
 same-length-2 c = (long c.before).1
 
 returns : tie.Need-returns invariant-loop decreases-loop
@@ -113,7 +113,7 @@ returns c =
     let s = start c.before in
     let e =
     filled-end (reports s) (two s) (length s.args.list.now) s.args.values.now s.args.numbers.now (fit s) (filled c.before)
-    c.loop-test.false in
+    c.loop-i-test.false in
     (rw (fit s) e.0, rw (fit s) e.1)
 
 pub fill_spec : {M : Type 1} → statement M

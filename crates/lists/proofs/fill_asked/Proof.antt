@@ -14,10 +14,10 @@ use Rattle.lists.proofs.Entries.{even-fit, entry-from, asked-none, asked-next}
 use Rattle.lists.proofs.fill_asked.Statement.{statement}
 use Rattle.lists.proofs.fill_asked.Tie as tie
 
-abbrev invariant-loop : tie.invariant-loop
+abbrev invariant-loop : tie.invariant-loop-i
 invariant-loop pair k asked list values₀ numbers₀ from n i₀ values numbers i = AskedEntries (report_at pair asked k list) n from i values₀ values numbers₀ numbers
 
-abbrev decreases-loop : tie.decreases-loop
+abbrev decreases-loop : tie.decreases-loop-i
 decreases-loop pair k asked list values₀ numbers₀ from n i₀ values numbers i = n - i
 
 -- the reports of the entries handed in, and their value parts
@@ -34,96 +34,96 @@ room : (s : tie.Start invariant-loop decreases-loop)
     → (length s.args.list.now ≤ length s.args.values.now) × (entries (length s.args.list.now) ≤ length s.args.numbers.now)
 room s = lists-fit (length s.args.list.now) (length s.args.values.now) (length s.args.numbers.now) s.requires.1.0
 
-loop-holds : tie.Need-loop-init invariant-loop decreases-loop
+loop-holds : tie.Need-loop-i-init invariant-loop decreases-loop
 loop-holds c =
-    let s = c.before in
-    asked-none (reports s) (two s) (length s.args.list.now) (even s) s.args.from _ _ s.requires.1.1.0 (omega (arith, s.requires.1.1.1))
+    let s = c in
+    asked-none (reports s.before) (two s.before) (length s.args.list.now) (even s.before) s.args.from _ _ s.requires.1.1.0 (omega (arith, s.requires.1.1.1))
 
-entry-at-requires : tie.Need-entry-at-requires invariant-loop decreases-loop
+entry-at-requires : tie.Need-entry_at-x-requires invariant-loop decreases-loop
 entry-at-requires c κs =
-    let s = c.before.before.before in omega (arith, c.loop-test.true, c.before.loop.invariant.even, even s)
+    let s = c in omega (arith, c.loop-i-test.true, c.loop-i.invariant.even, even s.before.before.before)
 
-answer-entry-requires : tie.Need-answer-entry-requires invariant-loop decreases-loop
-answer-entry-requires c κs = c.before.before.before.before.before.before.requires.0
+answer-entry-requires : tie.Need-answer_entry-p-requires invariant-loop decreases-loop
+answer-entry-requires c κs = c.requires.0
 
-put-values-requires : tie.Need-put-values-requires invariant-loop decreases-loop
+put-values-requires : tie.Need-put_values-requires invariant-loop decreases-loop
 put-values-requires c κs =
-    let t = c.before.before.before.before.before.before.before in
-    let r = t.before.loop.invariant in
-    let s = t.before.before.before in
-    omega (arith, t.loop-test.true, r.even, r.kept, even s, room s)
+    let t = c in
+    let r = t.loop-i.invariant in
+    let s = t in
+    omega (arith, t.loop-i-test.true, r.even, r.kept, even s.before.before.before.before.before.before.before.before.before.before, room s.before.before.before.before.before.before.before.before.before.before)
 
-put-number-requires : tie.Need-put-number-requires invariant-loop decreases-loop
+put-number-requires : tie.Need-put_number-requires invariant-loop decreases-loop
 put-number-requires c κs =
-    let t = c.before.before.before.before.before.before.before.before.before.before in
-    let r = t.before.loop.invariant in
-    let s = t.before.before.before in
-    omega (arith, t.loop-test.true, r.even, r.kept, even s, room s)
+    let t = c in
+    let r = t.loop-i.invariant in
+    let s = t in
+    omega (arith, t.loop-i-test.true, r.even, r.kept, even s.before.before.before.before.before.before.before.before.before.before.before.before.before, room s.before.before.before.before.before.before.before.before.before.before.before.before.before)
 
 -- the turn, once the card was asked
-abbrev turn : tie.After-put-number invariant-loop decreases-loop → tie.In-loop invariant-loop decreases-loop
+abbrev turn : tie.After-put_number invariant-loop decreases-loop → tie.In-loop-i invariant-loop decreases-loop
 turn c = c.before.before.before.before.before.before.before.before.before.before.before
 
-abbrev begun : tie.After-put-number invariant-loop decreases-loop → tie.Start invariant-loop decreases-loop
-begun c = (turn c).before.before.before
+abbrev begun : tie.After-put_number invariant-loop decreases-loop → tie.Start invariant-loop decreases-loop
+begun c = c.before.before.before.before.before.before.before.before.before.before.before.before.before.before
 
 -- what the card told of the entry
-told : (c : tie.After-put-number invariant-loop decreases-loop)
-    → entry_told c.before.before.before.before.before.before.before.answer-entry.result ≡ reports (begun c) (entries (turn c).before.loop.i)
+told : (c : tie.After-put_number invariant-loop decreases-loop)
+    → entry_told c.answer_entry-p.result ≡ reports (begun c) (entries (turn c).loop-i.i)
 told c =
     let s = begun c in
-    let l = (turn c).before.loop in
-    let x = c.before.before.before.before.before.before.before.before.before.before.entry_at in
-    c.before.before.before.before.before.before.before.answer-entry.ensures
+    let l = (turn c).loop-i in
+    let x = c.entry_at-x in
+    c.answer_entry-p.ensures
     ∙ pair-asked (asked_report s.args.pair s.args.asked s.args.k) {u = x.result.first} {v = x.result.second}
-    (record { sfits = c.before.before.before.before.before.before.before.before.before.struct_told.given.0.1 })
-    (record { sfits = c.before.before.before.before.before.before.before.before.struct-told2.given.1.0.1 })
+    (record { sfits = c.struct_told-1.given.0.1 })
+    (record { sfits = c.struct_told-in-loop-i-1.given.1.0.1 })
     ∙ ap (λ (y : Entry). asked_report s.args.pair s.args.asked s.args.k y.first y.second)
-    (x.ensures ∙ entry-from s.args.list.now l.i l.inv.even)
+    (x.ensures ∙ entry-from s.args.list.now l.i l.invariant.even)
 
 -- past that entry
-put : (c : tie.After-put-number invariant-loop decreases-loop)
-    → AskedEntries (reports (begun c)) (length (begun c).args.list.now) (begun c).args.from ((turn c).before.loop.i + 2)
-    (begun c).args.values.now c.before.before.before.put-values.new.0 (begun c).args.numbers.now c.put-number.new.0
+put : (c : tie.After-put_number invariant-loop decreases-loop)
+    → AskedEntries (reports (begun c)) (length (begun c).args.list.now) (begun c).args.from ((turn c).loop-i.i + 2)
+    (begun c).args.values.now c.put_values.new.list (begun c).args.numbers.now c.put_number.new.numbers
 put c =
     let s = begun c in
-    let p = c.before.before.before.before.before.before.before.answer-entry.result in
-    asked-next (reports s) (two s) (length s.args.list.now) (even s) (turn c).before.loop.invariant (turn c).loop-test.true
+    let p = c.answer_entry-p.result in
+    asked-next (reports s) (two s) (length s.args.list.now) (even s) (turn c).loop-i.invariant (turn c).loop-i-test.true
     p.first p.second p.number
-    (record { sfits = c.before.before.before.before.before.struct-told3.given.1.1.0.1 })
-    (record { sfits = c.before.before.before.before.struct-told4.given.1.1.1.0.1 })
+    (record { sfits = c.struct_told-in-loop-i-2-1.given.1.1.0.1 })
+    (record { sfits = c.struct_told-in-loop-i-3-1.given.1.1.1.0.1 })
     (sym (ap (λ (r : Report). r.values) (told c))) (sym (ap (λ (r : Report). r.number) (told c)))
-    c.before.before.before.put-values.ensures c.put-number.ensures
+    c.put_values.ensures c.put_number.ensures
 
-add-i : tie.Need-overflow-add-i invariant-loop decreases-loop
-add-i c = let p = c.before.before in omega (arith, (turn p).loop-test.true, (begun p).well-formed)
+add-i : tie.Need-overflow_add-i invariant-loop decreases-loop
+add-i c = let p = c in omega (arith, (turn p.before.before).loop-i-test.true, (begun p.before.before).well_formed)
 
-same_length : tie.Need-same-length invariant-loop decreases-loop
+same_length : tie.Need-shape_of-values-then-p-eq0 invariant-loop decreases-loop
 same_length c = (put c.before.before.before.before).kept.0
 
-same-length-2 : tie.Need-same-length-2 invariant-loop decreases-loop
+same-length-2 : tie.Need-shape_of-numbers-then-p-eq0 invariant-loop decreases-loop
 same-length-2 c = (put c.before.before.before.before).kept.1
 
-returns : tie.Need-returns invariant-loop decreases-loop
-returns c = let r = put c.before.before.before.before in (r, omega (arith, (turn c.before.before.before.before).before.loop.inv.past))
+returns : tie.Need-returns-then-p-eq0 invariant-loop decreases-loop
+returns c = let r = put c.before.before.before.before in (r, omega (arith, (turn c.before.before.before.before).loop-i.invariant.past))
 
-loop-less : tie.Need-loop-smaller invariant-loop decreases-loop
-loop-less c = omega (arith, (turn c.before.before.before.before).loop-test.taken)
+loop-less : tie.Need-loop-i-smaller invariant-loop decreases-loop
+loop-less c = omega (arith, (turn c.before.before.before.before).loop-i-test.true)
 
-loop-again : tie.Need-loop-preserved invariant-loop decreases-loop
+loop-again : tie.Need-loop-i-preserved invariant-loop decreases-loop
 loop-again c = put c.before.before.before.before
 
-same-length-3 : tie.Need-same-length-3 invariant-loop decreases-loop
-same-length-3 c = c.before.loop.invariant.kept.0
+same-length-3 : tie.Need-shape_of-values invariant-loop decreases-loop
+same-length-3 c = c.loop-i.invariant.kept.0
 
-same-length-4 : tie.Need-same-length-4 invariant-loop decreases-loop
-same-length-4 c = c.before.loop.invariant.kept.1
+same-length-4 : tie.Need-shape_of-numbers invariant-loop decreases-loop
+same-length-4 c = c.loop-i.invariant.kept.1
 
-returns-2 : tie.Need-returns-2 invariant-loop decreases-loop
-returns-2 c = (c.before.loop.invariant, omega (arith, c.loop-test.false, c.before.before.before.requires.1.1.1))
+returns-2 : tie.Need-returns invariant-loop decreases-loop
+returns-2 c = (c.loop-i.invariant, omega (arith, c.loop-i-test.false, c.requires.1.1.1))
 
-pub fill-asked-spec : {M : Type 1} → statement M
-fill-asked-spec =
+pub fill_asked_spec : {M : Type 1} → statement M
+fill_asked_spec =
     tie.close
     (tie.spec invariant-loop decreases-loop loop-holds entry-at-requires answer-entry-requires put-values-requires put-number-requires add-i same_length same-length-2
     returns loop-less loop-again same-length-3 same-length-4 returns-2)

@@ -9,27 +9,27 @@ use borrow.Author.Rules.{rules}
 use Rattle.origin.proofs.align.Statement.{statement}
 use Rattle.origin.proofs.align.Tie as tie
 
-spaced : (c : tie.After-known-told)
-    → spacing_for_writing c.before.before.before.before.args.series
-    ≡ SpacingAnswer.Constants c.before.a.given.0.0 c.before.a.given.0.1.0
-spaced c = sym c.before.before.before.spacing-for-writing.ensures ∙ c.before.a.given.1
+spaced : (c : tie.In-Constants)
+    → spacing_for_writing c.args.series
+    ≡ SpacingAnswer.Constants c.in-Constants.a c.in-Constants.b
+spaced c = sym c.spacing_for_writing.ensures ∙ c.in-Constants.is
 
-align-in-requires : tie.Need-align-in-requires
+align-in-requires : tie.Need-align_in-requires
 align-in-requires c κs =
-    let s = c.before.before.before.before in
+    let s = c in
     let g = writing-grids s.args.series _ _ (spaced c) in
     (g.columns, g.rows)
 
-returns : tie.Need-returns
+returns : tie.Need-returns-in-Constants
 returns c =
-    let s = c.before.before.before.before.before in
+    let s = c in
     rw (spaced c.before)
-    (rw (to_z-of_z w64 s.args.lat s.ranges.lat, to_z-of_z w64 s.args.lon s.ranges.lon) at c.align-in.ensures)
+    (rw (to_z-of_z w64 s.args.lat s.ranges.lat, to_z-of_z w64 s.args.lon s.ranges.lon) at c.align_in.ensures)
 
-returns-2 : tie.Need-returns-2
-returns-2 c = rw (sym c.before.before.before.spacing-for-writing.ensures ∙ c.before.r.given.1)
+returns-2 : tie.Need-returns-in-Refused
+returns-2 c = rw (sym c.spacing_for_writing.ensures ∙ c.in-Refused.is)
 
-pub align-spec : {M : Type 1} → statement M
-align-spec =
+pub align_spec : {M : Type 1} → statement M
+align_spec =
     tie.close
     (tie.spec (λ c κs. search rules) (λ c. search rules) align-in-requires (λ c. search rules) returns returns-2)

@@ -36,49 +36,49 @@ same : {n n' m m' p p' l l' : ℤ} → n ≡ n' → m ≡ m' → p ≡ p' → l 
     → ◌≡◌ {A = Origin} (record { n = n; m = m; pso = p; lso = l }) (record { n = n'; m = m'; pso = p'; lso = l' })
 same e f g h = cc
 
-mul-rows : tie.Need-overflow-mul-rows
+mul-rows : tie.Need-overflow_mul-rows
 mul-rows c = fits-mul 64800000 80076800 tt c.requires.1.1.0 c.requires.1.0.most
 
-add-rows : tie.Need-overflow-add-rows
+add-rows : tie.Need-overflow_add-rows
 add-rows c = omega (arith, mul-le-mul c.requires.1.1.0 c.requires.1.0.most)
 
-mul-columns : tie.Need-overflow-mul-columns
+mul-columns : tie.Need-overflow_mul-columns
 mul-columns c = fits-mul 129600000 80076800 tt c.requires.1.1.1 c.requires.0.most
 
-cast-difference : tie.Need-overflow-cast-difference
+cast-difference : tie.Need-overflow_cast-rows
 cast-difference c = omega (arith, rows-high c.before.before)
 
-cast-difference-3 : tie.Need-overflow-cast-difference-3
+cast-difference-3 : tie.Need-overflow_cast-columns
 cast-difference-3 c = omega (arith, columns-high c.before.before.before)
 
-cast-difference-5 : tie.Need-overflow-cast-difference-5
+cast-difference-5 : tie.Need-overflow_cast-pso
 cast-difference-5 c =
-    let s = c.before.before.before.before in
-    let e = from-near _ _ c.before.before.before.stored_at.ensures (few s.requires.1.0 (omega (arith, rows-high s))) in
-    omega (arith, stored-high (rows s) _ (rows-high s))
+    let s = c in
+    let e = from-near _ _ c.stored_at-pso.ensures (few s.requires.1.0 (omega (arith, rows-high s.before.before.before.before))) in
+    omega (arith, stored-high (rows s.before.before.before.before) _ (rows-high s.before.before.before.before))
 
-cast-difference-6 : tie.Need-overflow-cast-difference-6
+cast-difference-6 : tie.Need-overflow_cast-lso
 cast-difference-6 c =
-    let s = c.before.before.before.before.before in
-    let e = from-near _ _ c.before.before.before.stored-at2.ensures (few s.requires.0 (columns-high s)) in
-    omega (arith, stored-high (columns s) _ (columns-high s))
+    let s = c in
+    let e = from-near _ _ c.stored_at-lso.ensures (few s.requires.0 (columns-high s.before.before.before.before.before)) in
+    omega (arith, stored-high (columns s.before.before.before.before.before) _ (columns-high s.before.before.before.before.before))
 
 returns : tie.Need-returns
 unfolding origin_of
 returns c =
-    let s = c.before.before.before.before.before.before in
-    let n = row_is (rows s) (pos s.args.north -ℤ pos quarter) s.args.north (is-difference s.args.north quarter) in
-    let m = column-is (columns s) (pos s.args.east -ℤ pos half) s.args.east (is-difference s.args.east half) in
-    let pso = from-near _ _ c.before.before.before.before.before.stored_at.ensures (few s.requires.1.0 (omega (arith, rows-high s))) in
-    let lso = from-near _ _ c.before.before.before.before.stored-at2.ensures (few s.requires.0 (columns-high s)) in
+    let s = c in
+    let n = row_is (rows s.before.before.before.before.before.before) (pos s.args.north -ℤ pos quarter) s.args.north (is-difference s.args.north quarter) in
+    let m = column-is (columns s.before.before.before.before.before.before) (pos s.args.east -ℤ pos half) s.args.east (is-difference s.args.east half) in
+    let pso = from-near _ _ c.stored_at-pso.ensures (few s.requires.1.0 (omega (arith, rows-high s.before.before.before.before.before.before))) in
+    let lso = from-near _ _ c.stored_at-lso.ensures (few s.requires.0 (columns-high s.before.before.before.before.before.before)) in
     same
-    (told _ _ c.before.before.before.difference.type-inv c.before.before.before.difference.ensures n)
-    (told _ _ c.before.before.difference2.type-inv c.before.before.difference2.ensures m)
-    (told _ _ c.before.difference3.type-inv (c.before.difference3.ensures ∙ ap (λ (v : ℕ). pos v -ℤ pos quarter) pso) (stored_is (rows s) _ _ n))
-    (told _ _ c.difference4.type-inv (c.difference4.ensures ∙ ap (λ (v : ℕ). pos v -ℤ pos half) lso) (stored_is (columns s) _ _ m))
+    (told _ _ c.difference.type_inv c.difference.ensures n)
+    (told _ _ c.difference-2.type_inv c.difference-2.ensures m)
+    (told _ _ c.difference-3.type_inv (c.difference-3.ensures ∙ ap (λ (v : ℕ). pos v -ℤ pos quarter) pso) (stored_is (rows s.before.before.before.before.before.before) _ _ n))
+    (told _ _ c.difference-4.type_inv (c.difference-4.ensures ∙ ap (λ (v : ℕ). pos v -ℤ pos half) lso) (stored_is (columns s.before.before.before.before.before.before) _ _ m))
 
-pub origin-at-spec : {M : Type 1} → statement M
-origin-at-spec =
+pub origin_at_spec : {M : Type 1} → statement M
+origin_at_spec =
     tie.close
     (tie.spec mul-rows (λ c. search rules) add-rows mul-columns (λ c κs. search rules) (λ c κs. search rules) cast-difference (λ c. search rules)
     (λ c κs. search rules) cast-difference-3 (λ c. search rules) (λ c κs. search rules) cast-difference-5 (λ c κs. search rules) cast-difference-6

@@ -8,12 +8,12 @@ use borrow.Author.Rules.{rules}
 use Rattle.origin.proofs.stored_at.Statement.{statement}
 use Rattle.origin.proofs.stored_at.Tie as tie
 
-returns : tie.Need-returns
+returns : tie.Need-returns-then-tiles-gt-H
 unfolding stored_from
-returns c = rw (lt-ltb circle c.before.args.tiles c.if1.true)
+returns c = rw (lt-ltb circle c.args.tiles c.if-tiles-gt-H.true)
 
-returns-2 : tie.Need-returns-2
-returns-2 c = c.nearest.ensures ∙ sym (from-near _ _ refl c.before.if1.false)
+returns-2 : tie.Need-returns
+returns-2 c = c.nearest.ensures ∙ sym (from-near _ _ refl c.if-tiles-gt-H.false)
 
-pub stored-at-spec : {M : Type 1} → statement M
-stored-at-spec = tie.close (tie.spec returns (λ c. search rules) (λ c κs. search rules) returns-2)
+pub stored_at_spec : {M : Type 1} → statement M
+stored_at_spec = tie.close (tie.spec returns (λ c. search rules) (λ c κs. search rules) returns-2)

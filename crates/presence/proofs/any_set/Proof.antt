@@ -5,11 +5,11 @@ use borrow.Author.Rules.{rules}
 use Rattle.presence.proofs.any_set.Statement.{statement}
 use Rattle.presence.proofs.any_set.Tie as tie
 
-returns : tie.Need-returns
-returns c = sym (set_past c.before.args.words.now c.before.args.tile _ c.if1.true)
+returns : tie.Need-returns-then-words-word
+returns c = sym (set_past c.args.words.now c.args.tile _ c.if-words-word.true)
 
-returns-2 : tie.Need-returns-2
-returns-2 c = sym (set_rest c.before.before.args.words.now c.before.before.args.tile (c.shared-slice-known.given _).fits)
+returns-2 : tie.Need-returns
+returns-2 c = sym (set_rest c.args.words.now c.args.tile (c.shared_slice_known-1.given _).fits)
 
-pub any-set-spec : {M : Type 1} → statement M
-any-set-spec = tie.close (tie.spec returns (λ c. search rules) (λ c. search rules) (λ c. search rules) returns-2)
+pub any_set_spec : {M : Type 1} → statement M
+any_set_spec = tie.close (tie.spec returns (λ c. search rules) (λ c. search rules) (λ c. search rules) returns-2)

@@ -5,8 +5,8 @@ use borrow.Author.Rules.{rules}
 use Rattle.presence.proofs.bit.Statement.{statement}
 use Rattle.presence.proofs.bit.Tie as tie
 
-returns : tie.Need-returns
-returns c = sym (present-past c.before.args.words.now c.before.args.tile c.if1.true)
+returns : tie.Need-returns-then-words-word
+returns c = sym (present-past c.args.words.now c.args.tile c.if-words-word.true)
 
-pub bit-spec : {M : Type 1} → statement M
-bit-spec = tie.close (tie.spec returns (λ c. search rules) (λ c. search rules) (λ c. search rules) (λ c. search rules))
+pub bit_spec : {M : Type 1} → statement M
+bit_spec = tie.close (tie.spec returns (λ c. search rules) (λ c. search rules) (λ c. search rules) (λ c. search rules))

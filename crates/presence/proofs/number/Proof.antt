@@ -8,23 +8,23 @@ use Rattle.presence.proofs.number.Statement.{statement}
 use Rattle.presence.proofs.number.Tie as tie
 
 -- the bit is set
-set : (c : tie.Else1) → present c.before.before.before.args.words.now c.before.before.before.args.tile ≡ 0 → ⊥
-set c e = c.if1.false (c.before.bit.ensures ∙ e)
+set : (c : tie.Else-bit-eq0) → present c.args.words.now c.args.tile ≡ 0 → ⊥
+set c e = c.if-bit-eq0.false (c.bit.ensures ∙ e)
 
-returns : tie.Need-returns
-returns c = sym (number-none c.before.before.before.args.words.now c.before.before.before.args.tile
-    (sym c.before.bit.ensures ∙ c.if1.true))
+returns : tie.Need-returns-then-bit-eq0
+returns c = sym (number-none c.args.words.now c.args.tile
+    (sym c.bit.ensures ∙ c.if-bit-eq0.true))
 
-ones-to-requires : tie.Need-ones-to-requires
+ones-to-requires : tie.Need-ones_to-requires
 ones-to-requires c κs = (
-  c.before.before.before.ranges.tile.fits,
-  present-in c.before.before.before.args.words.now
-      c.before.before.before.args.tile (set c),
+  c.ranges.tile.fits,
+  present-in c.args.words.now
+      c.args.tile (set c),
 )
 
-returns-2 : tie.Need-returns-2
-returns-2 c = c.ones-to.ensures ∙ sym (number-some c.before.before.before.before.args.words.now c.before.before.before.before.args.tile
+returns-2 : tie.Need-returns
+returns-2 c = c.ones_to.ensures ∙ sym (number-some c.args.words.now c.args.tile
     (set c.before))
 
-pub number-spec : {M : Type 1} → statement M
-number-spec = tie.close (tie.spec (λ c κs. search rules) returns ones-to-requires returns-2)
+pub number_spec : {M : Type 1} → statement M
+number_spec = tie.close (tie.spec (λ c κs. search rules) returns ones-to-requires returns-2)

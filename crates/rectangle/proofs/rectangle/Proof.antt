@@ -8,22 +8,22 @@ use borrow.Author.Rules.{rules}
 use Rattle.rectangle.proofs.rectangle.Statement.{statement}
 use Rattle.rectangle.proofs.rectangle.Tie as tie
 
-rectangle-at-requires : tie.Need-rectangle-at-requires
-rectangle-at-requires c κs = let a = c.before.before.before.before.args in
+rectangle-at-requires : tie.Need-rectangle_at-requires
+rectangle-at-requires c κs = let a = c.args in
     rows-of a.scale a.factor _
-    (sym c.before.before.before.b-constant.ensures ∙ c.before.b.given.1)
+    (sym c.b_constant.ensures ∙ c.in-Pixels.is)
 
-returns : tie.Need-returns
-returns c = let s = c.before.before.before.before.before in
-    rw (sym c.before.before.before.before.b-constant.ensures ∙ c.before.before.b.given.1)
-    (c.rectangle-at.ensures
-    ∙ ap₂ (rectangle_at c.before.before.b.given.0.0)
+returns : tie.Need-returns-in-Pixels
+returns c = let s = c in
+    rw (sym c.b_constant.ensures ∙ c.in-Pixels.is)
+    (c.rectangle_at.ensures
+    ∙ ap₂ (rectangle_at c.in-Pixels.b)
     (to_z-of_z w64 s.args.south s.ranges.south) (to_z-of_z w64 s.args.north s.ranges.north))
 
-returns-2 : tie.Need-returns-2
-returns-2 c = rw (sym c.before.before.before.before.b-constant.ensures ∙ c.before.before.r.given.1) c.no-rectangle.ensures
+returns-2 : tie.Need-returns-in-Refused
+returns-2 c = rw (sym c.b_constant.ensures ∙ c.in-Refused.is) c.no_rectangle.ensures
 
-pub rectangle-spec : {M : Type 1} → statement M
-rectangle-spec =
+pub rectangle_spec : {M : Type 1} → statement M
+rectangle_spec =
     tie.close
     (tie.spec (λ c κs. search rules) (λ c. search rules) rectangle-at-requires (λ c. search rules) (λ c κs. search rules) returns returns-2)

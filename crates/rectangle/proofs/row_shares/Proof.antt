@@ -17,38 +17,38 @@ use Rattle.rectangle.proofs.row_shares.Tie as tie
 sooner : (low i limit : ℕ) (h : i < 9) → limit ≡ to (row_at i) → ltb low (to (row_at i)) || is_polar (row_at i).northern ≡ ltb low limit || eqb i 8
 sooner low i limit h e = rw (e, polar-at i h)
 
-returns : tie.Need-returns
+returns : tie.Need-returns-then-high-equatorward
 unfolding shares_row
-returns c = rw (sym c.before.equatorward.ensures, le-ltb _ _ c.if1.true)
+returns c = rw (sym c.equatorward.ensures, le-ltb _ _ c.if-high-equatorward.true)
 
-returns-2 : tie.Need-returns-2
+returns-2 : tie.Need-returns-then-low-to
 unfolding shares_row
 returns-2 c =
-    let a = c.before.before.before.before.args in
+    let a = c.args in
     rw (
-      sym c.before.before.before.equatorward.ensures,
-      lt-ltb _ _ c.before.before.if1.false,
-      sooner a.low a.row _ c.before.before.before.before.requires.1.0 c.before.poleward.ensures ∙ c.if2.true,
+      sym c.equatorward.ensures,
+      lt-ltb _ _ c.if-high-equatorward.false,
+      sooner a.low a.row _ c.requires.1.0 c.poleward-to.ensures ∙ c.if-low-to.true,
     )
 
-mul-result : tie.Need-overflow-mul-result
+mul-result : tie.Need-overflow_mul-result
 mul-result c =
-    fits-mul half 80076800 tt (omega (arith, c.less.ensures, c.before.before.before.before.before.requires.1.1))
-    c.before.before.before.before.before.requires.0.most
+    fits-mul half 80076800 tt (omega (arith, c.less.ensures, c.requires.1.1))
+    c.requires.0.most
 
-returns-3 : tie.Need-returns-3
+returns-3 : tie.Need-returns
 unfolding shares_row
 returns-3 c =
-    let a = c.before.before.before.before.before.args in
+    let a = c.args in
     rw (
-      sym c.before.before.before.before.equatorward.ensures,
-      lt-ltb _ _ c.before.before.before.if1.false,
-      sooner a.low a.row _ c.before.before.before.before.before.requires.1.0 c.before.before.poleward.ensures
-          ∙ c.before.if2.false,
+      sym c.equatorward.ensures,
+      lt-ltb _ _ c.if-high-equatorward.false,
+      sooner a.low a.row _ c.requires.1.0 c.poleward-to.ensures
+          ∙ c.if-low-to.false,
     )
-    (ap (λ (n : ℕ). ltb (n * a.b) (1024 * circle)) (c.less.ensures ∙ ap (λ (n : ℕ). a.low - n) c.before.before.poleward.ensures))
+    (ap (λ (n : ℕ). ltb (n * a.b) (1024 * circle)) (c.less.ensures ∙ ap (λ (n : ℕ). a.low - n) c.poleward-to.ensures))
 
-pub row-shares-spec : {M : Type 1} → statement M
-row-shares-spec =
+pub row_shares_spec : {M : Type 1} → statement M
+row_shares_spec =
     tie.close
     (tie.spec (λ c κs. search rules) returns (λ c κs. search rules) returns-2 (λ c κs. search rules) mul-result returns-3)

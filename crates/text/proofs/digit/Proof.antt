@@ -4,7 +4,7 @@ use Rattle.text.proofs.digit.Statement.{statement}
 use Rattle.text.proofs.digit.Tie as tie
 
 returns : tie.Need-returns
-returns c = omega (arith, c.wrapping-sub-u8.ensures)
+returns c = omega (arith, c.wrapping_sub_u8.ensures)
 
-pub digit-spec : {M : Type 1} → statement M
-digit-spec = tie.close (tie.spec (λ c κs. search rules) (λ c. search rules) returns)
+pub digit_spec : {M : Type 1} → statement M
+digit_spec = tie.close (tie.spec (λ c κs. search rules) (λ c. search rules) returns)

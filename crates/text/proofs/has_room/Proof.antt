@@ -11,11 +11,11 @@ shift n o w h = go (leb o (n - w)) refl
     go true e = let l = leb-true o (n - w) e in sym (le-leb (o + w) n (omega arith))
     go false e = let l = leb-false o (n - w) e in sym (lt-leb (o + w) n (omega arith))
 
-returns : tie.Need-returns
-returns c = let a = c.before.args in sym (lt-leb (a.o + a.w) a.n (omega arith))
+returns : tie.Need-returns-then-n-w
+returns c = let a = c.args in sym (lt-leb (a.o + a.w) a.n (omega arith))
 
-returns-2 : tie.Need-returns-2
-returns-2 c = let a = c.before.args in shift a.n a.o a.w (omega arith)
+returns-2 : tie.Need-returns
+returns-2 c = let a = c.args in shift a.n a.o a.w (omega arith)
 
-pub has-room-spec : {M : Type 1} → statement M
-has-room-spec = tie.close (tie.spec returns returns-2)
+pub has_room_spec : {M : Type 1} → statement M
+has_room_spec = tie.close (tie.spec returns returns-2)

@@ -4,53 +4,53 @@ use Rattle.text.proofs.Splices.{put_is, put-none, no_room, room, Ending, ending-
 use Rattle.text.proofs.put_bytes.Statement.{statement}
 use Rattle.text.proofs.put_bytes.Tie as tie
 
-abbrev invariant-loop : tie.invariant-loop
+abbrev invariant-loop : tie.invariant-loop-j
 invariant-loop out₀ o x j₀ out j = Ending x out₀ o out j
 
-abbrev decreases-loop : tie.decreases-loop
+abbrev decreases-loop : tie.decreases-loop-j
 decreases-loop out₀ o x j₀ out j = j
 
-returns : tie.Need-returns invariant-loop decreases-loop
+returns : tie.Need-returns-then-not-has_room invariant-loop decreases-loop
 returns c =
-    let a = c.before.before.before.before.args in
-    put-none a.x.now a.o a.out.now (no_room _ _ c.before.has_room.ensures c.if1.true)
+    let a = c.args in
+    put-none a.x.now a.o a.out.now (no_room _ _ c.has_room.ensures c.if-not-has_room.true-raw)
 
-loop-holds : tie.Need-loop-init invariant-loop decreases-loop
+loop-holds : tie.Need-loop-j-init invariant-loop decreases-loop
 loop-holds c =
-    let a = c.before.before.before.before.args in
-    let fits = room _ _ c.before.has_room.ensures c.if1.false in
+    let a = c.args in
+    let fits = room _ _ c.has_room.ensures c.if-not-has_room.false-raw in
     ending-none a.x.now a.out.now a.o fits
 
-sub-j : tie.Need-overflow-sub-j invariant-loop decreases-loop
+sub-j : tie.Need-overflow_sub-j invariant-loop decreases-loop
 sub-j c = omega arith
 
-shared-slice-read-out : tie.Need-shared-slice-read-out invariant-loop decreases-loop
-shared-slice-read-out c = omega (arith, c.before.before.loop.invariant.within)
+shared-slice-read-out : tie.Need-bounds-x-j invariant-loop decreases-loop
+shared-slice-read-out c = omega (arith, c.loop-j.invariant.within)
 
-add-out : tie.Need-overflow-add-out invariant-loop decreases-loop
-add-out c = omega (arith, c.before.before.loop.invariant.within, c.before.before.loop.invariant.fits)
+add-out : tie.Need-overflow_add-out invariant-loop decreases-loop
+add-out c = omega (arith, c.loop-j.invariant.within, c.loop-j.invariant.fits)
 
-slice-write-out : tie.Need-slice-write-out invariant-loop decreases-loop
-slice-write-out c = let p = c.before.before.loop.invariant in
+slice-write-out : tie.Need-bounds-out-o invariant-loop decreases-loop
+slice-write-out c = let p = c.loop-j.invariant in
     omega (arith, p.within, p.fits, ending-length p)
 
-loop-less : tie.Need-loop-smaller invariant-loop decreases-loop
+loop-less : tie.Need-loop-j-smaller invariant-loop decreases-loop
 loop-less c = omega arith
 
-loop-again : tie.Need-loop-preserved invariant-loop decreases-loop
-loop-again c = ending-next c.before.before.loop.invariant _ c.before.loop-test.true refl
+loop-again : tie.Need-loop-j-preserved invariant-loop decreases-loop
+loop-again c = ending-next c.loop-j.invariant _ c.loop-j-test.true refl
 
-add-result : tie.Need-overflow-add-result invariant-loop decreases-loop
-add-result c = omega (arith, c.before.loop.invariant.fits)
+add-result : tie.Need-overflow_add-result invariant-loop decreases-loop
+add-result c = omega (arith, c.loop-j.invariant.fits)
 
-same_length : tie.Need-same-length invariant-loop decreases-loop
-same_length c = ending-length c.before.loop.invariant
+same_length : tie.Need-shape_of-out invariant-loop decreases-loop
+same_length c = ending-length c.loop-j.invariant
 
-returns-2 : tie.Need-returns-2 invariant-loop decreases-loop
-returns-2 c = put_is (ending-all c.before.loop.invariant (omega arith))
+returns-2 : tie.Need-returns invariant-loop decreases-loop
+returns-2 c = put_is (ending-all c.loop-j.invariant (omega arith))
 
-pub put-bytes-spec : {M : Type 1} → statement M
-put-bytes-spec =
+pub put_bytes_spec : {M : Type 1} → statement M
+put_bytes_spec =
     tie.close
     (tie.spec invariant-loop decreases-loop (λ c κs. search rules) returns loop-holds sub-j shared-slice-read-out add-out slice-write-out loop-less loop-again
     add-result same_length returns-2)

@@ -6,18 +6,18 @@ use Rattle.tiles.proofs.Entry.{tiles-small, index-long, said_in, said_all}
 use Rattle.tiles.proofs.index_says.Statement.{statement}
 use Rattle.tiles.proofs.index_says.Tie as tie
 
-add-t6 : tie.Need-overflow-add-t6
-add-t6 c = omega (arith, tiles-small _ c.before.before.before.requires.0)
+add-t6 : tie.Need-overflow_add-result
+add-t6 c = omega (arith, tiles-small _ c.requires.0)
 
-returns : tie.Need-returns
-returns c = sym (said_all _ _ _ _ (not-true _ c.if1.true))
+returns : tie.Need-returns-then-not-k
+returns c = sym (said_all _ _ _ _ (not-true _ c.if-not-k.true))
 
-entry-says-requires : tie.Need-entry-says-requires
+entry-says-requires : tie.Need-entry_says-requires
 entry-says-requires c κs =
-    omega (arith, index-long _ _ _ c.before.before.before.requires.1.0 (not-false _ c.if1.false))
+    omega (arith, index-long _ _ _ c.requires.1.0 (not-false _ c.if-not-k.false))
 
-returns-2 : tie.Need-returns-2
-returns-2 c = c.entry-says.ensures ∙ sym (said_in _ _ _ _ (not-false _ c.before.if1.false))
+returns-2 : tie.Need-returns
+returns-2 c = c.entry_says.ensures ∙ sym (said_in _ _ _ _ (not-false _ c.if-not-k.false))
 
-pub index-says-spec : {M : Type 1} → statement M
-index-says-spec = tie.close (tie.spec add-t6 returns entry-says-requires returns-2)
+pub index_says_spec : {M : Type 1} → statement M
+index_says_spec = tie.close (tie.spec add-t6 returns entry-says-requires returns-2)

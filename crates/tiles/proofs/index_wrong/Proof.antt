@@ -5,16 +5,16 @@ use Rattle.tiles.specs.Index.{index_wrong}
 use Rattle.tiles.proofs.index_wrong.Statement.{statement}
 use Rattle.tiles.proofs.index_wrong.Tie as tie
 
-mul-tiles : tie.Need-overflow-mul-tiles
-mul-tiles c = let l = known-laid _ c.before.requires in fits-mul 999 999 tt l.down-most l.across-most
+mul-tiles : tie.Need-overflow_mul-tiles
+mul-tiles c = let l = known-laid _ c.requires in fits-mul 999 999 tt l.down-most l.across-most
 
-returns : tie.Need-returns
+returns : tie.Need-returns-then-k
 unfolding index_wrong
-returns c = rw c.if1.true
+returns c = rw c.if-k.true
 
-returns-2 : tie.Need-returns-2
+returns-2 : tie.Need-returns
 unfolding index_wrong
-returns-2 c = rw c.if1.false
+returns-2 c = rw c.if-k.false
 
-pub index-wrong-spec : {M : Type 1} → statement M
-index-wrong-spec = tie.close (tie.spec mul-tiles returns returns-2)
+pub index_wrong_spec : {M : Type 1} → statement M
+index_wrong_spec = tie.close (tie.spec mul-tiles returns returns-2)

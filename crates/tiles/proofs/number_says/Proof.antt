@@ -4,14 +4,14 @@ use Rattle.tiles.proofs.Entry.{said-missing, said-above, said-stored}
 use Rattle.tiles.proofs.number_says.Statement.{statement}
 use Rattle.tiles.proofs.number_says.Tie as tie
 
-returns : tie.Need-returns
-returns c = sym (said-missing _ _ c.if1.true)
+returns : tie.Need-returns-then-n-eq0
+returns c = sym (said-missing _ _ c.if-n-eq0.true)
 
-returns-2 : tie.Need-returns-2
-returns-2 c = sym (said-above _ _ c.before.if1.false c.if2.true)
+returns-2 : tie.Need-returns-then-count-n
+returns-2 c = sym (said-above _ _ c.if-n-eq0.false c.if-count-n.true)
 
-returns-3 : tie.Need-returns-3
-returns-3 c = sym (said-stored _ _ c.before.if1.false c.if2.false)
+returns-3 : tie.Need-returns
+returns-3 c = sym (said-stored _ _ c.if-n-eq0.false c.if-count-n.false)
 
-pub number-says-spec : {M : Type 1} → statement M
-number-says-spec = tie.close (tie.spec returns returns-2 returns-3)
+pub number_says_spec : {M : Type 1} → statement M
+number_says_spec = tie.close (tie.spec returns returns-2 returns-3)

@@ -10,34 +10,34 @@ use borrow.Author.Rules.{rules}
 use Rattle.whole.proofs.count_from.Statement.{statement}
 use Rattle.whole.proofs.count_from.Tie as tie
 
-sub-if1 : tie.Need-overflow-sub-if1
+sub-if1 : tie.Need-overflow_sub-k
 sub-if1 c = rw (negated c.args.limit c.ranges.limit.fits) (negated_fits c.args.limit c.ranges.limit.fits)
 
-inside : (c : tie.Then1) → outside c.before.args.limit c.before.args.z ≡ false
+inside : (c : tie.Then-not-z-k) → outside c.args.limit c.args.z ≡ false
 inside c =
-    let s = c.before in
+    let s = c in
     ap₂ ◌||◌ (low-test s.args.limit s.ranges.limit.fits s.args.z s.ranges.z refl)
     (high-test s.args.limit s.ranges.limit.fits s.args.z s.ranges.z refl)
-    ∙ not-true _ c.if1.true
+    ∙ not-true _ c.if-not-z-k.true-raw
 
-add-t9 : tie.Need-overflow-add-t9
-add-t9 c = let s = c.before in sum_fits s.args.limit s.ranges.limit.fits s.args.z s.ranges.z (inside c)
+add-t9 : tie.Need-overflow_add-result
+add-t9 c = let s = c in sum_fits s.args.limit s.ranges.limit.fits s.args.z s.ranges.z (inside c)
 
-cast-t10 : tie.Need-overflow-cast-t10
-cast-t10 c = let s = c.before in sum-casts s.args.limit s.ranges.limit.fits s.args.z s.ranges.z (inside c)
+cast-t10 : tie.Need-overflow_cast-result
+cast-t10 c = let s = c in sum-casts s.args.limit s.ranges.limit.fits s.args.z s.ranges.z (inside c)
 
-returns : tie.Need-returns
-returns c = let s = c.before in
+returns : tie.Need-returns-then-not-z-k
+returns c = let s = c in
     rw (inside c) (ap (λ (x : ℤ). From (nat_abs x)) (sum_is s.args.limit s.ranges.limit.fits s.args.z s.ranges.z (inside c)))
 
-returns-2 : tie.Need-returns-2
+returns-2 : tie.Need-returns
 returns-2 c =
-    let s = c.before in
+    let s = c in
     rw (ap₂ ◌||◌ (low-test s.args.limit s.ranges.limit.fits s.args.z s.ranges.z refl)
     (high-test s.args.limit s.ranges.limit.fits s.args.z s.ranges.z refl)
-    ∙ not-false _ c.if1.false)
+    ∙ not-false _ c.if-not-z-k.false-raw)
 
-pub count-from-spec : {M : Type 1} → statement M
-count-from-spec =
+pub count_from_spec : {M : Type 1} → statement M
+count_from_spec =
     tie.close
     (tie.spec (λ c. search rules) sub-if1 add-t9 cast-t10 returns returns-2)

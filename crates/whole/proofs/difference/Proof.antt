@@ -7,7 +7,7 @@ use borrow.Author.Rules.{rules}
 use Rattle.whole.proofs.difference.Statement.{statement}
 use Rattle.whole.proofs.difference.Tie as tie
 
-sub-result : tie.Need-overflow-sub-result
+sub-result : tie.Need-overflow_sub-result
 sub-result c = rw (minus-plain c.args.a c.args.b c.ranges.a.fits c.ranges.b.fits)
     (minus-fits c.args.a c.args.b c.ranges.a.fits c.ranges.b.fits)
 
@@ -16,7 +16,7 @@ returns c =
     rw (minus-plain c.args.a c.args.b c.ranges.a.fits c.ranges.b.fits)
     (to_z-of_z w64 (pos c.args.a -ℤ pos c.args.b) (minus-fits c.args.a c.args.b c.ranges.a.fits c.ranges.b.fits))
 
-pub difference-spec : {M : Type 1} → statement M
-difference-spec =
+pub difference_spec : {M : Type 1} → statement M
+difference_spec =
     tie.close
     (tie.spec (λ c. search rules) (λ c. search rules) sub-result returns)

@@ -41,23 +41,23 @@ none : (x d : ℕ) → d ≡ 0 → near x d ≡ 0
 unfolding near
 none x d e = ap (near x) e ∙ div-zero (2 * x + 0)
 
-some : (c : tie.Else1) → 0 < c.before.args.d
-some c = omega (arith, c.if1.false)
+some : (c : tie.Else-d-eq0) → 0 < c.args.d
+some c = omega (arith, c.if-d-eq0.false)
 
-answer : (c : tie.Else1) → let a = c.before.args in Rounds a.x a.d (a.x / a.d + bool_byte (leb (a.d - a.x % a.d) (a.x % a.d)))
+answer : (c : tie.Else-d-eq0) → let a = c.args in Rounds a.x a.d (a.x / a.d + bool_byte (leb (a.d - a.x % a.d) (a.x % a.d)))
 answer c = rounds _ _ (some c) _ refl
 
-returns : tie.Need-returns
-returns c = sym (none c.before.args.x c.before.args.d c.if1.true)
+returns : tie.Need-returns-then-d-eq0
+returns c = sym (none c.args.x c.args.d c.if-d-eq0.true)
 
-sub-result : tie.Need-overflow-sub-result
-sub-result c = omega (arith, mod-lt c.before.args.x (some c))
+sub-result : tie.Need-overflow_sub-result
+sub-result c = omega (arith, mod-lt c.args.x (some c))
 
-add-result : tie.Need-overflow-add-result
-add-result c = omega (arith, c.before.ranges.x.fits, (answer c).most)
+add-result : tie.Need-overflow_add-result
+add-result c = omega (arith, c.ranges.x.fits, (answer c).most)
 
-returns-2 : tie.Need-returns-2
+returns-2 : tie.Need-returns
 returns-2 c = (answer c).same
 
-pub nearest-spec : {M : Type 1} → statement M
-nearest-spec = tie.close (tie.spec returns (λ c. search rules) (λ c. search rules) sub-result (λ c. search rules) add-result returns-2)
+pub nearest_spec : {M : Type 1} → statement M
+nearest_spec = tie.close (tie.spec returns (λ c. search rules) (λ c. search rules) sub-result (λ c. search rules) add-result returns-2)

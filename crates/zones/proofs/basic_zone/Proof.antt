@@ -6,17 +6,17 @@ use borrow.Author.Rules.{rules}
 use Rattle.zones.proofs.basic_zone.Statement.{statement}
 use Rattle.zones.proofs.basic_zone.Tie as tie
 
-returns : tie.Need-returns
-returns c = let s = c.before.before.before.before in
-    let l = located-at s.args.lat s.ranges.lat c.before.before.before.locate.ensures c.before.zone.given.1 in
+returns : tie.Need-returns-in-At
+returns c = let s = c in
+    let l = located-at s.args.lat s.ranges.lat c.locate.ensures c.in-At.is in
     rw l.test (ap ZoneAnswer.Zone l.is-zone)
 
-returns-2 : tie.Need-returns-2
-returns-2 c = let s = c.before.before.before.before in
-    rw (located-outside s.args.lat s.ranges.lat c.before.before.before.locate.ensures c.before.enum_told.given.1)
+returns-2 : tie.Need-returns-in-Outside
+returns-2 c = let s = c in
+    rw (located-outside s.args.lat s.ranges.lat c.locate.ensures c.in-Outside.is)
     (ap ZoneAnswer.Refused c.refused.ensures)
 
-pub basic-zone-spec : {M : Type 1} → statement M
-basic-zone-spec =
+pub basic_zone_spec : {M : Type 1} → statement M
+basic_zone_spec =
     tie.close
     (tie.spec (λ c κs. search rules) (λ c. search rules) (λ c. search rules) (λ c κs. search rules) returns returns-2)

@@ -18,9 +18,9 @@ ninety d = go (eqb d 90) refl
     go false e = ne_eqb (d * 360000) 32400000 (λ h. eqb-false d 90 e (omega arith))
 
 returns : tie.Need-returns
-returns c = rw (c.equatorward.ensures, c.before.poleward.ensures, ninety (row_at c.before.before.args.row).poleward)
+returns c = rw (c.equatorward.ensures, c.poleward-to.ensures, ninety (row_at c.args.row).poleward)
 
-pub holds-spec : {M : Type 1} → statement M
-holds-spec =
+pub holds_spec : {M : Type 1} → statement M
+holds_spec =
     tie.close
     (tie.spec (λ c κs. search rules) (λ c κs. search rules) returns)

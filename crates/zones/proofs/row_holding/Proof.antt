@@ -8,37 +8,37 @@ use borrow.Author.Rules.{rules}
 use Rattle.zones.proofs.row_holding.Statement.{statement}
 use Rattle.zones.proofs.row_holding.Tie as tie
 
-abbrev invariant-loop : tie.invariant-loop
+abbrev invariant-loop : tie.invariant-loop-row
 invariant-loop size row₀ row = row ≤ (place size).at
 
-abbrev decreases-loop : tie.decreases-loop
+abbrev decreases-loop : tie.decreases-loop-row
 decreases-loop size row₀ row = 9 - row
 
-loop-holds : tie.Need-loop-init invariant-loop decreases-loop
+loop-holds : tie.Need-loop-row-init invariant-loop decreases-loop
 loop-holds c = omega arith
 
-passed : (c : tie.Else1 invariant-loop decreases-loop) → c.before.before.before.loop.row < (place c.before.before.before.before.args.size).at
-passed c = let l = c.before.before.before.loop in
-    before-place c.before.before.before.before.args.size l.row l.invariant (sym c.before.holds.ensures ∙ c.if1.false)
+passed : (c : tie.Else-holds invariant-loop decreases-loop) → c.loop-row.row < (place c.args.size).at
+passed c = let l = c.loop-row in
+    before-place c.args.size l.row l.invariant (sym c.holds.ensures ∙ c.if-holds.false)
 
-add_row : tie.Need-overflow-add-row invariant-loop decreases-loop
+add_row : tie.Need-overflow_add-row invariant-loop decreases-loop
 add_row c = omega arith
 
-loop-less : tie.Need-loop-smaller invariant-loop decreases-loop
+loop-less : tie.Need-loop-row-smaller invariant-loop decreases-loop
 loop-less c = omega arith
 
-loop-again : tie.Need-loop-preserved invariant-loop decreases-loop
+loop-again : tie.Need-loop-row-preserved invariant-loop decreases-loop
 loop-again c = omega (arith, passed c)
 
-returns : tie.Need-returns invariant-loop decreases-loop
-returns c = absurd (omega (arith, c.loop-test.false, c.before.loop.invariant, (place c.before.before.args.size).in_list))
+returns : tie.Need-returns-after-loop-row invariant-loop decreases-loop
+returns c = absurd (omega (arith, c.loop-row-test.false, c.loop-row.invariant, (place c.args.size).in_list))
 
-returns-2 : tie.Need-returns-2 invariant-loop decreases-loop
-returns-2 c = let z = c.before.before.before.before.args.size in
-    let l = c.before.before.before.loop in
-    omega (arith, northern-is z, holds-only z l.row (omega arith) (sym c.before.holds.ensures ∙ c.if1.true))
+returns-2 : tie.Need-returns-then-holds invariant-loop decreases-loop
+returns-2 c = let z = c.args.size in
+    let l = c.loop-row in
+    omega (arith, northern-is z, holds-only z l.row (omega arith) (sym c.holds.ensures ∙ c.if-holds.true))
 
-pub row-holding-spec : {M : Type 1} → statement M
-row-holding-spec =
+pub row_holding_spec : {M : Type 1} → statement M
+row_holding_spec =
     tie.close
     (tie.spec invariant-loop decreases-loop loop-holds (λ c κs. search rules) add_row loop-less loop-again returns returns-2)

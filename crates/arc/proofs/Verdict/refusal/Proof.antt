@@ -3,10 +3,10 @@ use borrow.Author.Rules.{rules}
 use Rattle.arc.proofs.Verdict.refusal.Statement.{statement}
 use Rattle.arc.proofs.Verdict.refusal.Tie as tie
 
-returns : tie.Need-returns
-returns c = rw c.enum_told.given.1
+returns : tie.Need-returns-in-Accepted
+returns c = rw c.in-Accepted.is
 
-pub refusal-spec : {M : Type 1} → statement M
-refusal-spec =
+pub refusal_spec : {M : Type 1} → statement M
+refusal_spec =
     tie.close
     (tie.spec (λ c. search rules) (λ c. search rules) returns (λ c. search rules))

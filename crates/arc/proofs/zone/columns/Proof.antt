@@ -15,10 +15,10 @@ use Rattle.arc.proofs.zone.columns.Tie as tie
 arm : (j : ℕ) → T (ltb j 9) → (s : ℕ) {zone x : ℕ} → x ≡ spacing_at (row_at j).unit s → (zone ≡ 1 + j) ⊎ (zone ≡ 10 + j) → Pixels x ≡ columns_of s zone
 arm j h s {zone} e w = ap Pixels e ∙ sym (ap (columns_in s) (zone-row j (lit< h) zone w))
 
-returns-10 : tie.Need-returns-10
+returns-10 : tie.Need-returns-in_default
 returns-10 c =
-    let r = c.before.match.rest in
-    let z = c.before.before.args.zone in
+    let r = c.in_default.in_default-own.rest in
+    let z = c.args.zone in
     rw (
       neither 1 10 z r.0.0.0.0.0.0.0.0.1,
       neither 2 11 z r.0.0.0.0.0.0.0.1,
@@ -37,8 +37,8 @@ columns_spec =
     tie.close
     (tie.spec (λ c κs. search rules) (λ c κs. search rules) (λ c κs. search rules) (λ c κs. search rules) (λ c κs. search rules)
     (λ c κs. search rules) (λ c κs. search rules) (λ c κs. search rules) (λ c κs. search rules) (λ c κs. search rules)
-    (λ c. arm 0 tt _ c.spacing.ensures c.before.match.keys1) (λ c. arm 1 tt _ c.spacing2.ensures c.before.match.keys2)
-    (λ c. arm 2 tt _ c.spacing3.ensures c.before.match.keys3) (λ c. arm 3 tt _ c.spacing4.ensures c.before.match.keys4)
-    (λ c. arm 4 tt _ c.spacing5.ensures c.before.match.keys5) (λ c. arm 5 tt _ c.spacing6.ensures c.before.match.keys6)
-    (λ c. arm 6 tt _ c.spacing7.ensures c.before.match.keys7) (λ c. arm 7 tt _ c.spacing8.ensures c.before.match.keys8)
-    (λ c. arm 8 tt _ c.spacing9.ensures c.before.match.keys9) returns-10)
+    (λ c. arm 0 tt _ c.spacing.ensures c.in-1.is) (λ c. arm 1 tt _ c.spacing-in-2.ensures c.in-2.is)
+    (λ c. arm 2 tt _ c.spacing-in-3.ensures c.in-3.is) (λ c. arm 3 tt _ c.spacing-in-4.ensures c.in-4.is)
+    (λ c. arm 4 tt _ c.spacing-in-5.ensures c.in-5.is) (λ c. arm 5 tt _ c.spacing-in-6.ensures c.in-6.is)
+    (λ c. arm 6 tt _ c.spacing-in-7.ensures c.in-7.is) (λ c. arm 7 tt _ c.spacing-in-8.ensures c.in-8.is)
+    (λ c. arm 8 tt _ c.spacing-in-9.ensures c.in-9.is) returns-10)

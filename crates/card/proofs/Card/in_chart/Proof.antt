@@ -6,21 +6,21 @@ use Rattle.card.proofs.Laid.{known-laid}
 use Rattle.card.proofs.Card.in_chart.Statement.{statement}
 use Rattle.card.proofs.Card.in_chart.Tie as tie
 
-cast-result : tie.Need-overflow-cast-result
-cast-result c = record { sfits = omega (arith, known-laid _ c.before.requires) }
+cast-result : tie.Need-overflow_cast-result
+cast-result c = record { sfits = omega (arith, known-laid _ c.requires) }
 
-cast-result-2 : tie.Need-overflow-cast-result-2
-cast-result-2 c = record { sfits = omega (arith, known-laid _ c.before.before.requires) }
+cast-result-2 : tie.Need-overflow_cast-result-2
+cast-result-2 c = record { sfits = omega (arith, known-laid _ c.requires) }
 
-cast-result-3 : tie.Need-overflow-cast-result-3
-cast-result-3 c = record { sfits = omega (arith, known-laid _ c.before.before.before.requires) }
+cast-result-3 : tie.Need-overflow_cast-result-3
+cast-result-3 c = record { sfits = omega (arith, known-laid _ c.requires) }
 
-cast-result-4 : tie.Need-overflow-cast-result-4
-cast-result-4 c = record { sfits = omega (arith, known-laid _ c.before.before.before.before.requires) }
+cast-result-4 : tie.Need-overflow_cast-result-4
+cast-result-4 c = record { sfits = omega (arith, known-laid _ c.requires) }
 
 returns : tie.Need-returns
 returns c =
-    let s = c.before.before.before.before in
+    let s = c in
     let k = s.args.self in
     let z = known-laid k s.requires in
     rw (
@@ -32,5 +32,5 @@ returns c =
       to_z_pos w64 k.nus (omega (arith, z)),
     )
 
-pub in-chart-spec : {M : Type 1} → statement M
-in-chart-spec = tie.close (tie.spec cast-result cast-result-2 cast-result-3 cast-result-4 returns)
+pub in_chart_spec : {M : Type 1} → statement M
+in_chart_spec = tie.close (tie.spec cast-result cast-result-2 cast-result-3 cast-result-4 returns)

@@ -7,21 +7,21 @@ use Rattle.card.proofs.Laid.{known-laid}
 use Rattle.card.proofs.Card.in_tiles.Statement.{statement}
 use Rattle.card.proofs.Card.in_tiles.Tie as tie
 
-mul-result : tie.Need-overflow-mul-result
-mul-result c = omega (arith, known-laid _ c.before.requires)
+mul-result : tie.Need-overflow_mul-result
+mul-result c = omega (arith, known-laid _ c.requires)
 
-cast-result : tie.Need-overflow-cast-result
-cast-result c = record { sfits = omega (arith, known-laid _ c.before.requires) }
+cast-result : tie.Need-overflow_cast-result
+cast-result c = record { sfits = omega (arith, known-laid _ c.requires) }
 
-mul-result-2 : tie.Need-overflow-mul-result-2
-mul-result-2 c = omega (arith, known-laid _ c.before.before.requires)
+mul-result-2 : tie.Need-overflow_mul-result-2
+mul-result-2 c = omega (arith, known-laid _ c.requires)
 
-cast-result-2 : tie.Need-overflow-cast-result-2
-cast-result-2 c = record { sfits = omega (arith, known-laid _ c.before.before.requires) }
+cast-result-2 : tie.Need-overflow_cast-result-2
+cast-result-2 c = record { sfits = omega (arith, known-laid _ c.requires) }
 
 returns : tie.Need-returns
 returns c =
-    let s = c.before.before in
+    let s = c in
     let k = s.args.self in
     let z = known-laid k s.requires in
     rw (
@@ -31,5 +31,5 @@ returns c =
       to_z_pos w64 (128 * k.nfc) (omega (arith, z.across-most)),
     )
 
-pub in-tiles-spec : {M : Type 1} → statement M
-in-tiles-spec = tie.close (tie.spec mul-result cast-result mul-result-2 cast-result-2 returns)
+pub in_tiles_spec : {M : Type 1} → statement M
+in_tiles_spec = tie.close (tie.spec mul-result cast-result mul-result-2 cast-result-2 returns)

@@ -17,30 +17,30 @@ asked : (s : tie.Start) (P : ℤ → ℤ → Bool) {x t : Bool} → x ≡ P (to_
     → P s.args.row s.args.column ≡ t
 asked s P = tested P s.args.row s.args.column s.ranges.row s.ranges.column
 
-returns : tie.Need-returns
+returns : tie.Need-returns-then-in_chart
 returns c =
-    let s = c.before.before in
+    let s = c in
     let k = s.args.self in
-    let chart = asked s (in_chart k) c.before.in-chart.ensures c.if1.true in
+    let chart = asked s.before.before (in_chart k) c.in_chart.ensures c.if-in_chart.true in
     rw (chart-tiles k s.args.row s.args.column (known-laid k s.requires) chart, chart)
 
-returns-2 : tie.Need-returns-2
+returns-2 : tie.Need-returns-then-in_tiles
 returns-2 c =
-    let s = c.before.before.before.before.before in
+    let s = c in
     let k = s.args.self in
     rw (
-      asked s (in_tiles k) c.before.before.in-tiles.ensures c.before.if2.true,
-      asked s (in_chart k) c.before.before.before.before.in-chart.ensures c.before.before.before.if1.false,
+      asked s.before.before.before.before.before (in_tiles k) c.in_tiles.ensures c.if-in_tiles.true,
+      asked s.before.before.before.before.before (in_chart k) c.in_chart.ensures c.if-in_chart.false,
     )
     (ap Verdict.Refused c.refused.ensures)
 
-returns-3 : tie.Need-returns-3
+returns-3 : tie.Need-returns
 returns-3 c =
-    let s = c.before.before.before.before.before in
-    rw (asked s (in_tiles s.args.self) c.before.before.in-tiles.ensures c.before.if2.false)
-    (ap Verdict.Refused c.refused2.ensures)
+    let s = c in
+    rw (asked s.before.before.before.before.before (in_tiles s.args.self) c.in_tiles.ensures c.if-in_tiles.false)
+    (ap Verdict.Refused c.refused-2.ensures)
 
-pub judge-pixel-spec : {M : Type 1} → statement M
-judge-pixel-spec =
+pub judge_pixel_spec : {M : Type 1} → statement M
+judge_pixel_spec =
     tie.close
     (tie.spec (λ c κs. search rules) returns (λ c κs. search rules) (λ c κs. search rules) returns-2 (λ c κs. search rules) returns-3)

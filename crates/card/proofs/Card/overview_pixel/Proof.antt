@@ -17,19 +17,19 @@ answered : (s : tie.Start) {x y : PositionAnswer}
     → x ≡ y → position_of Pair.Corner s.args.self s.args.row s.args.column ≡ y
 answered s e f = sym (e ∙ pair-asked (position_of Pair.Corner s.args.self) s.ranges.row s.ranges.column) ∙ f
 
-returns : tie.Need-returns
+returns : tie.Need-returns-in-At
 unfolding overview_pixel_of
 returns c =
-    let s = c.before.before.before.before.before in
-    let f = c.before.known-told.given in
-    rw (answered s c.before.before.before.before.position_in.ensures c.before.before.lat.given.1)
-    (c.pixel-in.ensures ∙ pair-asked (pixel_of Pair.Corner s.args.overview) (record { sfits = f.0.1 }) (record { sfits = f.1.0.1 }))
+    let s = c in
+    let f = c.in-At.known_told-1-own.given in
+    rw (answered s.before.before.before c.position_in.ensures c.in-At.is)
+    (c.pixel_in.ensures ∙ pair-asked (pixel_of Pair.Corner s.args.overview) (record { sfits = f.0.1 }) (record { sfits = f.1.0.1 }))
 
-returns-2 : tie.Need-returns-2
+returns-2 : tie.Need-returns-in-Refused
 unfolding overview_pixel_of
-returns-2 c = rw (answered c.before.before.before.before c.before.before.before.position_in.ensures c.before.r.given.1)
+returns-2 c = rw (answered c.before.before c.position_in.ensures c.in-Refused.is)
 
-pub overview-pixel-spec : {M : Type 1} → statement M
-overview-pixel-spec =
+pub overview_pixel_spec : {M : Type 1} → statement M
+overview_pixel_spec =
     tie.close
     (tie.spec (λ c κs. search rules) (λ c. search rules) (λ c κs. search rules) (λ c. search rules) returns returns-2)

@@ -9,8 +9,8 @@ use Rattle.card.proofs.Card.pixel.Tie as tie
 
 returns : tie.Need-returns
 returns c =
-    let s = c.before in
-    c.pixel-in.ensures ∙ pair-asked (pixel_of Pair.Centre s.args.self) s.ranges.lat s.ranges.lon
+    let s = c in
+    c.pixel_in.ensures ∙ pair-asked (pixel_of Pair.Centre s.args.self) s.ranges.lat s.ranges.lon
 
-pub pixel-spec : {M : Type 1} → statement M
-pixel-spec = tie.close (tie.spec (λ c κs. search rules) returns)
+pub pixel_spec : {M : Type 1} → statement M
+pixel_spec = tie.close (tie.spec (λ c κs. search rules) returns)

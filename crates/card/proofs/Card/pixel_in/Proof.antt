@@ -8,37 +8,37 @@ use borrow.Author.Rules.{rules}
 use Rattle.card.proofs.Card.pixel_in.Statement.{statement}
 use Rattle.card.proofs.Card.pixel_in.Tie as tie
 
-counts : (c : tie.After-known-told)
-    → let s = c.before.before.before.before in Counts s.args.lat s.args.lon c.before.north.given.0.0 c.before.north.given.0.1.0
+counts : (c : tie.In-At)
+    → let s = c in Counts s.args.lat s.args.lon c.in-At.north c.in-At.east
 counts c =
-    let s = c.before.before.before in ranged-at _ _ s.before.ranges.lat s.before.ranges.lon s.count-position.ensures c.before.north.given.1
+    let s = c in ranged-at _ _ s.ranges.lat s.ranges.lon s.count_position.ensures c.in-At.is
 
-row-at-requires : tie.Need-row-at-requires
-row-at-requires c κs = (c.before.before.before.before.requires, (counts c).rows.high)
+row-at-requires : tie.Need-row_at-requires
+row-at-requires c κs = (c.requires, (counts c).rows.high)
 
-column-at-requires : tie.Need-column-at-requires
-column-at-requires c κs = (c.before.before.before.before.before.requires, (counts c.before).columns.high)
+column-at-requires : tie.Need-column_at-requires
+column-at-requires c κs = (c.requires, (counts c.before).columns.high)
 
-returns : tie.Need-returns
+returns : tie.Need-returns-in-At
 unfolding pixel_of
 returns c =
-    let s = c.before.before.before.before.before.before.before in
+    let s = c in
     let k = s.args.self in
     let pair = s.args.pair in
     let i = counts c.before.before.before in
     rw (i.rows.test, i.columns.test)
-    (c.pixel-at.ensures
+    (c.pixel_at.ensures
     ∙ ap₂ (pixel_at k)
-    (result-is c.before.before.row_at.type-inv (c.before.before.row_at.ensures ∙ ap (row_of pair k) i.rows.same))
-    (result-is c.before.column-at.type-inv (c.before.column-at.ensures ∙ ap (column_of pair k) i.columns.same)))
+    (result-is c.row_at.type_inv (c.row_at.ensures ∙ ap (row_of pair k) i.rows.same))
+    (result-is c.column_at.type_inv (c.column_at.ensures ∙ ap (column_of pair k) i.columns.same)))
 
-returns-2 : tie.Need-returns-2
+returns-2 : tie.Need-returns-in-Refused
 unfolding pixel_of
 returns-2 c =
-    ranged-refused _ _ c.before.before.before.before.ranges.lat c.before.before.before.before.ranges.lon
-    c.before.before.before.count-position.ensures PixelAnswer.Refused _ c.before.r.given.1
+    ranged-refused _ _ c.ranges.lat c.ranges.lon
+    c.count_position.ensures PixelAnswer.Refused _ c.in-Refused.is
 
-pub pixel-in-spec : {M : Type 1} → statement M
-pixel-in-spec =
+pub pixel_in_spec : {M : Type 1} → statement M
+pixel_in_spec =
     tie.close
     (tie.spec (λ c κs. search rules) (λ c. search rules) row-at-requires column-at-requires (λ c κs. search rules) (λ c. search rules) returns returns-2)

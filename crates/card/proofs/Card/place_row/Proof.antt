@@ -11,26 +11,26 @@ use borrow.Author.Rules.{rules}
 use Rattle.card.proofs.Card.place_row.Statement.{statement}
 use Rattle.card.proofs.Card.place_row.Tie as tie
 
-sub-difference : tie.Need-overflow-sub-difference
-sub-difference c = omega (arith, known-laid _ c.before.requires.0)
+sub-difference : tie.Need-overflow_sub-self
+sub-difference c = omega (arith, known-laid _ c.requires.0)
 
-cast-difference : tie.Need-overflow-cast-difference
-cast-difference c = omega (arith, known-laid _ c.before.requires.0)
+cast-difference : tie.Need-overflow_cast-self
+cast-difference c = omega (arith, known-laid _ c.requires.0)
 
-cast-difference-2 : tie.Need-overflow-cast-difference-2
-cast-difference-2 c = omega (arith, known-laid _ c.before.before.requires.0)
+cast-difference-2 : tie.Need-overflow_cast-self-2
+cast-difference-2 c = omega (arith, known-laid _ c.requires.0)
 
 returns : tie.Need-returns
 returns c =
-    let s = c.before.before.before in
+    let s = c in
     let k = s.args.self in
     let r = s.args.row in
     let l = known-laid k s.requires.0 in
-    told (k.north - r) (k.b / 4) c.difference.type-inv c.difference.ensures
+    told (k.north - r) (k.b / 4) c.difference.type_inv c.difference.ensures
     (is_same (place_row k (pos r)) (k.north - r) (128 * (k.b / 512)) (k.north - r) (k.b / 4)
     (row_is k l r (omega (arith, known-laid k s.requires.0))) (omega (arith, l.rows.whole)))
 
-pub place-row-spec : {M : Type 1} → statement M
-place-row-spec =
+pub place_row_spec : {M : Type 1} → statement M
+place_row_spec =
     tie.close
     (tie.spec sub-difference cast-difference cast-difference-2 (λ c κs. search rules) returns)

@@ -9,8 +9,8 @@ use Rattle.card.proofs.Card.position.Tie as tie
 
 returns : tie.Need-returns
 returns c =
-    let s = c.before in
+    let s = c in
     c.position_in.ensures ∙ pair-asked (position_of Pair.Centre s.args.self) s.ranges.row s.ranges.column
 
-pub position-spec : {M : Type 1} → statement M
-position-spec = tie.close (tie.spec (λ c κs. search rules) returns)
+pub position_spec : {M : Type 1} → statement M
+position_spec = tie.close (tie.spec (λ c κs. search rules) returns)

@@ -12,51 +12,51 @@ use Rattle.card.proofs.Card.position_in.Statement.{statement}
 use Rattle.card.proofs.Card.position_in.Tie as tie
 
 -- what the verdict tells where it accepts
-inside : (c : tie.After-enum-told)
-    → PixelInside c.before.before.before.args.self c.before.before.before.args.row c.before.before.before.args.column
+inside : (c : tie.In-Accepted)
+    → PixelInside c.args.self c.args.row c.args.column
 inside c =
-    let s = c.before.before.before in
-    judged-inside s.args.self _ _ s.ranges.row s.ranges.column c.before.before.judge-pixel.ensures c.enum_told.given.1
+    let s = c in
+    judged-inside s.args.self _ _ s.ranges.row s.ranges.column c.judge_pixel.ensures c.in-Accepted.is
 
-cast-latitude : tie.Need-overflow-cast-latitude
+cast-latitude : tie.Need-overflow_cast-row
 cast-latitude c =
-    let s = c.before.before.before in
+    let s = c in
     cast_fits _ s.args.row s.ranges.row (inside c).row (omega (arith, known-laid _ s.requires))
 
 latitude-requires : tie.Need-latitude-requires
-latitude-requires c κs = let s = c.before.before.before in (s.requires, cast-below _ s.args.row s.ranges.row (inside c).row)
+latitude-requires c κs = let s = c in (s.requires, cast-below _ s.args.row s.ranges.row (inside c).row)
 
-cast-longitude : tie.Need-overflow-cast-longitude
+cast-longitude : tie.Need-overflow_cast-column
 cast-longitude c =
-    let s = c.before.before.before.before in
+    let s = c in
     cast_fits _ s.args.column s.ranges.column (inside c.before).column (omega (arith, known-laid _ s.requires))
 
 longitude-requires : tie.Need-longitude-requires
 longitude-requires c κs =
-    let s = c.before.before.before.before in (s.requires, cast-below _ s.args.column s.ranges.column (inside c.before).column)
+    let s = c in (s.requires, cast-below _ s.args.column s.ranges.column (inside c.before).column)
 
-returns : tie.Need-returns
+returns : tie.Need-returns-in-Accepted
 unfolding position_of
 returns c =
-    let s = c.before.before.before.before.before in
+    let s = c in
     let k = s.args.self in
     let pair = s.args.pair in
     let i = inside c.before.before in
     ap₂ PositionAnswer.At
-    (result-is c.before.latitude.type-inv (c.before.latitude.ensures ∙ ap (latitude_of pair k) (cast_same _ s.args.row s.ranges.row i.row)))
-    (result-is c.longitude.type-inv (c.longitude.ensures ∙ ap (longitude_of pair k) (cast_same _ s.args.column s.ranges.column i.column)))
-    ∙ judged-answered k _ _ s.ranges.row s.ranges.column c.before.before.before.before.judge-pixel.ensures PositionAnswer.Refused _
-    c.before.before.enum_told.given.1
+    (result-is c.latitude.type_inv (c.latitude.ensures ∙ ap (latitude_of pair k) (cast_same _ s.args.row s.ranges.row i.row)))
+    (result-is c.longitude.type_inv (c.longitude.ensures ∙ ap (longitude_of pair k) (cast_same _ s.args.column s.ranges.column i.column)))
+    ∙ judged-answered k _ _ s.ranges.row s.ranges.column c.judge_pixel.ensures PositionAnswer.Refused _
+    c.in-Accepted.is
 
-returns-2 : tie.Need-returns-2
+returns-2 : tie.Need-returns-in-Refused
 unfolding position_of
 returns-2 c =
-    let s = c.before.before.before.before in
-    judged-refused s.args.self _ _ s.ranges.row s.ranges.column c.before.before.before.judge-pixel.ensures
-    PositionAnswer.Refused _ c.before.r.given.1
+    let s = c in
+    judged-refused s.args.self _ _ s.ranges.row s.ranges.column c.judge_pixel.ensures
+    PositionAnswer.Refused _ c.in-Refused.is
 
-pub position-in-spec : {M : Type 1} → statement M
-position-in-spec =
+pub position_in_spec : {M : Type 1} → statement M
+position_in_spec =
     tie.close
     (tie.spec (λ c κs. search rules) (λ c. search rules) cast-latitude latitude-requires cast-longitude longitude-requires (λ c. search rules)
     returns returns-2)

@@ -4,9 +4,9 @@ use borrow.Author.Rules.{rules}
 use Rattle.card.proofs.OffsetAnswer.into_parts.Statement.{statement}
 use Rattle.card.proofs.OffsetAnswer.into_parts.Tie as tie
 
-returns-2 : tie.Need-returns-2
+returns-2 : tie.Need-returns-in-Refused
 unfolding of_int of_bits
-returns-2 c = rw c.before.self2.given.1
+returns-2 c = rw c.in-Refused.is
 
-pub into-parts-spec : {M : Type 1} → statement M
-into-parts-spec = tie.close (tie.spec (λ c. search rules) (λ c. search rules) (λ c. rw c.before.self.given.1) returns-2)
+pub into_parts_spec : {M : Type 1} → statement M
+into_parts_spec = tie.close (tie.spec (λ c. search rules) (λ c. search rules) (λ c. rw c.in-At.is) returns-2)

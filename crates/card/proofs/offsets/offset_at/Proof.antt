@@ -15,26 +15,26 @@ use borrow.Author.Rules.{rules}
 use Rattle.card.proofs.offsets.offset_at.Statement.{statement}
 use Rattle.card.proofs.offsets.offset_at.Tie as tie
 
-rows : (c : tie.After-difference) → to_z w64 (of_z w64 c.difference.result) ≡ pos c.before.args.north -ℤ pos c.before.args.cnorth
-rows c = result-is c.difference.type-inv c.difference.ensures
+rows : (c : tie.After-difference-rows) → to_z w64 (of_z w64 c.difference-rows.result) ≡ pos c.args.north -ℤ pos c.args.cnorth
+rows c = result-is c.difference-rows.type_inv c.difference-rows.ensures
 
-columns : (c : tie.After-short-way)
-    → to_z w64 (of_z w64 c.short-way.result) ≡ into_range (pos c.before.before.args.east -ℤ pos c.before.before.args.ceast)
-columns c = result-is c.short-way.type-inv c.short-way.ensures
+columns : (c : tie.After-short_way-columns)
+    → to_z w64 (of_z w64 c.short_way-columns.result) ≡ into_range (pos c.args.east -ℤ pos c.args.ceast)
+columns c = result-is c.short_way-columns.type_inv c.short_way-columns.ensures
 
 same : {x x' y y' : Float} → x ≡ x' → y ≡ y' → ◌≡◌ {A = Offset} (record { lat = x; lon = y }) (record { lat = x'; lon = y' })
 same e f = cc
 
-int-to-float-t9 : tie.Need-int-to-float-t9
+int-to-float-t9 : tie.Need-int_to_float-result
 int-to-float-t9 c =
-    let a = c.before.before.before.args in
+    let a = c.args in
     let z : ℤ = pos a.north -ℤ pos a.cnorth in
     rw (rows c.before.before)
-    (in-float z (omega (arith, is-size z a.north a.cnorth (is-difference a.north a.cnorth), c.before.before.before.requires)))
+    (in-float z (omega (arith, is-size z a.north a.cnorth (is-difference a.north a.cnorth), c.requires)))
 
-int-to-float-t10 : tie.Need-int-to-float-t10
+int-to-float-t10 : tie.Need-int_to_float-result-2
 int-to-float-t10 c =
-    let s = c.before.before.before.before in
+    let s = c in
     let z : ℤ = pos s.args.east -ℤ pos s.args.ceast in
     rw (columns c.before.before)
     (in-float (into_range z) (short-size z s.args.east s.args.ceast s.requires.1.1.1 (is-difference s.args.east s.args.ceast)))
@@ -42,7 +42,7 @@ int-to-float-t10 c =
 returns : tie.Need-returns
 returns c = same (ap (of_int binary64) (rows c.before.before.before)) (ap (of_int binary64) (columns c.before.before))
 
-pub offset-at-spec : {M : Type 1} → statement M
-offset-at-spec =
+pub offset_at_spec : {M : Type 1} → statement M
+offset_at_spec =
     tie.close
     (tie.spec (λ c. search rules) (λ c. search rules) (λ c κs. search rules) (λ c κs. search rules) int-to-float-t9 int-to-float-t10 returns)

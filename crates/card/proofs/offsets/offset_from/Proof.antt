@@ -10,27 +10,27 @@ use borrow.Author.Rules.{rules}
 use Rattle.card.proofs.offsets.offset_from.Statement.{statement}
 use Rattle.card.proofs.offsets.offset_from.Tie as tie
 
-counts : (c : tie.After-known-told)
-    → let s = c.before.before.before.before in Counts s.args.lat s.args.lon c.before.north.given.0.0 c.before.north.given.0.1.0
+counts : (c : tie.In-At)
+    → let s = c in Counts s.args.lat s.args.lon c.in-At.north c.in-At.east
 counts c =
-    let s = c.before.before.before in ranged-at _ _ s.before.ranges.lat s.before.ranges.lon s.count-position.ensures c.before.north.given.1
+    let s = c in ranged-at _ _ s.ranges.lat s.ranges.lon s.count_position.ensures c.in-At.is
 
-centre : (c : tie.After-known-told2)
-    → let s = c.before.before.before.before.before.before.before.before in
-    Counts s.args.clat s.args.clon c.before.cnorth.given.0.0 c.before.cnorth.given.0.1.0
+centre : (c : tie.In-At-count_position)
+    → let s = c in
+    Counts s.args.clat s.args.clon c.in-At-count_position.cnorth c.in-At-count_position.ceast
 centre c =
-    let s = c.before.before.before.before.before.before.before.before in
-    ranged-at _ _ s.ranges.clat s.ranges.clon c.before.before.before.count-position2.ensures c.before.cnorth.given.1
+    let s = c in
+    ranged-at _ _ s.ranges.clat s.ranges.clon c.count_position-in-At.ensures c.in-At-count_position.is
 
-offset-at-requires : tie.Need-offset-at-requires
+offset-at-requires : tie.Need-offset_at-requires
 offset-at-requires c κs =
-    let p = counts c.before.before.before.before in
+    let p = counts c.before.before in
     (p.rows.high, (p.columns.high, ((centre c).rows.high, (centre c).columns.high)))
 
-returns : tie.Need-returns
+returns : tie.Need-returns-in-At-count_position
 unfolding offset_of
 returns c =
-    let p = counts c.before.before.before.before.before in
+    let p = counts c.before.before.before in
     let q = centre c.before in
     rw (p.rows.test, p.columns.test, q.rows.test, q.columns.test)
     (ap OffsetAnswer.At
@@ -38,22 +38,22 @@ returns c =
     ∙ ap₂ (λ (x y : ℤ). record { lat = of_int binary64 x; lon = of_int binary64 (into_range y) })
     (counts-apart p.rows q.rows) (counts-apart p.columns q.columns)))
 
-returns-2 : tie.Need-returns-2
+returns-2 : tie.Need-returns-in-Refused-count_position
 unfolding offset_of
 returns-2 c =
-    let s = c.before.before.before.before.before.before.before.before in
-    let p = counts c.before.before.before.before in
+    let s = c in
+    let p = counts c.before.before in
     rw (p.rows.test, p.columns.test)
-    (ranged-refused _ _ s.ranges.clat s.ranges.clon c.before.before.before.count-position2.ensures OffsetAnswer.Refused _ c.before.r.given.1)
+    (ranged-refused _ _ s.ranges.clat s.ranges.clon c.count_position-in-At.ensures OffsetAnswer.Refused _ c.in-Refused-count_position.is)
 
-returns-3 : tie.Need-returns-3
+returns-3 : tie.Need-returns-in-Refused
 unfolding offset_of
 returns-3 c =
-    let s = c.before.before.before.before in
-    ranged-refused _ _ s.ranges.lat s.ranges.lon c.before.before.before.count-position.ensures OffsetAnswer.Refused _ c.before.r2.given.1
+    let s = c in
+    ranged-refused _ _ s.ranges.lat s.ranges.lon c.count_position.ensures OffsetAnswer.Refused _ c.in-Refused.is
 
-pub offset-from-spec : {M : Type 1} → statement M
-offset-from-spec =
+pub offset_from_spec : {M : Type 1} → statement M
+offset_from_spec =
     tie.close
     (tie.spec (λ c κs. search rules) (λ c. search rules) (λ c κs. search rules) (λ c. search rules) offset-at-requires (λ c. search rules)
     (λ c. search rules) returns returns-2 returns-3)

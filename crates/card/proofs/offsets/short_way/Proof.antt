@@ -11,12 +11,12 @@ use Rattle.card.proofs.offsets.short_way.Tie as tie
 
 returns : tie.Need-returns
 returns c =
-    let s = c.before in
+    let s = c in
     let e = s.args.east in
     let m = s.args.centre in
-    told ((e + 194400000 - m) % circle) half c.difference.type-inv c.difference.ensures
+    told ((e + 194400000 - m) % circle) half c.difference.type_inv c.difference.ensures
     (short-is (pos e -ℤ pos m) e m s.requires.1 (is-difference e m))
 
-pub short-way-spec : {M : Type 1} → statement M
-short-way-spec =
+pub short_way_spec : {M : Type 1} → statement M
+short_way_spec =
     tie.close (tie.spec (λ c. search rules) (λ c. search rules) (λ c. search rules) (λ c κs. search rules) returns)

@@ -8,8 +8,8 @@ use Rattle.card_text.proofs.digits.bytes_at.Statement.{statement}
 use Rattle.card_text.proofs.digits.bytes_at.Tie as tie
 
 returns : tie.Need-returns
-returns c = rw (add-sub_cancel_left c.before.args.o c.before.args.w) (refl, simp (length-take, length-drop) (omega arith))
+returns c = rw (add-sub_cancel_left c.args.o c.args.w) (refl, simp (length-take, length-drop) (omega arith))
 
-pub bytes-at-spec : {M : Type 1} → statement M
-bytes-at-spec =
+pub bytes_at_spec : {M : Type 1} → statement M
+bytes_at_spec =
     tie.close (tie.spec (λ c. search rules) (λ c. search rules) (λ c. search rules) (λ c. search rules) returns)

@@ -6,9 +6,9 @@ use Rattle.card_text.proofs.digits.digits_at.Statement.{statement}
 use Rattle.card_text.proofs.digits.digits_at.Tie as tie
 
 returns : tie.Need-returns
-returns c = let b = c.before.bytes-at.ensures in
+returns c = let b = c.bytes_at.ensures in
     let n = digits-read 8 _ (omega (arith, b.1)) (omega arith) c.digits_of.ensures in
     rw (← b.0) (record { tested = n.tested; read = n.read; small = omega (arith, n.small) })
 
-pub digits-at-spec : {M : Type 1} → statement M
-digits-at-spec = tie.close (tie.spec (λ c κs. search rules) (λ c κs. search rules) returns)
+pub digits_at_spec : {M : Type 1} → statement M
+digits_at_spec = tie.close (tie.spec (λ c κs. search rules) (λ c κs. search rules) returns)

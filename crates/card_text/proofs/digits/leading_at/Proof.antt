@@ -9,10 +9,10 @@ use Rattle.card_text.proofs.digits.leading_at.Tie as tie
 
 returns : tie.Need-returns
 returns c =
-    let b = c.before.bytes-at in (
+    let b = c.bytes_at in (
       c.leading.ensures ∙ ap lead b.ensures.0,
       omega (arith, c.leading.ensures, lead-below b.result.now (omega (arith, b.ensures.1)), b.ensures.1),
     )
 
-pub leading-at-spec : {M : Type 1} → statement M
-leading-at-spec = tie.close (tie.spec (λ c κs. search rules) (λ c κs. search rules) returns)
+pub leading_at_spec : {M : Type 1} → statement M
+leading_at_spec = tie.close (tie.spec (λ c κs. search rules) (λ c κs. search rules) returns)

@@ -8,13 +8,13 @@ returns : tie.Need-returns
 unfolding name_laid
 returns c =
     rw (
-      c.before.before.before.all_named.ensures,
-      c.before.before.before.before.bytes-at.ensures.0,
-      c.all-named2.ensures,
-      c.before.bytes-at2.ensures.0,
+      c.all_named-first.ensures,
+      c.bytes_at.ensures.0,
+      c.all_named-last.ensures,
+      c.bytes_at-2.ensures.0,
     )
 
-pub name-laid-spec : {M : Type 1} → statement M
-name-laid-spec =
+pub name_laid_spec : {M : Type 1} → statement M
+name_laid_spec =
     tie.close
     (tie.spec (λ c κs. search rules) (λ c κs. search rules) (λ c. search rules) (λ c κs. search rules) (λ c κs. search rules) returns)

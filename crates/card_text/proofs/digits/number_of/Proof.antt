@@ -5,13 +5,13 @@ use borrow.Author.Rules.{rules}
 use Rattle.card_text.proofs.digits.number_of.Statement.{statement}
 use Rattle.card_text.proofs.digits.number_of.Tie as tie
 
-returns-2 : tie.Need-returns-2
+returns-2 : tie.Need-returns
 returns-2 c =
-    let s = c.before.before.before.before in
-    number_read s.args.fill s.args.s.now 0 s.requires.0 s.requires.1 (sym (skip-none s.args.fill s.args.s.now c.before.if1.false))
+    let s = c in
+    number_read s.args.fill s.args.s.now 0 s.requires.0 s.requires.1 (sym (skip-none s.args.fill s.args.s.now c.if-s-eq32.false))
     c.digits_of.ensures
 
-pub number-of-spec : {M : Type 1} → statement M
-number-of-spec =
+pub number_of_spec : {M : Type 1} → statement M
+number_of_spec =
     tie.close
     (tie.spec (λ c. search rules) (λ c κs. search rules) (λ c. search rules) (λ c κs. search rules) returns-2)

@@ -10,22 +10,22 @@ use borrow.Author.Rules.{rules}
 use Rattle.card_text.proofs.digits.past_blanks.Statement.{statement}
 use Rattle.card_text.proofs.digits.past_blanks.Tie as tie
 
-below : (c : tie.After-skipped) → c.skipped.result < length c.before.before.args.s.now
-below c = let s = c.before.before in rw c.skipped.ensures (skip_below s.args.fill s.args.s.now s.requires.0)
+below : (c : tie.After-skipped) → c.skipped.result < length c.args.s.now
+below c = let s = c in rw c.skipped.ensures (skip_below s.args.fill s.args.s.now s.requires.0)
 
-sub-digits-of : tie.Need-overflow-sub-digits-of
+sub-digits-of : tie.Need-slice_bounds-digits_of-count
 sub-digits-of c = omega (arith, below c)
 
-part-digits-of-start : tie.Need-slice-bounds-digits-of-start
+part-digits-of-start : tie.Need-slice_bounds-digits_of-start
 part-digits-of-start c = omega (arith, below c)
 
 returns : tie.Need-returns
 returns c =
-    let s = c.before.before.before.before in
-    number_read s.args.fill s.args.s.now _ s.requires.0 s.requires.1 c.before.before.skipped.ensures
-    (c.digits_of.ensures ∙ ap digits_in (part_to_end s.args.s.now c.before.before.skipped.result))
+    let s = c in
+    number_read s.args.fill s.args.s.now _ s.requires.0 s.requires.1 c.skipped.ensures
+    (c.digits_of.ensures ∙ ap digits_in (part_to_end s.args.s.now c.skipped.result))
 
-pub past-blanks-spec : {M : Type 1} → statement M
-past-blanks-spec =
+pub past_blanks_spec : {M : Type 1} → statement M
+past_blanks_spec =
     tie.close
     (tie.spec (λ c κs. search rules) sub-digits-of part-digits-of-start (λ c. search rules) (λ c κs. search rules) returns)

@@ -12,46 +12,46 @@ use borrow.Author.Rules.{rules}
 use Rattle.card_text.proofs.fields.angle_at.Statement.{statement}
 use Rattle.card_text.proofs.fields.angle_at.Tie as tie
 
-returns : tie.Need-returns
+returns : tie.Need-returns-in-Refused
 returns c =
-    let a = c.before.before.before.before.before.args in
+    let a = c.args in
     record {
-      either = λ fill. field-after fill (sub a.o (a.w + 8) (Kind.Angle a.w a.limit)) a.s.now _ _ c.before.before.first.given.1
+      either = λ fill. field-after fill (sub a.o (a.w + 8) (Kind.Angle a.w a.limit)) a.s.now _ _ c.in-Refused.is
           c.unread.ensures;
     }
 
-shifted-by-requires : tie.Need-shifted-by-requires
+shifted-by-requires : tie.Need-shifted_by-requires
 shifted-by-requires c κs =
-    let h = c.before.before.before.before.before.before.before.before.before.before in
-    let t = h.before.before in
-    let a = t.before.before.before.before.before.before.before in
+    let h = c in
+    let t = h in
+    let a = t in
     let d = a.requires.1.1.1 in
-    (a.requires.1.1.0, omega (arith, d.small, t.before.digits-at.ensures.small, t.digits-at2.ensures.small, h.digits-at3.ensures.small))
+    (a.requires.1.1.0, omega (arith, d.small, t.digits_at-m.ensures.small, t.digits_at-t.ensures.small, h.digits_at-h.ensures.small))
 
-returns-2 : tie.Need-returns-2
+returns-2 : tie.Need-returns
 returns-2 c =
-    let h = c.before.before.before.before.before.before.before.before.before.before.before.before in
-    let t = h.before.before in
-    let p = t.before.before.before in
-    let told = p.before in
-    let x = told.before.before.before in
+    let h = c in
+    let t = h in
+    let p = t in
+    let told = p in
+    let x = told in
     let a = x.args in
     let s = a.s.now in
-    let same = p.bytes-at.ensures.0 in
+    let same = p.bytes_at-p.ensures.0 in
     let ed : DigitsOf (part 1 a.w (part a.o (a.w + 8) s)) a.d =
     rw (part_in a.o 1 a.w (a.w + 8) s (omega arith)) x.requires.1.1.1 in
-    let em = rw same at t.before.digits-at.ensures in
-    let et = rw same at t.digits-at2.ensures in
-    let eh = rw same at h.digits-at3.ensures in
+    let em = rw same at t.digits_at-m.ensures in
+    let et = rw same at t.digits_at-t.ensures in
+    let eh = rw same at h.digits_at-h.ensures in
     record {
-      either = λ fill. field_at fill (sub a.o (a.w + 8) (Kind.Angle a.w a.limit)) s told.enum_told.given.1 _ _ _ _ c.field_of.ensures
+      either = λ fill. field_at fill (sub a.o (a.w + 8) (Kind.Angle a.w a.limit)) s told.in_default.is _ _ _ _ c.field_of.ensures
           (rw same (angle-laid a.w a.limit (part a.o (a.w + 8) s) ed em et eh))
           (λ e. let r = angle-right a.w a.limit (part a.o (a.w + 8) s) ed em et eh e in
-          (rw same r.0, rw (c.before.Shifted-by.ensures, same) r.1));
+          (rw same r.0, rw (c.shifted_by.ensures, same) r.1));
     }
 
-pub angle-at-spec : {M : Type 1} → statement M
-angle-at-spec =
+pub angle_at_spec : {M : Type 1} → statement M
+angle_at_spec =
     tie.close
     (tie.spec (λ c. search rules) (λ c κs. search rules) returns (λ c. search rules) (λ c. search rules) (λ c κs. search rules) (λ c. search rules)
     (λ c. search rules) (λ c κs. search rules) (λ c. search rules) (λ c κs. search rules) (λ c. search rules) (λ c. search rules) (λ c. search rules)

@@ -9,7 +9,7 @@ use Rattle.card_text.proofs.fields.field_of.Tie as tie
 
 returns : tie.Need-returns
 unfolding field_of
-returns c = let field : Verdict → Field = λ v. record { value = c.before.args.value; verdict = v } in ap field c.judged.ensures
+returns c = let field : Verdict → Field = λ v. record { value = c.args.value; verdict = v } in ap field c.judged.ensures
 
-pub field-of-spec : {M : Type 1} → statement M
-field-of-spec = tie.close (tie.spec (λ c κs. search rules) returns)
+pub field_of_spec : {M : Type 1} → statement M
+field_of_spec = tie.close (tie.spec (λ c κs. search rules) returns)

@@ -20,25 +20,25 @@ one-or-none : (t : Bool) → bool_byte t ≡ cond t 1 0
 one-or-none true = refl
 one-or-none false = refl
 
-returns : tie.Need-returns
+returns : tie.Need-returns-in-Refused
 returns c =
-    let a = c.before.before.before.before.before.args in
+    let a = c.args in
     record {
-      either = λ fill. field-after fill (sub a.o 1 Kind.Flag) a.s.now _ _ c.before.before.first.given.1 c.unread.ensures;
+      either = λ fill. field-after fill (sub a.o 1 Kind.Flag) a.s.now _ _ c.in-Refused.is c.unread.ensures;
     }
 
-returns-2 : tie.Need-returns-2
+returns-2 : tie.Need-returns
 returns-2 c =
-    let told = c.before.before in
-    let a = told.before.before.before.args in
+    let told = c in
+    let a = told.args in
     let b : get_or (part a.o 1 a.s.now) 0 0 ≡ get_or a.s.now a.o 0 = byte-in a.o 0 1 a.s.now (omega arith) ∙ rw add-zero in
     record {
-      either = λ fill. field_at fill (sub a.o 1 Kind.Flag) a.s.now told.enum_told.given.1 _ _ _ _ c.field_of.ensures refl
+      either = λ fill. field_at fill (sub a.o 1 Kind.Flag) a.s.now told.in_default.is _ _ _ _ c.field_of.ensures refl
           (λ e. (rw b, rw b (one-or-none (eqb (get_or a.s.now a.o 0) 89))));
     }
 
-pub flag-at-spec : {M : Type 1} → statement M
-flag-at-spec =
+pub flag_at_spec : {M : Type 1} → statement M
+flag_at_spec =
     tie.close
     (tie.spec (λ c. search rules) (λ c κs. search rules) returns (λ c. search rules) (λ c. search rules) (λ c. search rules) (λ c κs. search rules)
     returns-2)

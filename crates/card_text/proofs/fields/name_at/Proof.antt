@@ -8,24 +8,24 @@ use borrow.Author.Rules.{rules}
 use Rattle.card_text.proofs.fields.name_at.Statement.{statement}
 use Rattle.card_text.proofs.fields.name_at.Tie as tie
 
-returns : tie.Need-returns
+returns : tie.Need-returns-in-Refused
 returns c =
-    let a = c.before.before.before.before.before.args in
+    let a = c.args in
     record {
-      either = λ fill. field-after fill (sub a.o 12 Kind.Name) a.s.now _ _ c.before.before.first.given.1 c.unread.ensures;
+      either = λ fill. field-after fill (sub a.o 12 Kind.Name) a.s.now _ _ c.in-Refused.is c.unread.ensures;
     }
 
-returns-2 : tie.Need-returns-2
+returns-2 : tie.Need-returns
 returns-2 c =
-    let told = c.before.before.before in
-    let a = told.before.before.before.args in
+    let told = c in
+    let a = told.args in
     record {
-      either = λ fill. field_at fill (sub a.o 12 Kind.Name) a.s.now told.enum_told.given.1 _ _ _ _ c.field_of.ensures
-          (c.before.name-laid.ensures ∙ ap name_laid c.before.before.bytes-at.ensures.0) (λ e. (refl, refl));
+      either = λ fill. field_at fill (sub a.o 12 Kind.Name) a.s.now told.in_default.is _ _ _ _ c.field_of.ensures
+          (c.name_laid.ensures ∙ ap name_laid c.bytes_at.ensures.0) (λ e. (refl, refl));
     }
 
-pub name-at-spec : {M : Type 1} → statement M
-name-at-spec =
+pub name_at_spec : {M : Type 1} → statement M
+name_at_spec =
     tie.close
     (tie.spec (λ c. search rules) (λ c κs. search rules) returns (λ c. search rules) (λ c κs. search rules) (λ c κs. search rules)
     (λ c κs. search rules) returns-2)

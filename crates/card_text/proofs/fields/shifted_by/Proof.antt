@@ -7,17 +7,17 @@ use borrow.Author.Rules.{rules}
 use Rattle.card_text.proofs.fields.shifted_by.Statement.{statement}
 use Rattle.card_text.proofs.fields.shifted_by.Tie as tie
 
-returns : tie.Need-returns
-returns c = rw (not-true c.before.args.below c.if1.true)
+returns : tie.Need-returns-then-not-below
+returns c = rw (not-true c.args.below c.if-not-below.true-raw)
 
-returns-2 : tie.Need-returns-2
+returns-2 : tie.Need-returns-then-limit-size
 returns-2 c =
-    let a = c.before.before.args in
+    let a = c.args in
     let e : 0 ≡ a.limit - a.size = omega arith in
-    rw (not-false a.below c.before.if1.false, e)
+    rw (not-false a.below c.if-not-below.false-raw, e)
 
-returns-3 : tie.Need-returns-3
-returns-3 c = rw (not-false c.before.before.args.below c.before.if1.false)
+returns-3 : tie.Need-returns
+returns-3 c = rw (not-false c.args.below c.if-not-below.false-raw)
 
-pub shifted-by-spec : {M : Type 1} → statement M
-shifted-by-spec = tie.close (tie.spec (λ c. search rules) returns returns-2 returns-3)
+pub shifted_by_spec : {M : Type 1} → statement M
+shifted_by_spec = tie.close (tie.spec (λ c. search rules) returns returns-2 returns-3)

@@ -6,7 +6,7 @@ use Rattle.card_text.proofs.read.extents_hold.Tie as tie
 
 returns : tie.Need-returns
 unfolding extents_at
-returns c = let r = c.before.before.before.before.before.before.before.before.args.r in rw (in-tiles r.nll r.nfl, in-tiles r.nus r.nfc)
+returns c = let r = c.args.r in rw (in-tiles r.nll r.nfl, in-tiles r.nus r.nfc)
 
-pub extents-hold-spec : {M : Type 1} → statement M
-extents-hold-spec = tie.close (tie.spec returns)
+pub extents_hold_spec : {M : Type 1} → statement M
+extents_hold_spec = tie.close (tie.spec returns)

@@ -8,12 +8,12 @@ use Rattle.card_text.proofs.read.record_in.Tie as tie
 
 returns : tie.Need-returns
 returns c =
-    let a = c.before.before in
+    let a = c in
     rw (to_z-of_z w64 a.args.n a.ranges.n, to_z-of_z w64 a.args.m a.ranges.m)
-    (record-kept a.requires a.args.n a.args.m c.name_of.result c.name_of.ensures)
+    (record-kept a.requires a.args.n a.args.m c.name_of-bad.result c.name_of-bad.ensures)
 
-pub record-in-spec : {M : Type 1} → statement M
-record-in-spec =
+pub record_in_spec : {M : Type 1} → statement M
+record_in_spec =
     tie.close
     (tie.spec (λ c κs. search rules) (λ c. search rules) (λ c. search rules) (λ c. search rules) (λ c. search rules) (λ c. search rules)
     (λ c. search rules) (λ c. search rules) returns)

@@ -7,7 +7,7 @@ use Rattle.card_text.proofs.read.refused_with.Statement.{statement}
 use Rattle.card_text.proofs.read.refused_with.Tie as tie
 
 returns : tie.Need-returns
-returns c = ap (λ (k : Card). record { verdict = Verdict.Refused c.before.args.r; card = k; blanks = 0 }) c.no-card.ensures
+returns c = ap (λ (k : Card). record { verdict = Verdict.Refused c.args.r; card = k; blanks = 0 }) c.no_card.ensures
 
-pub refused-with-spec : {M : Type 1} → statement M
-refused-with-spec = tie.close (tie.spec (λ c κs. search rules) returns)
+pub refused_with_spec : {M : Type 1} → statement M
+refused_with_spec = tie.close (tie.spec (λ c κs. search rules) returns)

@@ -18,13 +18,13 @@ use Rattle.card_text.proofs.stored.tile_of.Tie as tie
 product : (s : tie.Start) → s.args.angle * s.args.spacing ≤ 129600000 * 80076800
 product s = mul-le-mul s.requires.1 s.requires.0.most
 
-back : (c : tie.After-nearest) → c.nearest.result * 16588800000 ≤ 129600000 * 80076800 + 16588800000
+back : (c : tie.After-nearest-k) → c.nearest-k.result * 16588800000 ≤ 129600000 * 80076800 + 16588800000
 back c =
     omega (
       arith,
       product c.before,
-      ap (λ (k : ℕ). k * tile_angle) c.nearest.ensures,
-      near-low tile_angle (omega arith) (c.before.args.angle * c.before.args.spacing),
+      ap (λ (k : ℕ). k * tile_angle) c.nearest-k.ensures,
+      near-low tile_angle (omega arith) (c.args.angle * c.args.spacing),
     )
 
 -- the two bounds are those of the nearest hundredth
@@ -39,47 +39,47 @@ near-test d x k h = go (leb (2 * (k * d)) (2 * x + d)) (ltb (2 * x) (2 * (k * d)
     go true false p q = no (λ e. omega (arith, ltb-false (2 * x) (2 * (k * d) + d) q, near-high d h x, ap (λ (i : ℕ). i * d) e))
     go false t p q = no (λ e. omega (arith, leb-false (2 * (k * d)) (2 * x + d) p, near-low d h x, ap (λ (i : ℕ). i * d) e))
 
-mul-asked : tie.Need-overflow-mul-asked
+mul-asked : tie.Need-overflow_mul-asked
 mul-asked c = fits-mul 129600000 80076800 tt c.requires.1 c.requires.0.most
 
-mul-found : tie.Need-overflow-mul-found
+mul-found : tie.Need-overflow_mul-found
 mul-found c = omega (arith, back c)
 
-found : (c : tie.After-nearest) {t : Bool}
-    → (leb (2 * (c.before.args.angle * c.before.args.spacing)) (2 * (c.nearest.result * 16588800000) + c.before.args.spacing)
-    && ltb (2 * (c.nearest.result * 16588800000)) (2 * (c.before.args.angle * c.before.args.spacing) + c.before.args.spacing)) ≡ t
-    → cond t (Counted.From c.nearest.result) Counted.Outside ≡ found_at c.before.args.spacing c.before.args.angle
+found : (c : tie.After-nearest-k) {t : Bool}
+    → (leb (2 * (c.args.angle * c.args.spacing)) (2 * (c.nearest-k.result * 16588800000) + c.args.spacing)
+    && ltb (2 * (c.nearest-k.result * 16588800000)) (2 * (c.args.angle * c.args.spacing) + c.args.spacing)) ≡ t
+    → cond t (Counted.From c.nearest-k.result) Counted.Outside ≡ found_at c.args.spacing c.args.angle
 unfolding found_at
 found c e =
-    let a = c.before.args in
-    let n = near-test a.spacing (c.nearest.result * 16588800000) a.angle (omega (arith, c.before.requires.0.some)) in
-    rw (← c.nearest.ensures, ← n, e)
+    let a = c.args in
+    let n = near-test a.spacing (c.nearest-k.result * 16588800000) a.angle (omega (arith, c.requires.0.some)) in
+    rw (← c.nearest-k.ensures, ← n, e)
 
-mul-if1 : tie.Need-overflow-mul-if1
-mul-if1 c = omega (arith, back c, product c.before, c.before.requires.0.most)
+mul-if1 : tie.Need-overflow_mul-asked-2
+mul-if1 c = omega (arith, back c, product c.before, c.requires.0.most)
 
-mul-if1-2 : tie.Need-overflow-mul-if1-2
-mul-if1-2 c = omega (arith, back c, product c.before, c.before.requires.0.most)
+mul-if1-2 : tie.Need-overflow_mul-found-2
+mul-if1-2 c = omega (arith, back c, product c.before, c.requires.0.most)
 
-add-if1 : tie.Need-overflow-add-if1
-add-if1 c = omega (arith, back c, product c.before, c.before.requires.0.most)
+add-if1 : tie.Need-overflow_add-found
+add-if1 c = omega (arith, back c, product c.before, c.requires.0.most)
 
-mul-if1-3 : tie.Need-overflow-mul-if1-3
-mul-if1-3 c = omega (arith, back c, product c.before, c.before.requires.0.most)
+mul-if1-3 : tie.Need-overflow_mul-found-3
+mul-if1-3 c = omega (arith, back c, product c.before, c.requires.0.most)
 
-mul-if1-4 : tie.Need-overflow-mul-if1-4
-mul-if1-4 c = omega (arith, back c, product c.before, c.before.requires.0.most)
+mul-if1-4 : tie.Need-overflow_mul-asked-3
+mul-if1-4 c = omega (arith, back c, product c.before, c.requires.0.most)
 
-add-if1-2 : tie.Need-overflow-add-if1-2
-add-if1-2 c = omega (arith, back c, product c.before, c.before.requires.0.most)
+add-if1-2 : tie.Need-overflow_add-asked
+add-if1-2 c = omega (arith, back c, product c.before, c.requires.0.most)
 
-returns : tie.Need-returns
-returns c = found c.before c.if1.true
+returns : tie.Need-returns-then-asked-found
+returns c = found c.before c.if-asked-found.true
 
-returns-2 : tie.Need-returns-2
-returns-2 c = found c.before c.if1.false
+returns-2 : tie.Need-returns
+returns-2 c = found c.before c.if-asked-found.false
 
-pub tile-of-spec : {M : Type 1} → statement M
-tile-of-spec =
+pub tile_of_spec : {M : Type 1} → statement M
+tile_of_spec =
     tie.close
     (tie.spec mul-asked (λ c κs. search rules) mul-found mul-if1 mul-if1-2 add-if1 mul-if1-3 mul-if1-4 add-if1-2 returns returns-2)

@@ -9,17 +9,17 @@ returns : tie.Need-returns
 unfolding count_tests
 returns c =
     rw (
-      c.or-else2.ensures,
-      c.before.or_else.ensures,
-      c.before.before.tested3.ensures,
-      c.before.before.before.name-right.ensures,
-      c.before.before.before.before.tested2.ensures,
-      c.before.before.before.before.before.before.before.tested.ensures,
+      c.or_else-2.ensures,
+      c.or_else.ensures,
+      c.tested-name.ensures,
+      c.name_right.ensures,
+      c.tested-across.ensures,
+      c.tested-down.ensures,
       or_else-accepted,
     )
 
-pub judge-counts-spec : {M : Type 1} → statement M
-judge-counts-spec =
+pub judge_counts_spec : {M : Type 1} → statement M
+judge_counts_spec =
     tie.close
     (tie.spec (λ c κs. search rules) (λ c κs. search rules) (λ c κs. search rules) (λ c κs. search rules) (λ c κs. search rules)
     (λ c κs. search rules) returns)

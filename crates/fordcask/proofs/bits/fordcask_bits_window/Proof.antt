@@ -7,22 +7,22 @@ use borrow.Author.Rules.{rules}
 use Rattle.fordcask.proofs.bits.fordcask_bits_window.Statement.{statement}
 use Rattle.fordcask.proofs.bits.fordcask_bits_window.Tie as tie
 
-bits-window-requires : tie.Need-bits-window-requires
+bits-window-requires : tie.Need-bits_window-requires
 bits-window-requires c κs =
-    let s = c.before.before.before.before.before.before in
-    card-known s.args.series s.args.card.now c.before.before.before.read-card.ensures c.enum_told.given.1
+    let s = c in
+    card-known s.args.series s.args.card.now c.read_card-reading.ensures c.in-Accepted.is
 
-returns : tie.Need-returns
+returns : tie.Need-returns-in-Accepted
 returns c =
-    rw (← c.before.before.before.before.before.before.read-card.ensures, c.before.before.before.enum_told.given.1)
-    (c.window_on.ensures ∙ ap (with_total _) (c.before.into-parts.ensures ∙ ap window_report c.before.before.bits-window.ensures))
+    rw (← c.read_card-reading.ensures, c.in-Accepted.is)
+    (c.window_on.ensures ∙ ap (with_total _) (c.into_parts.ensures ∙ ap window_report c.bits_window.ensures))
 
-returns-2 : tie.Need-returns-2
-returns-2 c = rw (← c.before.before.before.before.before.before.read-card.ensures, c.before.before.before.verdict.given.1)
-    (c.window-on2.ensures ∙ ap (with_total _) c.before.into-parts2.ensures)
+returns-2 : tie.Need-returns-in-Refused
+returns-2 c = rw (← c.read_card-reading.ensures, c.in-Refused.is)
+    (c.window_on-in-Refused.ensures ∙ ap (with_total _) c.into_parts-in-Refused.ensures)
 
-pub fordcask-bits-window-spec : {M : Type 1} → statement M
-fordcask-bits-window-spec =
+pub fordcask_bits_window_spec : {M : Type 1} → statement M
+fordcask_bits_window_spec =
     tie.close
     (tie.spec (λ c κs. search rules) (λ c. search rules) bits-window-requires (λ c κs. search rules) (λ c κs. search rules) (λ c. search rules)
     (λ c κs. search rules) (λ c κs. search rules)

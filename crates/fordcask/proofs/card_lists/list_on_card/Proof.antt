@@ -7,25 +7,25 @@ use borrow.Author.Rules.{rules}
 use Rattle.fordcask.proofs.card_lists.list_on_card.Statement.{statement}
 use Rattle.fordcask.proofs.card_lists.list_on_card.Tie as tie
 
-answer-list-requires : tie.Need-answer-list-requires
+answer-list-requires : tie.Need-answer_list-requires
 answer-list-requires c κs =
-    let s = c.before.before.before.before.before.before.before.before in
-    card-known s.args.series s.args.card.now c.before.before.before.before.before.read-card.ensures
-    c.before.before.enum_told.given.1
+    let s = c in
+    card-known s.args.series s.args.card.now c.read_card-reading.ensures
+    c.in-Accepted.is
 
-returns : tie.Need-returns
+returns : tie.Need-returns-in-Accepted
 returns c =
-    let d = c.before.before.before.before.before in
-    let x = d.answer-list.ensures in
-    rw (← d.before.before.before.before.before.before.read-card.ensures, d.before.before.before.enum_told.given.1)
-    (c.verdict-on.ensures ∙ ap (verdict_parts _) (c.before.refusal.ensures ∙ ap refusal_of x.0), (x.1.0, x.1.1))
+    let d = c in
+    let x = d.answer_list.ensures in
+    rw (← d.read_card-reading.ensures, d.in-Accepted.is)
+    (c.verdict_on.ensures ∙ ap (verdict_parts _) (c.refusal.ensures ∙ ap refusal_of x.0), (x.1.0, x.1.1))
 
-returns-2 : tie.Need-returns-2
+returns-2 : tie.Need-returns-in-Refused
 returns-2 c =
-    rw (← c.before.before.before.before.before.read-card.ensures, c.before.before.verdict.given.1) (c.verdict-on2.ensures, (refl, refl))
+    rw (← c.read_card-reading.ensures, c.in-Refused.is) (c.verdict_on-in-Refused.ensures, (refl, refl))
 
-pub list-on-card-spec : {M : Type 1} → statement M
-list-on-card-spec =
+pub list_on_card_spec : {M : Type 1} → statement M
+list_on_card_spec =
     tie.close
     (tie.spec (λ c κs. search rules) (λ c. search rules) answer-list-requires (λ c κs. search rules) (λ c κs. search rules) (λ c. search rules)
     (λ c κs. search rules) (λ c. search rules) (λ c. search rules) returns returns-2)

@@ -9,26 +9,26 @@ use borrow.Author.Rules.{rules}
 use Rattle.fordcask.proofs.cards.fordcask_corner_pixel.Statement.{statement}
 use Rattle.fordcask.proofs.cards.fordcask_corner_pixel.Tie as tie
 
-pixel-in-requires : tie.Need-pixel-in-requires
+pixel-in-requires : tie.Need-pixel_in-requires
 pixel-in-requires c κs =
-    let s = c.before.before.before.before.before in
-    card-known s.args.series s.args.card.now c.before.before.before.read-card.ensures c.enum_told.given.1
+    let s = c in
+    card-known s.args.series s.args.card.now c.read_card-reading.ensures c.in-Accepted.is
 
-returns : tie.Need-returns
+returns : tie.Need-returns-in-Accepted
 returns c =
-    let s = c.before.before.before.before.before.before.before.before in
-    rw (← c.before.before.before.before.before.before.read-card.ensures, c.before.before.before.enum_told.given.1)
-    (c.pixel-on.ensures
-    ∙ ap (with_total _) (c.before.into-parts.ensures
-    ∙ ap pixel_report (c.before.before.pixel-in.ensures ∙ pair-asked (pixel_of Pair.Corner _) s.ranges.lat s.ranges.lon)))
+    let s = c in
+    rw (← c.read_card-reading.ensures, c.in-Accepted.is)
+    (c.pixel_on.ensures
+    ∙ ap (with_total _) (c.into_parts.ensures
+    ∙ ap pixel_report (c.pixel_in.ensures ∙ pair-asked (pixel_of Pair.Corner _) s.ranges.lat s.ranges.lon)))
 
-returns-2 : tie.Need-returns-2
+returns-2 : tie.Need-returns-in-Refused
 returns-2 c =
-    rw (← c.before.before.before.before.before.before.read-card.ensures, c.before.before.before.verdict.given.1)
-    (c.pixel-on2.ensures ∙ ap (with_total _) c.before.into-parts2.ensures)
+    rw (← c.read_card-reading.ensures, c.in-Refused.is)
+    (c.pixel_on-in-Refused.ensures ∙ ap (with_total _) c.into_parts-in-Refused.ensures)
 
-pub fordcask-corner-pixel-spec : {M : Type 1} → statement M
-fordcask-corner-pixel-spec =
+pub fordcask_corner_pixel_spec : {M : Type 1} → statement M
+fordcask_corner_pixel_spec =
     tie.close
     (tie.spec (λ c κs. search rules) (λ c. search rules) pixel-in-requires (λ c κs. search rules) (λ c κs. search rules) (λ c. search rules)
     (λ c κs. search rules) (λ c κs. search rules)

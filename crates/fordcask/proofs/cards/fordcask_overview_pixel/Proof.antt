@@ -30,27 +30,27 @@ none_passed n = go (eqb n 0)
 asked : Card → Series → List ℕ → ℤ → ℤ → PixelAnswer
 asked chart series card row column = on_card (read_of series card) PixelAnswer.Refused (λ k. overview_pixel_of chart k row column)
 
-pixel-over-requires : tie.Need-pixel-over-requires
+pixel-over-requires : tie.Need-pixel_over-requires
 pixel-over-requires c κs =
-    let s = c.before.before.before.before.before.before in
-    card-known s.args.series s.args.card.now c.before.before.before.read-card.ensures c.enum_told.given.1
+    let s = c in
+    card-known s.args.series s.args.card.now c.read_card-reading.ensures c.in-Accepted.is
 
-returns : tie.Need-returns
+returns : tie.Need-returns-in-Accepted
 unfolding asked
 returns c =
-    let s = c.before.before.before.before.before.before.before in
-    let f = asked _ s.args.overview-series s.args.overview-card.now in
-    rw (← c.before.before.before.before.read-card.ensures, c.before.enum_told.given.1)
-    (c.pixel-over.ensures ∙ ap (with_total _) (ap (with_total _) (ap pixel_report (pair-asked f s.ranges.row s.ranges.column))))
+    let s = c in
+    let f = asked _ s.args.overview_series s.args.overview_card.now in
+    rw (← c.read_card-reading.ensures, c.in-Accepted.is)
+    (c.pixel_over.ensures ∙ ap (with_total _) (ap (with_total _) (ap pixel_report (pair-asked f s.ranges.row s.ranges.column))))
 
-returns-2 : tie.Need-returns-2
+returns-2 : tie.Need-returns-in-Refused
 returns-2 c =
-    rw (← c.before.before.before.before.before.before.read-card.ensures, c.before.before.before.verdict.given.1)
-    (c.overview-on.ensures
-    ∙ ap (with_total 0) (ap (with_total 0) c.before.into-parts.ensures) ∙ rw (none_passed c.before.before.before.verdict.given.0.0.number))
+    rw (← c.read_card-reading.ensures, c.in-Refused.is)
+    (c.overview_on.ensures
+    ∙ ap (with_total 0) (ap (with_total 0) c.into_parts.ensures) ∙ rw (none_passed c.in-Refused.e.number))
 
-pub fordcask-overview-pixel-spec : {M : Type 1} → statement M
-fordcask-overview-pixel-spec =
+pub fordcask_overview_pixel_spec : {M : Type 1} → statement M
+fordcask_overview_pixel_spec =
     tie.close
     (tie.spec (λ c κs. search rules) (λ c. search rules) pixel-over-requires (λ c. search rules) (λ c κs. search rules) (λ c κs. search rules)
     returns returns-2)

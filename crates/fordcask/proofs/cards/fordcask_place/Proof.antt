@@ -10,24 +10,24 @@ use Rattle.fordcask.proofs.cards.fordcask_place.Tie as tie
 
 place-requires : tie.Need-place-requires
 place-requires c κs =
-    let s = c.before.before.before.before.before in
-    card-known s.args.series s.args.card.now c.before.before.before.read-card.ensures c.enum_told.given.1
+    let s = c in
+    card-known s.args.series s.args.card.now c.read_card-reading.ensures c.in-Accepted.is
 
-returns : tie.Need-returns
+returns : tie.Need-returns-in-Accepted
 returns c =
-    let s = c.before.before.before.before.before.before.before.before in
-    rw (← c.before.before.before.before.before.before.read-card.ensures, c.before.before.before.enum_told.given.1)
-    (c.place-on.ensures
-    ∙ ap (with_total _) (c.before.into-parts.ensures
-    ∙ ap place_report (c.before.before.place.ensures ∙ pair-asked (place_of _) s.ranges.row s.ranges.column)))
+    let s = c in
+    rw (← c.read_card-reading.ensures, c.in-Accepted.is)
+    (c.place_on.ensures
+    ∙ ap (with_total _) (c.into_parts.ensures
+    ∙ ap place_report (c.place.ensures ∙ pair-asked (place_of _) s.ranges.row s.ranges.column)))
 
-returns-2 : tie.Need-returns-2
+returns-2 : tie.Need-returns-in-Refused
 returns-2 c =
-    rw (← c.before.before.before.before.before.before.read-card.ensures, c.before.before.before.verdict.given.1)
-    (c.place-on2.ensures ∙ ap (with_total _) c.before.into-parts2.ensures)
+    rw (← c.read_card-reading.ensures, c.in-Refused.is)
+    (c.place_on-in-Refused.ensures ∙ ap (with_total _) c.into_parts-in-Refused.ensures)
 
-pub fordcask-place-spec : {M : Type 1} → statement M
-fordcask-place-spec =
+pub fordcask_place_spec : {M : Type 1} → statement M
+fordcask_place_spec =
     tie.close
     (tie.spec (λ c κs. search rules) (λ c. search rules) place-requires (λ c κs. search rules) (λ c κs. search rules) (λ c. search rules)
     (λ c κs. search rules) (λ c κs. search rules)

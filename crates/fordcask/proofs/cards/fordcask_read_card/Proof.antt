@@ -6,7 +6,7 @@ use Rattle.fordcask.proofs.cards.fordcask_read_card.Statement.{statement}
 use Rattle.fordcask.proofs.cards.fordcask_read_card.Tie as tie
 
 returns : tie.Need-returns
-returns c = c.card-parts.ensures ∙ ap card_parts c.before.read-card.ensures
+returns c = c.card_parts.ensures ∙ ap card_parts c.read_card.ensures
 
-pub fordcask-read-card-spec : {M : Type 1} → statement M
-fordcask-read-card-spec = tie.close (tie.spec (λ c κs. search rules) (λ c κs. search rules) returns)
+pub fordcask_read_card_spec : {M : Type 1} → statement M
+fordcask_read_card_spec = tie.close (tie.spec (λ c κs. search rules) (λ c κs. search rules) returns)

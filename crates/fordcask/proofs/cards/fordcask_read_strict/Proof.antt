@@ -6,7 +6,7 @@ use Rattle.fordcask.proofs.cards.fordcask_read_strict.Statement.{statement}
 use Rattle.fordcask.proofs.cards.fordcask_read_strict.Tie as tie
 
 returns : tie.Need-returns
-returns c = c.card-parts.ensures ∙ ap card_parts c.before.read-strict.ensures
+returns c = c.card_parts.ensures ∙ ap card_parts c.read_strict.ensures
 
-pub fordcask-read-strict-spec : {M : Type 1} → statement M
-fordcask-read-strict-spec = tie.close (tie.spec (λ c κs. search rules) (λ c κs. search rules) returns)
+pub fordcask_read_strict_spec : {M : Type 1} → statement M
+fordcask_read_strict_spec = tie.close (tie.spec (λ c κs. search rules) (λ c κs. search rules) returns)

@@ -9,14 +9,14 @@ use Rattle.fordcask.proofs.cards.fordcask_write_card.Tie as tie
 
 returns : tie.Need-returns
 returns c =
-    let r = c.before.before.before.before.before.before.before.before.before.args.r in
+    let r = c.args.r in
     let e =
     rw (
-      to_z-of_z w64 r.n (record { sfits = c.before.before.before.before.before.struct_told.given.0.1 }),
-      to_z-of_z w64 r.m (record { sfits = c.before.before.before.before.before.struct_told.given.1.0.1 }),
-    ) at c.before.before.before.write-card.ensures in
+      to_z-of_z w64 r.n (record { sfits = c.struct_told-1.given.0.1 }),
+      to_z-of_z w64 r.m (record { sfits = c.struct_told-1.given.1.0.1 }),
+    ) at c.write_card.ensures in
     (c.refusal.ensures ∙ ap refusal_of e.0, e.1)
 
-pub fordcask-write-card-spec : {M : Type 1} → statement M
-fordcask-write-card-spec =
+pub fordcask_write_card_spec : {M : Type 1} → statement M
+fordcask_write_card_spec =
     tie.close (tie.spec (λ c κs. search rules) (λ c κs. search rules) (λ c. search rules) returns)

@@ -9,29 +9,29 @@ use borrow.Author.Rules.{rules}
 use Rattle.fordcask.proofs.cards.pixel_over.Statement.{statement}
 use Rattle.fordcask.proofs.cards.pixel_over.Tie as tie
 
-overview-pixel-requires : tie.Need-overview-pixel-requires
+overview-pixel-requires : tie.Need-overview_pixel-requires
 overview-pixel-requires c κs =
-    let s = c.before.before.before.before.before in (
+    let s = c in (
       s.requires,
-      card-known s.args.series s.args.card.now c.before.before.before.read-card.ensures c.enum_told.given.1,
+      card-known s.args.series s.args.card.now c.read_card-reading.ensures c.in-Accepted.is,
     )
 
-returns : tie.Need-returns
+returns : tie.Need-returns-in-Accepted
 returns c =
-    let s = c.before.before.before.before.before.before.before.before in
-    rw (← c.before.before.before.before.before.before.read-card.ensures, c.before.before.before.enum_told.given.1)
-    (c.overview-on.ensures
+    let s = c in
+    rw (← c.read_card-reading.ensures, c.in-Accepted.is)
+    (c.overview_on.ensures
     ∙ ap (with_total _) (ap (with_total _)
-    (c.before.into-parts.ensures
-    ∙ ap pixel_report (c.before.before.overview-pixel.ensures ∙ pair-asked (overview_pixel_of _ _) s.ranges.row s.ranges.column))))
+    (c.into_parts.ensures
+    ∙ ap pixel_report (c.overview_pixel.ensures ∙ pair-asked (overview_pixel_of _ _) s.ranges.row s.ranges.column))))
 
-returns-2 : tie.Need-returns-2
+returns-2 : tie.Need-returns-in-Refused
 returns-2 c =
-    rw (← c.before.before.before.before.before.before.read-card.ensures, c.before.before.before.verdict.given.1)
-    (c.overview-on2.ensures ∙ ap (with_total _) (ap (with_total _) c.before.into-parts2.ensures))
+    rw (← c.read_card-reading.ensures, c.in-Refused.is)
+    (c.overview_on-in-Refused.ensures ∙ ap (with_total _) (ap (with_total _) c.into_parts-in-Refused.ensures))
 
-pub pixel-over-spec : {M : Type 1} → statement M
-pixel-over-spec =
+pub pixel_over_spec : {M : Type 1} → statement M
+pixel_over_spec =
     tie.close
     (tie.spec (λ c κs. search rules) (λ c. search rules) overview-pixel-requires (λ c κs. search rules) (λ c κs. search rules) (λ c. search rules)
     (λ c κs. search rules) (λ c κs. search rules) returns returns-2)

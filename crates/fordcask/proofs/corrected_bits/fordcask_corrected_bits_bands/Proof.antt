@@ -9,23 +9,23 @@ use borrow.Author.Rules.{rules}
 use Rattle.fordcask.proofs.corrected_bits.fordcask_corrected_bits_bands.Statement.{statement}
 use Rattle.fordcask.proofs.corrected_bits.fordcask_corrected_bits_bands.Tie as tie
 
-corrected-bits-bands-requires : tie.Need-corrected-bits-bands-requires
-corrected-bits-bands-requires c κs = let s = c.before.before.before.before.before.before.before.before.before in
-    card-known s.args.series s.args.card.now c.before.before.before.read-card.ensures c.enum_told.given.1
+corrected-bits-bands-requires : tie.Need-corrected_bits_bands-requires
+corrected-bits-bands-requires c κs = let s = c in
+    card-known s.args.series s.args.card.now c.read_card-reading.ensures c.in-Accepted.is
 
-returns : tie.Need-returns
+returns : tie.Need-returns-in-Accepted
 returns c =
-    let s = c.before.before.before.before.before.before.before.before.before.before.before.before in
-    rw (← c.before.before.before.before.before.before.read-card.ensures, c.before.before.before.enum_told.given.1)
-    (c.bands-on.ensures ∙ ap (with_total _) (c.before.into-parts.ensures
-    ∙ ap bands_report (c.before.before.corrected-bits-bands.ensures ∙ pair-asked (bits_either_bands_of _ _ _ _ _ _ _) s.ranges.row s.ranges.column)))
+    let s = c in
+    rw (← c.read_card-reading.ensures, c.in-Accepted.is)
+    (c.bands_on.ensures ∙ ap (with_total _) (c.into_parts.ensures
+    ∙ ap bands_report (c.corrected_bits_bands.ensures ∙ pair-asked (bits_either_bands_of _ _ _ _ _ _ _) s.ranges.row s.ranges.column)))
 
-returns-2 : tie.Need-returns-2
-returns-2 c = rw (← c.before.before.before.before.before.before.read-card.ensures, c.before.before.before.verdict.given.1)
-    (c.bands-on2.ensures ∙ ap (with_total _) c.before.into-parts2.ensures)
+returns-2 : tie.Need-returns-in-Refused
+returns-2 c = rw (← c.read_card-reading.ensures, c.in-Refused.is)
+    (c.bands_on-in-Refused.ensures ∙ ap (with_total _) c.into_parts-in-Refused.ensures)
 
-pub fordcask-corrected-bits-bands-spec : {M : Type 1} → statement M
-fordcask-corrected-bits-bands-spec =
+pub fordcask_corrected_bits_bands_spec : {M : Type 1} → statement M
+fordcask_corrected_bits_bands_spec =
     tie.close
     (tie.spec (λ c κs. search rules) (λ c. search rules) corrected-bits-bands-requires (λ c κs. search rules) (λ c κs. search rules) (λ c. search rules)
     (λ c κs. search rules) (λ c κs. search rules) returns returns-2)

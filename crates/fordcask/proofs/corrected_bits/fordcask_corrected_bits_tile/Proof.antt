@@ -18,41 +18,41 @@ use Rattle.fordcask.proofs.corrected_bits.fordcask_corrected_bits_tile.Statement
 use Rattle.fordcask.proofs.corrected_bits.fordcask_corrected_bits_tile.Tie as tie
 
 -- what is asked of a card
-abbrev asked : tie.After-corrected-bits-number → Card → SourceAnswer
-asked c k = let a = c.before.before.before.before.before.before.before.before.before.before.args in bits_source_of k a.words.now a.count
+abbrev asked : tie.After-corrected_bits_number → Card → SourceAnswer
+asked c k = let a = c.args in bits_source_of k a.words.now a.count
     a.store.now a.corrections.now a.corrected a.second.now a.row a.column
 
 -- the answer, of row and column as they are held
-plain : (c : tie.After-corrected-bits-number) → c.corrected-bits-number.result ≡ asked c c.before.before.before.before.read-card.result.card
-plain c = let s = c.before.before.before.before.before.before.before.before.before.before in c.corrected-bits-number.ensures
+plain : (c : tie.After-corrected_bits_number) → c.corrected_bits_number.result ≡ asked c c.read_card-reading.result.card
+plain c = let s = c in c.corrected_bits_number.ensures
     ∙ pair-asked (bits_source_of _ _ _ _ _ _ _) s.ranges.row s.ranges.column
 
-corrected-bits-number-requires : tie.Need-corrected-bits-number-requires
-corrected-bits-number-requires c κs = let s = c.before.before.before.before.before.before.before.before.before in
-    card-known s.args.series s.args.card.now c.before.before.before.read-card.ensures c.enum_told.given.1
+corrected-bits-number-requires : tie.Need-corrected_bits_number-requires
+corrected-bits-number-requires c κs = let s = c in
+    card-known s.args.series s.args.card.now c.read_card-reading.ensures c.in-Accepted.is
 
-source-tile-requires : tie.Need-source-tile-requires
+source-tile-requires : tie.Need-source_tile-requires
 source-tile-requires c κs =
-    let s = c.before.before.before.before.before.before.before.before.before.before in
+    let s = c in
     let a = s.args in
-    let b : length a.store.now < 2 ^ 64 = omega (arith, s.well-formed) in
-    let d : length a.second.now < 2 ^ 64 = omega (arith, s.well-formed) in
-    from-source c.corrected-bits-number.result a.store.now a.second.now b d
+    let b : length a.store.now < 2 ^ 64 = omega (arith, s.well_formed) in
+    let d : length a.second.now < 2 ^ 64 = omega (arith, s.well_formed) in
+    from-source c.corrected_bits_number.result a.store.now a.second.now b d
     (subst (λ (x : SourceAnswer). Held x a.store.now a.second.now) (sym (plain c)) (bits-source-in-store _ _ _ _ _ _ _ _ _))
 
-returns : tie.Need-returns
+returns : tie.Need-returns-in-Accepted
 returns c =
-    let d = c.before in
-    let a = c.before.before.before.before.before.before.before.before.before.before.before.args in
-    c.source-tile.ensures
-    ∙ ap₂ corrected_tile (ap (λ (x : Reading). x.blanks) c.before.before.before.before.before.read-card.ensures)
-    (plain d ∙ card-answers a.series a.card.now c.before.before.before.before.before.read-card.ensures SourceAnswer.Refused (asked d)
-    c.before.before.enum_told.given.1)
+    let d = c in
+    let a = c.args in
+    c.source_tile.ensures
+    ∙ ap₂ corrected_tile (ap (λ (x : Reading). x.blanks) c.read_card-reading.ensures)
+    (plain d.before ∙ card-answers a.series a.card.now c.read_card-reading.ensures SourceAnswer.Refused (asked d.before)
+    c.in-Accepted.is)
 
-returns-2 : tie.Need-returns-2
-returns-2 c = rw (← c.before.before.before.before.before.read-card.ensures, c.before.before.verdict.given.1) c.source-tile2.ensures
+returns-2 : tie.Need-returns-in-Refused
+returns-2 c = rw (← c.read_card-reading.ensures, c.in-Refused.is) c.source_tile-in-Refused.ensures
 
-pub fordcask-corrected-bits-tile-spec : {M : Type 1} → statement M
-fordcask-corrected-bits-tile-spec =
+pub fordcask_corrected_bits_tile_spec : {M : Type 1} → statement M
+fordcask_corrected_bits_tile_spec =
     tie.close
     (tie.spec (λ c κs. search rules) (λ c. search rules) corrected-bits-number-requires source-tile-requires (λ c. search rules) (λ c κs. tt) returns returns-2)

@@ -7,21 +7,21 @@ use borrow.Author.Rules.{rules}
 use Rattle.fordcask.proofs.corrected_bits.fordcask_corrected_bits_window.Statement.{statement}
 use Rattle.fordcask.proofs.corrected_bits.fordcask_corrected_bits_window.Tie as tie
 
-corrected-bits-window-requires : tie.Need-corrected-bits-window-requires
-corrected-bits-window-requires c κs = let s = c.before.before.before.before.before.before.before in
-    card-known s.args.series s.args.card.now c.before.before.before.read-card.ensures c.enum_told.given.1
+corrected-bits-window-requires : tie.Need-corrected_bits_window-requires
+corrected-bits-window-requires c κs = let s = c in
+    card-known s.args.series s.args.card.now c.read_card-reading.ensures c.in-Accepted.is
 
-returns : tie.Need-returns
+returns : tie.Need-returns-in-Accepted
 returns c =
-    rw (← c.before.before.before.before.before.before.read-card.ensures, c.before.before.before.enum_told.given.1)
-    (c.window_on.ensures ∙ ap (with_total _) (c.before.into-parts.ensures ∙ ap window_report c.before.before.corrected-bits-window.ensures))
+    rw (← c.read_card-reading.ensures, c.in-Accepted.is)
+    (c.window_on.ensures ∙ ap (with_total _) (c.into_parts.ensures ∙ ap window_report c.corrected_bits_window.ensures))
 
-returns-2 : tie.Need-returns-2
-returns-2 c = rw (← c.before.before.before.before.before.before.read-card.ensures, c.before.before.before.verdict.given.1)
-    (c.window-on2.ensures ∙ ap (with_total _) c.before.into-parts2.ensures)
+returns-2 : tie.Need-returns-in-Refused
+returns-2 c = rw (← c.read_card-reading.ensures, c.in-Refused.is)
+    (c.window_on-in-Refused.ensures ∙ ap (with_total _) c.into_parts-in-Refused.ensures)
 
-pub fordcask-corrected-bits-window-spec : {M : Type 1} → statement M
-fordcask-corrected-bits-window-spec =
+pub fordcask_corrected_bits_window_spec : {M : Type 1} → statement M
+fordcask_corrected_bits_window_spec =
     tie.close
     (tie.spec (λ c κs. search rules) (λ c. search rules) corrected-bits-window-requires (λ c κs. search rules) (λ c κs. search rules) (λ c. search rules)
     (λ c κs. search rules) (λ c κs. search rules) returns returns-2)

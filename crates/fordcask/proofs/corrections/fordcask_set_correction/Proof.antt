@@ -7,22 +7,22 @@ use borrow.Author.Rules.{rules}
 use Rattle.fordcask.proofs.corrections.fordcask_set_correction.Statement.{statement}
 use Rattle.fordcask.proofs.corrections.fordcask_set_correction.Tie as tie
 
-set-correction-requires : tie.Need-set-correction-requires
-set-correction-requires c κs = let s = c.before.before.before.before.before.before.before in
-    card-known s.args.series s.args.card.now c.before.before.before.before.read-card.ensures c.before.enum_told.given.1
+set-correction-requires : tie.Need-set_correction-requires
+set-correction-requires c κs = let s = c in
+    card-known s.args.series s.args.card.now c.read_card-reading.ensures c.in-Accepted.is
 
-returns : tie.Need-returns
+returns : tie.Need-returns-in-Accepted
 returns c =
-    let d = c.before.before.before.before in
-    let x = d.set-correction.ensures in
-    rw (← d.before.before.before.before.before.read-card.ensures, d.before.before.enum_told.given.1)
-    (c.verdict-on.ensures ∙ ap (verdict_parts _) (c.before.refusal.ensures ∙ ap refusal_of x.0), x.1)
+    let d = c in
+    let x = d.set_correction.ensures in
+    rw (← d.read_card-reading.ensures, d.in-Accepted.is)
+    (c.verdict_on.ensures ∙ ap (verdict_parts _) (c.refusal.ensures ∙ ap refusal_of x.0), x.1)
 
-returns-2 : tie.Need-returns-2
-returns-2 c = rw (← c.before.before.before.before.before.read-card.ensures, c.before.before.verdict.given.1) (c.verdict-on2.ensures, refl)
+returns-2 : tie.Need-returns-in-Refused
+returns-2 c = rw (← c.read_card-reading.ensures, c.in-Refused.is) (c.verdict_on-in-Refused.ensures, refl)
 
-pub fordcask-set-correction-spec : {M : Type 1} → statement M
-fordcask-set-correction-spec =
+pub fordcask_set_correction_spec : {M : Type 1} → statement M
+fordcask_set_correction_spec =
     tie.close
     (tie.spec (λ c κs. search rules) (λ c. search rules) set-correction-requires (λ c κs. search rules) (λ c κs. search rules) (λ c. search rules)
     (λ c κs. search rules) (λ c. search rules) returns returns-2)

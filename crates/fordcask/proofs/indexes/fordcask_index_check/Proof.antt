@@ -7,24 +7,24 @@ use borrow.Author.Rules.{rules}
 use Rattle.fordcask.proofs.indexes.fordcask_index_check.Statement.{statement}
 use Rattle.fordcask.proofs.indexes.fordcask_index_check.Tie as tie
 
-index-check-requires : tie.Need-index-check-requires
+index-check-requires : tie.Need-index_check-requires
 index-check-requires c κs =
-    let s = c.before.before.before.before.before.before.before.before in
-    card-known s.args.series s.args.card.now c.before.before.before.before.read-card.ensures
-    c.before.enum_told.given.1
+    let s = c in
+    card-known s.args.series s.args.card.now c.read_card-reading.ensures
+    c.in-Accepted.is
 
-returns : tie.Need-returns
+returns : tie.Need-returns-in-Accepted
 returns c =
-    let d = c.before.before.before.before in
-    let x = d.index-check.ensures in
-    rw (← d.before.before.before.before.before.read-card.ensures, d.before.before.enum_told.given.1)
-    (c.verdict-on.ensures ∙ ap (verdict_parts _) (c.before.refusal.ensures ∙ ap refusal_of x.0), x.1)
+    let d = c in
+    let x = d.index_check.ensures in
+    rw (← d.read_card-reading.ensures, d.in-Accepted.is)
+    (c.verdict_on.ensures ∙ ap (verdict_parts _) (c.refusal.ensures ∙ ap refusal_of x.0), x.1)
 
-returns-2 : tie.Need-returns-2
-returns-2 c = rw (← c.before.before.before.before.before.read-card.ensures, c.before.before.verdict.given.1) (c.verdict-on2.ensures, refl)
+returns-2 : tie.Need-returns-in-Refused
+returns-2 c = rw (← c.read_card-reading.ensures, c.in-Refused.is) (c.verdict_on-in-Refused.ensures, refl)
 
-pub fordcask-index-check-spec : {M : Type 1} → statement M
-fordcask-index-check-spec =
+pub fordcask_index_check_spec : {M : Type 1} → statement M
+fordcask_index_check_spec =
     tie.close
     (tie.spec (λ c κs. search rules) (λ c. search rules) index-check-requires (λ c κs. search rules) (λ c κs. search rules) (λ c. search rules)
     (λ c κs. search rules) (λ c. search rules) returns returns-2)

@@ -18,39 +18,39 @@ use Rattle.fordcask.proofs.indexes.fordcask_tile.Statement.{statement}
 use Rattle.fordcask.proofs.indexes.fordcask_tile.Tie as tie
 
 -- what is asked of a card
-abbrev asked : tie.After-stored-number → Card → NumberAnswer
-asked c k = let a = c.before.before.before.before.before.before.before.before.args in number_of k a.index.now a.count a.store.now
+abbrev asked : tie.After-stored_number → Card → NumberAnswer
+asked c k = let a = c.args in number_of k a.index.now a.count a.store.now
     a.row a.column
 
 -- the answer, of row and column as they are held
-plain : (c : tie.After-stored-number) → c.stored-number.result ≡ asked c c.before.before.before.before.read-card.result.card
-plain c = let s = c.before.before.before.before.before.before.before.before in c.stored-number.ensures
+plain : (c : tie.After-stored_number) → c.stored_number.result ≡ asked c c.read_card-reading.result.card
+plain c = let s = c in c.stored_number.ensures
     ∙ pair-asked (number_of _ _ _ _) s.ranges.row s.ranges.column
 
-stored-number-requires : tie.Need-stored-number-requires
-stored-number-requires c κs = let s = c.before.before.before.before.before.before.before in
-    card-known s.args.series s.args.card.now c.before.before.before.read-card.ensures c.enum_told.given.1
+stored-number-requires : tie.Need-stored_number-requires
+stored-number-requires c κs = let s = c in
+    card-known s.args.series s.args.card.now c.read_card-reading.ensures c.in-Accepted.is
 
-number-tile-requires : tie.Need-number-tile-requires
+number-tile-requires : tie.Need-number_tile-requires
 number-tile-requires c κs =
-    let a = c.before.before.before.before.before.before.before.before.args in
+    let a = c.args in
     let b : length a.store.now < 2 ^ 64 = omega arith in
-    numbered c.stored-number.result a.store.now b
+    numbered c.stored_number.result a.store.now b
     (subst (λ (x : NumberAnswer). HeldIn x a.store.now) (sym (plain c)) (number-in-store _ _ _ _ _ _))
 
-returns : tie.Need-returns
+returns : tie.Need-returns-in-Accepted
 returns c =
-    let d = c.before in
-    let a = c.before.before.before.before.before.before.before.before.before.args in
-    c.number-tile.ensures
-    ∙ ap₂ tile_parts (ap (λ (x : Reading). x.blanks) c.before.before.before.before.before.read-card.ensures)
-    (plain d ∙ card-answers a.series a.card.now c.before.before.before.before.before.read-card.ensures NumberAnswer.Refused (asked d)
-    c.before.before.enum_told.given.1)
+    let d = c in
+    let a = c.args in
+    c.number_tile.ensures
+    ∙ ap₂ tile_parts (ap (λ (x : Reading). x.blanks) c.read_card-reading.ensures)
+    (plain d.before ∙ card-answers a.series a.card.now c.read_card-reading.ensures NumberAnswer.Refused (asked d.before)
+    c.in-Accepted.is)
 
-returns-2 : tie.Need-returns-2
-returns-2 c = rw (← c.before.before.before.before.before.read-card.ensures, c.before.before.verdict.given.1) c.number-tile2.ensures
+returns-2 : tie.Need-returns-in-Refused
+returns-2 c = rw (← c.read_card-reading.ensures, c.in-Refused.is) c.number_tile-in-Refused.ensures
 
-pub fordcask-tile-spec : {M : Type 1} → statement M
-fordcask-tile-spec =
+pub fordcask_tile_spec : {M : Type 1} → statement M
+fordcask_tile_spec =
     tie.close
     (tie.spec (λ c κs. search rules) (λ c. search rules) stored-number-requires number-tile-requires (λ c. search rules) (λ c κs. tt) returns returns-2)

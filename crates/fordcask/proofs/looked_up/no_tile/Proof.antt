@@ -3,5 +3,5 @@ use borrow.Author.Rules.{rules}
 use Rattle.fordcask.proofs.looked_up.no_tile.Statement.{statement}
 use Rattle.fordcask.proofs.looked_up.no_tile.Tie as tie
 
-pub no-tile-spec : {M : Type 1} → statement M
-no-tile-spec = tie.close (tie.spec (λ c κs. search rules) (λ c. rw c.passed-with.ensures))
+pub no_tile_spec : {M : Type 1} → statement M
+no_tile_spec = tie.close (tie.spec (λ c κs. search rules) (λ c. rw c.passed_with.ensures))

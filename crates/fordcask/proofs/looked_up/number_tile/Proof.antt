@@ -8,20 +8,20 @@ use borrow.Author.Rules.{rules}
 use Rattle.fordcask.proofs.looked_up.number_tile.Statement.{statement}
 use Rattle.fordcask.proofs.looked_up.number_tile.Tie as tie
 
-small : (c : tie.After-known-told) → Small c.before.answer.given.0.0
-small c = subst Numbered c.before.answer.given.1 c.before.before.before.requires
+small : (c : tie.In-Stored) → Small c.in-Stored.n
+small c = subst Numbered c.in-Stored.is c.requires
 
-sub-t6 : tie.Need-overflow-sub-t6
+sub-t6 : tie.Need-overflow_sub-result
 sub-t6 c = omega (arith, small c)
 
-mul-t7 : tie.Need-overflow-mul-t7
+mul-t7 : tie.Need-overflow_mul-result
 mul-t7 c = omega (arith, small c)
 
-returns : tie.Need-returns
-returns c = sym (ap (tile_parts c.before.before.before.args.blanks) c.before.answer.given.1)
+returns : tie.Need-returns-in-Stored
+returns c = sym (ap (tile_parts c.args.blanks) c.in-Stored.is)
 
-returns-2 : tie.Need-returns-2
-returns-2 c = c.no_tile.ensures ∙ sym (ap (tile_parts c.before.before.before.before.args.blanks) c.before.before.answer2.given.1)
+returns-2 : tie.Need-returns-in-Refused
+returns-2 c = c.no_tile.ensures ∙ sym (ap (tile_parts c.args.blanks) c.in-Refused.is)
 
-pub number-tile-spec : {M : Type 1} → statement M
-number-tile-spec = tie.close (tie.spec (λ c. search rules) sub-t6 mul-t7 (λ c. search rules) (λ c κs. search rules) returns returns-2)
+pub number_tile_spec : {M : Type 1} → statement M
+number_tile_spec = tie.close (tie.spec (λ c. search rules) sub-t6 mul-t7 (λ c. search rules) (λ c κs. search rules) returns returns-2)

@@ -14,10 +14,10 @@ flag false = refl
 
 returns : tie.Need-returns
 returns c =
-    let a = c.before.before.before.before.before.args in
-    let n = to_z-of_z w64 a.reading.card.n (record { sfits = c.struct_told.given.1.1.1.0.1 }) in
-    let m = to_z-of_z w64 a.reading.card.m (record { sfits = c.struct_told.given.1.1.1.1.0.1 }) in
-    rw (n, m, c.before.before.before.before.refusal.ensures, flag a.reading.card.tif)
+    let a = c.args in
+    let n = to_z-of_z w64 a.reading.card.n (record { sfits = c.struct_told-1.given.1.1.1.0.1 }) in
+    let m = to_z-of_z w64 a.reading.card.m (record { sfits = c.struct_told-1.given.1.1.1.1.0.1 }) in
+    rw (n, m, c.refusal-refusal.ensures, flag a.reading.card.tif)
 
-pub card-parts-spec : {M : Type 1} → statement M
-card-parts-spec = tie.close (tie.spec (λ c κs. search rules) (λ c. search rules) returns)
+pub card_parts_spec : {M : Type 1} → statement M
+card_parts_spec = tie.close (tie.spec (λ c κs. search rules) (λ c. search rules) returns)

@@ -3,5 +3,5 @@ use borrow.Author.Rules.{rules}
 use Rattle.fordcask.proofs.on_card.pixel_on.Statement.{statement}
 use Rattle.fordcask.proofs.on_card.pixel_on.Tie as tie
 
-pub pixel-on-spec : {M : Type 1} → statement M
-pixel-on-spec = tie.close (tie.spec (λ c κs. search rules) (λ c. rw c.before.passed-with.ensures (search rules)))
+pub pixel_on_spec : {M : Type 1} → statement M
+pixel_on_spec = tie.close (tie.spec (λ c κs. search rules) (λ c. rw c.passed_with.ensures (search rules)))

@@ -3,5 +3,5 @@ use borrow.Author.Rules.{rules}
 use Rattle.fordcask.proofs.on_card.place_on.Statement.{statement}
 use Rattle.fordcask.proofs.on_card.place_on.Tie as tie
 
-pub place-on-spec : {M : Type 1} → statement M
-place-on-spec = tie.close (tie.spec (λ c κs. search rules) (λ c. rw c.before.passed-with.ensures (search rules)))
+pub place_on_spec : {M : Type 1} → statement M
+place_on_spec = tie.close (tie.spec (λ c κs. search rules) (λ c. rw c.passed_with.ensures (search rules)))

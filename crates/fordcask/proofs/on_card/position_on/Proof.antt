@@ -3,5 +3,5 @@ use borrow.Author.Rules.{rules}
 use Rattle.fordcask.proofs.on_card.position_on.Statement.{statement}
 use Rattle.fordcask.proofs.on_card.position_on.Tie as tie
 
-pub position-on-spec : {M : Type 1} → statement M
-position-on-spec = tie.close (tie.spec (λ c κs. search rules) (λ c. rw c.before.passed-with.ensures (search rules)))
+pub position_on_spec : {M : Type 1} → statement M
+position_on_spec = tie.close (tie.spec (λ c κs. search rules) (λ c. rw c.passed_with.ensures (search rules)))

@@ -3,5 +3,5 @@ use borrow.Author.Rules.{rules}
 use Rattle.fordcask.proofs.on_card.window_on.Statement.{statement}
 use Rattle.fordcask.proofs.on_card.window_on.Tie as tie
 
-pub window-on-spec : {M : Type 1} → statement M
-window-on-spec = tie.close (tie.spec (λ c κs. search rules) (λ c. rw c.passed-with.ensures))
+pub window_on_spec : {M : Type 1} → statement M
+window_on_spec = tie.close (tie.spec (λ c κs. search rules) (λ c. rw c.passed_with.ensures))

@@ -9,10 +9,10 @@ use Rattle.fordcask.proofs.plain.fordcask_align.Tie as tie
 
 returns : tie.Need-returns
 returns c =
-    let s = c.before.before in
-    c.into-parts.ensures
+    let s = c in
+    c.into_parts.ensures
     ∙ ap origin_report
-    (rw (to_z-of_z w64 s.args.lat s.ranges.lat, to_z-of_z w64 s.args.lon s.ranges.lon) at c.before.align.ensures)
+    (rw (to_z-of_z w64 s.args.lat s.ranges.lat, to_z-of_z w64 s.args.lon s.ranges.lon) at c.align.ensures)
 
-pub fordcask-align-spec : {M : Type 1} → statement M
-fordcask-align-spec = tie.close (tie.spec (λ c κs. search rules) (λ c κs. search rules) returns)
+pub fordcask_align_spec : {M : Type 1} → statement M
+fordcask_align_spec = tie.close (tie.spec (λ c κs. search rules) (λ c κs. search rules) returns)

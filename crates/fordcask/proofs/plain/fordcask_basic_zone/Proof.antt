@@ -9,8 +9,8 @@ use Rattle.fordcask.proofs.plain.fordcask_basic_zone.Tie as tie
 
 returns : tie.Need-returns
 returns c =
-    let s = c.before.before in
-    c.into-parts.ensures ∙ ap zone_report (rw (to_z-of_z w64 s.args.lat s.ranges.lat) at c.before.basic-zone.ensures)
+    let s = c in
+    c.into_parts.ensures ∙ ap zone_report (rw (to_z-of_z w64 s.args.lat s.ranges.lat) at c.basic_zone.ensures)
 
-pub fordcask-basic-zone-spec : {M : Type 1} → statement M
-fordcask-basic-zone-spec = tie.close (tie.spec (λ c κs. search rules) (λ c κs. search rules) returns)
+pub fordcask_basic_zone_spec : {M : Type 1} → statement M
+fordcask_basic_zone_spec = tie.close (tie.spec (λ c κs. search rules) (λ c κs. search rules) returns)

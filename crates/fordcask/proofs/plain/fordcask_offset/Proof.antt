@@ -9,14 +9,14 @@ use Rattle.fordcask.proofs.plain.fordcask_offset.Tie as tie
 
 returns : tie.Need-returns
 returns c =
-    let s = c.before.before in
-    c.into-parts.ensures
+    let s = c in
+    c.into_parts.ensures
     ∙ ap offset_parts (rw (
       to_z-of_z w64 s.args.lat s.ranges.lat,
       to_z-of_z w64 s.args.lon s.ranges.lon,
       to_z-of_z w64 s.args.clat s.ranges.clat,
       to_z-of_z w64 s.args.clon s.ranges.clon,
-    ) at c.before.offset-from.ensures)
+    ) at c.offset_from.ensures)
 
-pub fordcask-offset-spec : {M : Type 1} → statement M
-fordcask-offset-spec = tie.close (tie.spec (λ c κs. search rules) (λ c κs. search rules) returns)
+pub fordcask_offset_spec : {M : Type 1} → statement M
+fordcask_offset_spec = tie.close (tie.spec (λ c κs. search rules) (λ c κs. search rules) returns)

@@ -9,10 +9,10 @@ use Rattle.fordcask.proofs.plain.fordcask_rectangle.Tie as tie
 
 returns : tie.Need-returns
 returns c =
-    let s = c.before.before.before in
-    rw c.before.refusal.ensures
+    let s = c in
+    rw c.refusal-refusal.ensures
     (ap rectangle_parts (rw (to_z-of_z w64 s.args.south s.ranges.south, to_z-of_z w64 s.args.north s.ranges.north) at
-    c.before.before.rectangle.ensures))
+    c.rectangle-answer.ensures))
 
-pub fordcask-rectangle-spec : {M : Type 1} → statement M
-fordcask-rectangle-spec = tie.close (tie.spec (λ c κs. search rules) (λ c κs. search rules) returns)
+pub fordcask_rectangle_spec : {M : Type 1} → statement M
+fordcask_rectangle_spec = tie.close (tie.spec (λ c κs. search rules) (λ c κs. search rules) returns)

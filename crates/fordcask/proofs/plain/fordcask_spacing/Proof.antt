@@ -6,7 +6,7 @@ use Rattle.fordcask.proofs.plain.fordcask_spacing.Statement.{statement}
 use Rattle.fordcask.proofs.plain.fordcask_spacing.Tie as tie
 
 returns : tie.Need-returns
-returns c = c.into-parts.ensures ∙ ap spacing_report c.before.spacing.ensures
+returns c = c.into_parts.ensures ∙ ap spacing_report c.spacing.ensures
 
-pub fordcask-spacing-spec : {M : Type 1} → statement M
-fordcask-spacing-spec = tie.close (tie.spec (λ c κs. search rules) (λ c κs. search rules) returns)
+pub fordcask_spacing_spec : {M : Type 1} → statement M
+fordcask_spacing_spec = tie.close (tie.spec (λ c κs. search rules) (λ c κs. search rules) returns)

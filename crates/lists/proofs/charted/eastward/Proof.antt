@@ -18,59 +18,59 @@ use borrow.Author.Rules.{rules}
 use Rattle.lists.proofs.charted.eastward.Statement.{statement}
 use Rattle.lists.proofs.charted.eastward.Tie as tie
 
-returns : tie.Need-returns
-returns c = let s = c.before in rw (rw (to_z-of_z w64 s.args.lon s.ranges.lon) at c.if1.true)
+returns : tie.Need-returns-then-lon
+returns c = let s = c in rw (rw (to_z-of_z w64 s.args.lon s.ranges.lon) at c.if-lon.true)
 
 -- in range
-inside : (c : tie.Else1) → outside half c.before.args.lon ≡ false
-inside c = let s = c.before in rw (to_z-of_z w64 s.args.lon s.ranges.lon) at c.if1.false
+inside : (c : tie.Else-lon) → outside half c.args.lon ≡ false
+inside c = let s = c in rw (to_z-of_z w64 s.args.lon s.ranges.lon) at c.if-lon.false
 
-sub-t9 : tie.Need-overflow-sub-t9
-sub-t9 c = let s = c.before.before in apart_fits s.args.west s.args.lon s.requires (inside c.before) s.ranges.west s.ranges.lon
+sub-t9 : tie.Need-overflow_sub-result
+sub-t9 c = let s = c in apart_fits s.args.west s.args.lon s.requires (inside c.before) s.ranges.west s.ranges.lon
 
-add-t11 : tie.Need-overflow-add-t11
-add-t11 c = let s = c.before.before in round-fits s.args.west s.args.lon s.requires (inside c.before) s.ranges.west s.ranges.lon
+add-t11 : tie.Need-overflow_add-result
+add-t11 c = let s = c in round-fits s.args.west s.args.lon s.requires (inside c.before) s.ranges.west s.ranges.lon
 
-cast-t12 : tie.Need-overflow-cast-t12
+cast-t12 : tie.Need-overflow_cast-result-then-lon-west
 cast-t12 c =
-    let s = c.before.before in
+    let s = c in
     let i = inside c.before in
     casts (raise half s.args.lon + 129600000 - raise half s.args.west)
     (round-held s.args.west s.args.lon s.requires i s.ranges.west s.ranges.lon ∙ east-round s.args.west s.args.lon s.requires i)
     (omega (arith, raise-high half s.args.lon i))
 
-returns-2 : tie.Need-returns-2
+returns-2 : tie.Need-returns-then-lon-west
 returns-2 c =
-    let s = c.before.before in
+    let s = c in
     let t = pair-asked lt_z s.ranges.lon s.ranges.west in
-    let lt : lt_z s.args.lon s.args.west ≡ true = rw t at c.if2.true in
+    let lt : lt_z s.args.lon s.args.west ≡ true = rw t at c.if-lon-west.true in
     rw (inside c.before, lt)
     (ap (λ (z : ℤ). From (nat_abs z)) (round-held s.args.west s.args.lon s.requires (inside c.before) s.ranges.west s.ranges.lon))
 
 -- not west of the first
-past : (c : tie.Else2) → lt_z c.before.before.args.lon c.before.before.args.west ≡ false
-past c = let s = c.before.before in rw (pair-asked lt_z s.ranges.lon s.ranges.west) at c.if2.false
+past : (c : tie.Else-lon-west) → lt_z c.args.lon c.args.west ≡ false
+past c = let s = c in rw (pair-asked lt_z s.ranges.lon s.ranges.west) at c.if-lon-west.false
 
-sub-t3 : tie.Need-overflow-sub-t3
-sub-t3 c = let s = c.before.before in apart_fits s.args.west s.args.lon s.requires (inside c.before) s.ranges.west s.ranges.lon
+sub-t3 : tie.Need-overflow_sub-result-2
+sub-t3 c = let s = c in apart_fits s.args.west s.args.lon s.requires (inside c.before) s.ranges.west s.ranges.lon
 
-cast-t13 : tie.Need-overflow-cast-t13
+cast-t13 : tie.Need-overflow_cast-result-2
 cast-t13 c =
-    let s = c.before.before in
+    let s = c in
     let i = inside c.before in
     casts (raise half s.args.lon - raise half s.args.west)
     (apart-held s.args.west s.args.lon s.requires i s.ranges.west s.ranges.lon
     ∙ east-straight s.args.west s.args.lon s.requires i (east-past s.args.west s.args.lon s.requires i (past c)))
     (omega (arith, raise-high half s.args.lon i))
 
-returns-3 : tie.Need-returns-3
+returns-3 : tie.Need-returns
 returns-3 c =
-    let s = c.before.before in
+    let s = c in
     rw (inside c.before, past c)
     (ap (λ (z : ℤ). From (nat_abs z)) (apart-held s.args.west s.args.lon s.requires (inside c.before) s.ranges.west s.ranges.lon))
 
-pub eastward-spec : {M : Type 1} → statement M
-eastward-spec =
+pub eastward_spec : {M : Type 1} → statement M
+eastward_spec =
     tie.close
     (tie.spec (λ c. search rules) (λ c. search rules) (λ c. search rules) returns sub-t9 (λ c. search rules) add-t11 cast-t12 returns-2 sub-t3 cast-t13
     returns-3)

@@ -27,48 +27,48 @@ more-low s = column-more-fits _ s.requires.0 _ s.requires.1
 total-low : (s : tie.Start) → (from s + more s) / coarse < 2 * circle
 total-low s = rw (column-angle _ s.requires.0 _ s.requires.1) (column-below _ s.requires.0 _ s.requires.1)
 
-cast-whole-parts : tie.Need-overflow-cast-whole-parts
+cast-whole-parts : tie.Need-overflow_cast-x
 cast-whole-parts c = omega (arith, from_low c.before.before)
 
-sub-whole-parts : tie.Need-overflow-sub-whole-parts
-sub-whole-parts c = let s = c.before.before in from-fits (from s) (more s) (from_low s) (more-low s) (total-low s)
+sub-whole-parts : tie.Need-overflow_sub-x
+sub-whole-parts c = let s = c in from-fits (from s.before.before) (more s.before.before) (from_low s.before.before) (more-low s.before.before) (total-low s.before.before)
 
-mul-whole-parts : tie.Need-overflow-mul-whole-parts
+mul-whole-parts : tie.Need-overflow_mul-column
 mul-whole-parts c = record { fits = omega (arith, more-low c.before.before.before) }
 
-cast-whole-parts-2 : tie.Need-overflow-cast-whole-parts-2
+cast-whole-parts-2 : tie.Need-overflow_cast-column
 cast-whole-parts-2 c = omega (arith, more-low c.before.before.before)
 
-add-whole-parts : tie.Need-overflow-add-whole-parts
-add-whole-parts c = let s = c.before.before.before in sum_fits (from s) (more s) (from_low s) (more-low s) (total-low s)
+add-whole-parts : tie.Need-overflow_add-x
+add-whole-parts c = let s = c in sum_fits (from s.before.before.before) (more s.before.before.before) (from_low s.before.before.before) (more-low s.before.before.before) (total-low s.before.before.before)
 
 -- the floor
-whole : (c : tie.After-whole-parts)
-    → c.whole_parts.result ≡ pos ((from c.before.before.before.before + more c.before.before.before.before) / coarse) -ℤ pos circle
-whole c = let s = c.before.before.before.before in c.whole_parts.ensures ∙ sum-floor (from s) (more s) (from_low s) (more-low s) (total-low s)
+whole : (c : tie.After-whole_parts-t)
+    → c.whole_parts-t.result ≡ pos ((from c.before.before.before.before + more c.before.before.before.before) / coarse) -ℤ pos circle
+whole c = let s = c in c.whole_parts-t.ensures ∙ sum-floor (from s.before.before.before.before) (more s.before.before.before.before) (from_low s.before.before.before.before) (more-low s.before.before.before.before) (total-low s.before.before.before.before)
 
-add-result : tie.Need-overflow-add-result
+add-result : tie.Need-overflow_add-result
 add-result c =
-    let s = c.before.before.before.before.before in up_fits _ ((from s + more s) / coarse) (whole c.before) (total-low s)
+    let s = c in up_fits _ ((from s.before.before.before.before.before + more s.before.before.before.before.before) / coarse) (whole c.before) (total-low s.before.before.before.before.before)
 
-returns : tie.Need-returns
+returns : tie.Need-returns-then-t-lt0
 returns c =
-    let s = c.before.before.before.before.before in
-    up-held _ ((from s + more s) / coarse) (whole c.before) (total-low s) c.if1.true
+    let s = c in
+    up-held _ ((from s.before.before.before.before.before + more s.before.before.before.before.before) / coarse) (whole c.before) (total-low s.before.before.before.before.before) c.if-t-lt0.true
     ∙ ap (λ (n : ℕ). pos (n % circle) -ℤ pos half) (column-angle _ s.requires.0 _ s.requires.1)
 
-sub-result : tie.Need-overflow-sub-result
+sub-result : tie.Need-overflow_sub-result
 sub-result c =
-    let s = c.before.before.before.before.before in down_fits _ ((from s + more s) / coarse) (whole c.before) (total-low s)
+    let s = c in down_fits _ ((from s.before.before.before.before.before + more s.before.before.before.before.before) / coarse) (whole c.before) (total-low s.before.before.before.before.before)
 
-returns-2 : tie.Need-returns-2
+returns-2 : tie.Need-returns
 returns-2 c =
-    let s = c.before.before.before.before.before in
-    down-held _ ((from s + more s) / coarse) (whole c.before) (total-low s) c.if1.false
+    let s = c in
+    down-held _ ((from s.before.before.before.before.before + more s.before.before.before.before.before) / coarse) (whole c.before) (total-low s.before.before.before.before.before) c.if-t-lt0.false
     ∙ ap (λ (n : ℕ). pos (n % circle) -ℤ pos half) (column-angle _ s.requires.0 _ s.requires.1)
 
-pub longitude-spec : {M : Type 1} → statement M
-longitude-spec =
+pub longitude_spec : {M : Type 1} → statement M
+longitude_spec =
     tie.close
     (tie.spec cast-whole-parts sub-whole-parts mul-whole-parts cast-whole-parts-2 add-whole-parts (λ c κs. search rules) (λ c. search rules) add-result
     returns (λ c. search rules) sub-result returns-2)

@@ -21,82 +21,82 @@ use Rattle.lists.proofs.charted.pixel.Statement.{statement}
 use Rattle.lists.proofs.charted.pixel.Tie as tie
 
 southward-requires : tie.Need-southward-requires
-southward-requires c κs = let s = c.before.before in top-low s.args.e s.requires.0
+southward-requires c κs = let s = c in top-low s.args.e s.requires.0
 
-returns : tie.Need-returns
+returns : tie.Need-returns-in_default
 returns c = agrees-off
 
 eastward-requires : tie.Need-eastward-requires
 eastward-requires c κs =
-    let s = c.before.before.before.before.before.before in
+    let s = c in
     rw (to_z-of_z w64 s.args.west s.ranges.west) (west-inside s.args.e.across.first (left-low s.args.e s.requires.0) s.args.west s.requires.1)
 
-returns-2 : tie.Need-returns-2
+returns-2 : tie.Need-returns-in_default-eastward
 returns-2 c = agrees-off
 
-returns-3 : tie.Need-returns-3
+returns-3 : tie.Need-returns-then-y-south
 returns-3 c = agrees-off
 
 -- the counts, past the tests
-abbrev start : tie.Else1 → tie.Start
-start c = c.before.before.before.before.before.before.before.before.before.before.before.before.before
+abbrev start : tie.Else-y-south → tie.Start
+start c = c.before.before.before.before.before.before.before.before.before
 
-abbrev south : tie.Else1 → ℕ
-south c = c.before.before.before.before.before.before.before.before.south.given.0.0
+abbrev south : tie.Else-y-south → ℕ
+south c = c.in-From.south
 
-abbrev east : tie.Else1 → ℕ
-east c = c.before.before.before.before.east.given.0.0
+abbrev east : tie.Else-y-south → ℕ
+east c = c.in-From-eastward.east
 
-souths : (c : tie.Else1) → (outside quarter (start c).args.lat ≡ false) × (raise quarter (start c).args.lat ≤ (start c).args.e.down.first)
+souths : (c : tie.Else-y-south) → (outside quarter (start c).args.lat ≡ false) × (raise quarter (start c).args.lat ≤ (start c).args.e.down.first)
     × (south c ≡ (start c).args.e.down.first - raise quarter (start c).args.lat)
 souths c =
     let s = start c in
-    south-from s.args.e.down.first (top-low s.args.e s.pre.0) s.args.lat s.fits.lat
-    c.before.before.before.before.before.before.before.before.before.before.southward.ensures
-    c.before.before.before.before.before.before.before.before.south.given.1
+    south-from s.args.e.down.first (top-low s.args.e s.requires.0) s.args.lat s.ranges.lat
+    c.southward.ensures
+    c.in-From.is
 
-easts : (c : tie.Else1) → (outside half (start c).args.lon ≡ false) × (east c ≡ (raise half (start c).args.lon + (start c).args.e.across.first) % circle)
+easts : (c : tie.Else-y-south) → (outside half (start c).args.lon ≡ false) × (east c ≡ (raise half (start c).args.lon + (start c).args.e.across.first) % circle)
 easts c =
     let s = start c in
-    east-from s.args.e.across.first (left-low s.args.e s.pre.0) s.args.west s.pre.1 s.args.lon s.fits.west s.fits.lon
-    c.before.before.before.before.before.before.eastward.ensures c.before.before.before.before.east.given.1
+    east-from s.args.e.across.first (left-low s.args.e s.requires.0) s.args.west s.requires.1 s.args.lon s.ranges.west s.ranges.lon
+    c.eastward.ensures c.in-From-eastward.is
 
-on : (c : tie.Else1) → (south c ≤ (start c).args.e.down.most) × (east c ≤ (start c).args.e.across.most)
+on : (c : tie.Else-y-south) → (south c ≤ (start c).args.e.down.most) × (east c ≤ (start c).args.e.across.most)
 on c =
     let e = (start c).args.e in
-    let t = neither (ltb e.down.most (south c)) (ltb e.across.most (east c)) c.if1.false in
+    let t = neither (ltb e.down.most (south c)) (ltb e.across.most (east c)) c.if-y-south.false in
     (ltb-false e.down.most (south c) t.0, ltb-false e.across.most (east c) t.1)
 
-pixel-past-requires : tie.Need-pixel-past-requires
+pixel-past-requires : tie.Need-pixel_past-requires
 pixel-past-requires c κs =
     let s = start c in
     let y = souths c in
     let x = easts c in
-    rows_fit s.args.e s.pre.0 s.args.lat s.args.lon y.0 x.0 (south c) (east c) y.1 y.2 x.1 (on c).0 (on c).1
+    rows_fit s.args.e s.requires.0 s.args.lat s.args.lon y.0 x.0 (south c) (east c) y.1 y.2 x.1 (on c).0 (on c).1
 
-pixel-past-requires-2 : tie.Need-pixel-past-requires-2
+pixel-past-requires-2 : tie.Need-pixel_past-requires-2
 pixel-past-requires-2 c κs =
     let s = start c.before in
     let y = souths c.before in
     let x = easts c.before in
     let h = on c.before in
-    columns-fit s.args.e s.pre.0 s.args.lat s.args.lon y.0 x.0 (south c.before) (east c.before) y.1 y.2 x.1 h.0 h.1
+    columns-fit s.args.e s.requires.0 s.args.lat s.args.lon y.0 x.0 (south c.before) (east c.before) y.1 y.2 x.1 h.0 h.1
 
-returns-4 : tie.Need-returns-4
+returns-4 : tie.Need-returns
 returns-4 c =
-    let b = c.before.before in
-    let s = start b in
-    let y = souths b in
-    let x = easts b in
-    let h = on b in
+    let b = c in
+    let s = start b.before.before in
+    let y = souths b.before.before in
+    let x = easts b.before.before in
+    let h = on b.before.before in
     agrees_at
     (sym (ap pixel_report
-    (chart-pixel s.args.e s.pre.0 s.args.lat s.args.lon y.0 x.0 (south b) (east b) y.1 y.2 x.1 h.0 h.1))
-    ∙ sym (ap₂ (λ (u v : ℤ). answered (u ∷ v ∷ [])) (result-is c.before.pixel-past.type-inv c.before.pixel-past.ensures)
-    (result-is c.pixel-past2.type-inv c.pixel-past2.ensures)))
+    (chart-pixel s.args.e s.requires.0 s.args.lat s.args.lon y.0 x.0 (south b.before.before) (east b.before.before) y.1 y.2 x.1 h.0 h.1))
+    ∙ sym (ap₂ (λ (u v : ℤ). answered (u ∷ v ∷ [])) (result-is c.pixel_past.type_inv c.pixel_past.ensures)
+    (result-is c.pixel_past-2.type_inv c.pixel_past-2.ensures)))
 
-pub pixel-spec : {M : Type 1} → statement M
-pixel-spec =
+pub pixel_spec : {M : Type 1} → statement M
+pixel_spec =
     tie.close
     (tie.spec southward-requires (λ c. search rules) (λ c. search rules) returns eastward-requires (λ c. search rules) (λ c. search rules) returns-2
     returns-3 pixel-past-requires pixel-past-requires-2 returns-4)

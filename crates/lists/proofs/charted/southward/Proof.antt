@@ -13,36 +13,36 @@ use borrow.Author.Rules.{rules}
 use Rattle.lists.proofs.charted.southward.Statement.{statement}
 use Rattle.lists.proofs.charted.southward.Tie as tie
 
-sub-top : tie.Need-overflow-sub-top
+sub-top : tie.Need-overflow_sub-top
 sub-top c = top-difference c.args.first c.requires
 
-returns : tie.Need-returns
-returns c = let s = c.before in rw (south-tests s.args.first s.requires s.args.lat s.ranges.lat c.if1.true)
+returns : tie.Need-returns-then-lat-top
+returns c = let s = c in rw (south-tests s.args.first s.requires s.args.lat s.ranges.lat c.if-lat-top.true)
 
 -- past the tests
-past : (c : tie.Else1) → (outside quarter c.before.args.lat ≡ false) × (raise quarter c.before.args.lat ≤ c.before.args.first)
+past : (c : tie.Else-lat-top) → (outside quarter c.args.lat ≡ false) × (raise quarter c.args.lat ≤ c.args.first)
 past c =
-    let s = c.before in
-    south-inside s.args.first s.requires s.args.lat (south-tests s.args.first s.requires s.args.lat s.ranges.lat c.if1.false)
+    let s = c in
+    south-inside s.args.first s.requires s.args.lat (south-tests s.args.first s.requires s.args.lat s.ranges.lat c.if-lat-top.false)
 
-sub-t4 : tie.Need-overflow-sub-t4
-sub-t4 c = let s = c.before in south-fits s.args.first s.requires s.args.lat s.ranges.lat (past c).0
+sub-t4 : tie.Need-overflow_sub-result
+sub-t4 c = let s = c in south-fits s.args.first s.requires s.args.lat s.ranges.lat (past c).0
 
-cast-t9 : tie.Need-overflow-cast-t9
+cast-t9 : tie.Need-overflow_cast-result
 cast-t9 c =
-    let s = c.before in
+    let s = c in
     let o = past c in
     casts (s.args.first - raise quarter s.args.lat)
     (south-held s.args.first s.requires s.args.lat s.ranges.lat o.0 ∙ south-is s.args.first s.requires s.args.lat o.0 o.1)
     (omega (arith, s.requires))
 
-returns-2 : tie.Need-returns-2
+returns-2 : tie.Need-returns
 returns-2 c =
-    let s = c.before in
-    rw (south-tests s.args.first s.requires s.args.lat s.ranges.lat c.if1.false)
+    let s = c in
+    rw (south-tests s.args.first s.requires s.args.lat s.ranges.lat c.if-lat-top.false)
     (ap (λ (z : ℤ). From (nat_abs z)) (south-held s.args.first s.requires s.args.lat s.ranges.lat (past c).0))
 
-pub southward-spec : {M : Type 1} → statement M
-southward-spec =
+pub southward_spec : {M : Type 1} → statement M
+southward_spec =
     tie.close
     (tie.spec (λ c. search rules) (λ c. search rules) sub-top (λ c. search rules) (λ c. search rules) returns sub-t4 cast-t9 returns-2)

@@ -16,8 +16,8 @@ use borrow.Author.Rules.{rules}
 use Rattle.lists.proofs.charted.west_of.Statement.{statement}
 use Rattle.lists.proofs.charted.west_of.Tie as tie
 
-cast-result-2 : tie.Need-overflow-cast-result-2
-cast-result-2 c = let s = c.before.before in omega (arith, left-low s.args.e s.requires)
+cast-result-2 : tie.Need-overflow_cast-result-2
+cast-result-2 c = let s = c in omega (arith, left-low s.args.e s.requires)
 
 -- a difference of naturals below 2 ^ 63
 module _ (e : Engine) (made : Made e) where
@@ -27,12 +27,12 @@ module _ (e : Engine) (made : Made e) where
   west-fits : SFits w64 (west_of e)
   west-fits = is-fits (west_of e) half e.across.first (is-difference half e.across.first) (omega arith) (omega (arith, left-low e made))
 
-sub-result : tie.Need-overflow-sub-result
-sub-result c = let s = c.before.before in rw (plain s.args.e s.requires) (west-fits s.args.e s.requires)
+sub-result : tie.Need-overflow_sub-result
+sub-result c = let s = c in rw (plain s.args.e s.requires) (west-fits s.args.e s.requires)
 
 returns : tie.Need-returns
 returns c =
-    let s = c.before.before in rw (plain s.args.e s.requires) (to_z-of_z w64 (west_of s.args.e) (west-fits s.args.e s.requires))
+    let s = c in rw (plain s.args.e s.requires) (to_z-of_z w64 (west_of s.args.e) (west-fits s.args.e s.requires))
 
-pub west-of-spec : {M : Type 1} → statement M
-west-of-spec = tie.close (tie.spec (λ c. search rules) cast-result-2 sub-result returns)
+pub west_of_spec : {M : Type 1} → statement M
+west_of_spec = tie.close (tie.spec (λ c. search rules) cast-result-2 sub-result returns)

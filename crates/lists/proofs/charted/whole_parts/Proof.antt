@@ -14,5 +14,5 @@ returns c =
     rw (to_z-of_z w64 c.args.x c.ranges.x)
     (result-is (lt_of_le_of_lt (mag_shr c.args.x 68719476736) c.ranges.x.sfits) (shift-floor c.args.x 68719476736))
 
-pub whole-parts-spec : {M : Type 1} → statement M
-whole-parts-spec = tie.close (tie.spec (λ c. search rules) (λ c. search rules) returns)
+pub whole_parts_spec : {M : Type 1} → statement M
+whole_parts_spec = tie.close (tie.spec (λ c. search rules) (λ c. search rules) returns)

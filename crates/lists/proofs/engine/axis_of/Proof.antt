@@ -14,41 +14,41 @@ angle-low s =
     let first : ℕ = s.args.from + s.args.x / 512 in
     lt_of_mul-lt-mul_right d (omega (arith, div-mul-le_self first d, some _ s.requires.0, s.requires.0.whole, s.requires.1))
 
-start-of-requires : tie.Need-start-of-requires
+start-of-requires : tie.Need-start_of-requires
 start-of-requires c κs = mod-lt _ (some _ c.requires.0)
 
-scale-up-requires : tie.Need-scale-up-requires
+scale-up-requires : tie.Need-scale_up-part-requires
 scale-up-requires c κs =
-    let s = c.before in
-    omega (arith, c.start_of_lem.ensures, start-high _ s.requires.0 (s.args.from + s.args.x / 512) s.args.off, s.requires.0)
+    let s = c in
+    omega (arith, c.start_of.ensures, start-high _ s.requires.0 (s.args.from + s.args.x / 512) s.args.off, s.requires.0)
 
-mul-t9 : tie.Need-overflow-mul-t9
+mul-t9 : tie.Need-overflow_mul-result
 mul-t9 c = record { fits = omega (arith, angle-low c.before.before) }
 
 -- the part of one that it has beside them
-part : (c : tie.After-scale-up) → c.scale-up.result < 68719476736
+part : (c : tie.After-scale_up-part) → c.scale_up-part.result < 68719476736
 part c =
-    let s = c.before.before in
-    rw (c.scale-up.ensures, c.before.start_of_lem.ensures)
+    let s = c in
+    rw (c.scale_up-part.ensures, c.start_of.ensures)
     (part_low _ s.requires.0 _ (start-high _ s.requires.0 (s.args.from + s.args.x / 512) s.args.off))
 
-start-of-requires-2 : tie.Need-start-of-requires-2
+start-of-requires-2 : tie.Need-start_of-requires-2
 start-of-requires-2 c κs = part c
 
-add-t11 : tie.Need-overflow-add-t11
+add-t11 : tie.Need-overflow_add-result
 add-t11 c =
-    let b = c.before in
-    let low : c.start-of2.result < 68719476736 =
-    rw c.start-of2.ensures (start-low b.scale-up.result 68719476736 b.before.before.args.off (part b)) in
-    record { fits = omega (arith, angle-low b.before.before, low) }
+    let b = c in
+    let low : c.start_of-2.result < 68719476736 =
+    rw c.start_of-2.ensures (start-low b.scale_up-part.result 68719476736 b.args.off (part b.before)) in
+    record { fits = omega (arith, angle-low b.before.before.before, low) }
 
 returns : tie.Need-returns
 returns c =
-    let b = c.before.before in
-    rw (c.scale-up2.ensures, c.before.start-of2.ensures, b.scale-up.ensures, b.before.start_of_lem.ensures)
+    let b = c in
+    rw (c.scale_up.ensures, c.start_of-2.ensures, b.scale_up-part.ensures, b.start_of.ensures)
 
-pub axis-of-spec : {M : Type 1} → statement M
-axis-of-spec =
+pub axis_of_spec : {M : Type 1} → statement M
+axis_of_spec =
     tie.close
     (tie.spec (λ c. search rules) (λ c. search rules) (λ c. search rules) start-of-requires scale-up-requires (λ c. search rules) mul-t9
     start-of-requires-2 add-t11 (λ c κs. search rules) returns)

@@ -7,7 +7,7 @@ use Rattle.lists.proofs.engine.pixel_past.Statement.{statement}
 use Rattle.lists.proofs.engine.pixel_past.Tie as tie
 
 returns : tie.Need-returns
-returns c = to_z_pos w64 _ (omega (arith, c.before.before.requires))
+returns c = to_z_pos w64 _ (omega (arith, c.requires))
 
-pub pixel-past-spec : {M : Type 1} → statement M
-pixel-past-spec = tie.close (tie.spec (λ c. search rules) (λ c. search rules) (λ c. search rules) returns)
+pub pixel_past_spec : {M : Type 1} → statement M
+pixel_past_spec = tie.close (tie.spec (λ c. search rules) (λ c. search rules) (λ c. search rules) returns)

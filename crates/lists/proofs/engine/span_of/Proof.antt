@@ -4,10 +4,10 @@ use Rattle.lists.proofs.engine.span_of.Statement.{statement}
 use Rattle.lists.proofs.engine.span_of.Tie as tie
 
 returns : tie.Need-returns
-returns c = rw (c.before.scale-up.ensures, c.scale-up2.ensures)
+returns c = rw (c.scale_up.ensures, c.scale_up-2.ensures)
 
-pub span-of-spec : {M : Type 1} → statement M
-span-of-spec =
+pub span_of_spec : {M : Type 1} → statement M
+span_of_spec =
     tie.close
     (tie.spec (λ c. search rules) (λ c. search rules) (λ c. search rules) (λ c. search rules) (λ c κs. search rules) (λ c κs. search rules)
     (λ c. search rules) (λ c. search rules) returns)

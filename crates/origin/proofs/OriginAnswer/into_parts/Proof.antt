@@ -3,8 +3,8 @@ use borrow.Author.Rules.{rules}
 use Rattle.origin.proofs.OriginAnswer.into_parts.Statement.{statement}
 use Rattle.origin.proofs.OriginAnswer.into_parts.Tie as tie
 
-pub into-parts-spec : {M : Type 1} → statement M
-into-parts-spec =
+pub into_parts_spec : {M : Type 1} → statement M
+into_parts_spec =
     tie.close
-    (tie.spec (λ c. search rules) (λ c. search rules) (λ c. rw c.before.before.self.given.1 (search rules))
-    (λ c. rw c.before.self2.given.1))
+    (tie.spec (λ c. search rules) (λ c. search rules) (λ c. rw c.in-Aligned.is (search rules))
+    (λ c. rw c.in-Refused.is))

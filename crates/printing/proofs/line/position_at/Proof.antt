@@ -11,9 +11,9 @@ use Rattle.printing.proofs.line.position_at.Tie as tie
 
 returns : tie.Need-returns
 returns c =
-    let s = c.before in
+    let s = c in
     c.position_in.ensures
     ∙ ap₂ (position_of Pair.Corner s.args.k) (to_z_pos w64 s.args.row (omega arith)) (to_z_pos w64 s.args.column (omega arith))
 
-pub position-at-spec : {M : Type 1} → statement M
-position-at-spec = tie.close (tie.spec (λ c. search rules) (λ c. search rules) (λ c κs. search rules) returns)
+pub position_at_spec : {M : Type 1} → statement M
+position_at_spec = tie.close (tie.spec (λ c. search rules) (λ c. search rules) (λ c κs. search rules) returns)

@@ -5,7 +5,7 @@ use Rattle.printing.proofs.parse.number_of.Statement.{statement}
 use Rattle.printing.proofs.parse.number_of.Tie as tie
 
 returns : tie.Need-returns
-returns c = number_of c.before.before.before.args.s.now c.before.digits_of.ensures
+returns c = number_of c.args.s.now c.digits_of-d.ensures
 
-pub number-of-spec : {M : Type 1} → statement M
-number-of-spec = tie.close (tie.spec (λ c κs. search rules) returns)
+pub number_of_spec : {M : Type 1} → statement M
+number_of_spec = tie.close (tie.spec (λ c κs. search rules) returns)

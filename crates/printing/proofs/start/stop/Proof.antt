@@ -8,7 +8,7 @@ use Rattle.printing.proofs.start.stop.Tie as tie
 
 returns : tie.Need-returns
 returns c =
-    let s = c.before.args in ap (λ (k : Card). record { length = s.length; more = false; card = k; blanks = 0; next = s.end }) c.no-card.ensures
+    let s = c.args in ap (λ (k : Card). record { length = s.length; more = false; card = k; blanks = 0; next = s.end }) c.no_card-card.ensures
 
-pub stop-spec : {M : Type 1} → statement M
-stop-spec = tie.close (tie.spec (λ c κs. search rules) returns)
+pub stop_spec : {M : Type 1} → statement M
+stop_spec = tie.close (tie.spec (λ c κs. search rules) returns)

@@ -7,7 +7,7 @@ use Rattle.printing.proofs.start.stop_with.Statement.{statement}
 use Rattle.printing.proofs.start.stop_with.Tie as tie
 
 returns : tie.Need-returns
-returns c = stops (put_if c.before.before.before.put-bytes.ensures (omega arith)) c.stop.result _ c.stop.ensures
+returns c = stops (put_if c.put_bytes-length.ensures (omega arith)) c.stop.result _ c.stop.ensures
 
-pub stop-with-spec : {M : Type 1} → statement M
-stop-with-spec = tie.close (tie.spec (λ c κs. search rules) (λ c κs. search rules) (λ c. search rules) returns)
+pub stop_with_spec : {M : Type 1} → statement M
+stop_with_spec = tie.close (tie.spec (λ c κs. search rules) (λ c κs. search rules) (λ c. search rules) returns)

@@ -5,14 +5,14 @@ use borrow.Author.Rules.{rules}
 use Rattle.tiles.proofs.bit_rows.bit_says.Statement.{statement}
 use Rattle.tiles.proofs.bit_rows.bit_says.Tie as tie
 
-returns : tie.Need-returns
-returns c = rw (eq-eqb _ 0 (sym c.before.bit.ensures ∙ c.if1.true))
+returns : tie.Need-returns-then-bit-eq0
+returns c = rw (eq-eqb _ 0 (sym c.bit.ensures ∙ c.if-bit-eq0.true))
 
-returns-2 : tie.Need-returns-2
-returns-2 c = rw (ne_eqb _ 0 (λ z. c.before.if1.false (c.before.before.bit.ensures ∙ z)), le-leb _ _ c.if2.true)
+returns-2 : tie.Need-returns-then-end-tile
+returns-2 c = rw (ne_eqb _ 0 (λ z. c.if-bit-eq0.false (c.bit.ensures ∙ z)), le-leb _ _ c.if-end-tile.true)
 
-returns-3 : tie.Need-returns-3
-returns-3 c = rw (ne_eqb _ 0 (λ z. c.before.if1.false (c.before.before.bit.ensures ∙ z)), lt-leb _ _ c.if2.false)
+returns-3 : tie.Need-returns
+returns-3 c = rw (ne_eqb _ 0 (λ z. c.if-bit-eq0.false (c.bit.ensures ∙ z)), lt-leb _ _ c.if-end-tile.false)
 
-pub bit-says-spec : {M : Type 1} → statement M
-bit-says-spec = tie.close (tie.spec (λ c κs. search rules) returns returns-2 returns-3)
+pub bit_says_spec : {M : Type 1} → statement M
+bit_says_spec = tie.close (tie.spec (λ c κs. search rules) returns returns-2 returns-3)

@@ -18,54 +18,54 @@ use Rattle.tiles.proofs.bit_rows.bits_view.Statement.{statement}
 use Rattle.tiles.proofs.bit_rows.bits_view.Tie as tie
 
 -- the test of 12
-past : (c : tie.After-reaches-past2) → let a = c.before.before.before.before.before.before.args in
-    ltb a.k.nfl (a.top + a.height) || ltb a.k.nfc (a.left + a.width) ≡ c.before.reaches-past.result || c.reaches-past2.result
-past c = ap₂ (λ (x y : Bool). x || y) (sym c.before.reaches-past.ensures) (sym c.reaches-past2.ensures)
+past : (c : tie.After-reaches_past-2) → let a = c.args in
+    ltb a.k.nfl (a.top + a.height) || ltb a.k.nfc (a.left + a.width) ≡ c.reaches_past.result || c.reaches_past-2.result
+past c = ap₂ (λ (x y : Bool). x || y) (sym c.reaches_past.ensures) (sym c.reaches_past-2.ensures)
 
 view-requires : tie.Need-view-requires
-view-requires c κs = let s = c.before.before.before.before.before.before in
-    (s.requires.0, none_right s.args.k s.args.words.now s.args.count (not-true s.args.k.tif c.before.before.if1.true) s.requires.1.0)
+view-requires c κs = let s = c in
+    (s.requires.0, none_right s.args.k s.args.words.now s.args.count (not-true s.args.k.tif c.if-not-k.true) s.requires.1.0)
 
-returns : tie.Need-returns
+returns : tie.Need-returns-then-not-k
 returns c =
-    let a = c.before.before.before.before.before.before.before.args in
+    let a = c.args in
     c.view.ensures
     ∙ ap (λ (says : ℕ → Said). view_of a.k (said_with a.corrections.now a.corrected says) a.top a.left a.height a.width)
-    (by-none a.k a.words.now a.count (not-true a.k.tif c.before.before.before.if1.true))
+    (by-none a.k a.words.now a.count (not-true a.k.tif c.if-not-k.true))
 
-returns-2 : tie.Need-returns-2
+returns-2 : tie.Need-returns-then-reaches_past
 unfolding view_of
-returns-2 c = rw (past c.before.before ∙ c.before.if2.true) (ap WindowAnswer.Refused c.refused.ensures)
+returns-2 c = rw (past c.before.before ∙ c.if-reaches_past.true) (ap WindowAnswer.Refused c.refused.ensures)
 
-few : (c : tie.Else2) → length c.before.before.before.before.before.before.before.args.words.now ≤ 15594
-few c = let s = c.before.before.before.before.before.before.before in
+few : (c : tie.Else-reaches_past) → length c.args.words.now ≤ 15594
+few c = let s = c in
     words-few s.args.k s.args.words.now (words_right s.args.k s.args.words.now s.args.count s.requires.1.0) s.requires.0
 
-cast-within : tie.Need-overflow-cast-within
+cast-within : tie.Need-overflow_cast-words
 cast-within c = omega (arith, few c)
 
-mul-within : tie.Need-overflow-mul-within
+mul-within : tie.Need-overflow_mul-words
 mul-within c = omega (arith, few c)
 
-rows-missing-requires : tie.Need-rows-missing-requires
+rows-missing-requires : tie.Need-rows_missing-requires
 rows-missing-requires c κs =
-    let s = c.before.before.before.before.before.before.before.before in
-    let n = neither _ _ (past c.before.before ∙ c.before.if2.false) in
+    let s = c in
+    let n = neither _ _ (past c.before.before ∙ c.if-reaches_past.false) in
     (s.requires.1.1, record { known = s.requires.0; down = ltb-false _ _ n.0; across = ltb-false _ _ n.1 })
 
-returns-3 : tie.Need-returns-3
+returns-3 : tie.Need-returns
 unfolding view_of
 returns-3 c =
-    let a = c.before.before.before.before.before.before.before.before.before.args in
+    let a = c.args in
     let ts = window_tiles a.k a.top a.left a.height a.width in
-    rw (past c.before.before.before ∙ c.before.before.if2.false)
-    (c.rows-missing.ensures
-    ∙ ap (λ (m : ℕ). scan (said_with a.corrections.now a.corrected (said_before m a.words.now)) ts) c.before.within.ensures
-    ∙ scan-alike _ _ (by_end a.words.now a.count a.k (not-false a.k.tif c.before.before.before.before.before.if1.false))
+    rw (past c.before.before.before ∙ c.if-reaches_past.false)
+    (c.rows_missing.ensures
+    ∙ ap (λ (m : ℕ). scan (said_with a.corrections.now a.corrected (said_before m a.words.now)) ts) c.within-end.ensures
+    ∙ scan-alike _ _ (by_end a.words.now a.count a.k (not-false a.k.tif c.if-not-k.false))
     a.corrections.now a.corrected ts)
 
-pub bits-view-spec : {M : Type 1} → statement M
-bits-view-spec =
+pub bits_view_spec : {M : Type 1} → statement M
+bits_view_spec =
     tie.close
     (tie.spec (λ c. search rules) (λ c. search rules) (λ c. search rules) view-requires returns (λ c κs. search rules) (λ c κs. search rules)
     (λ c κs. search rules) returns-2 cast-within mul-within (λ c κs. search rules) rows-missing-requires returns-3)

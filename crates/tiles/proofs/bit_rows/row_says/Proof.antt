@@ -13,30 +13,30 @@ use borrow.Author.Rules.{rules}
 use Rattle.tiles.proofs.bit_rows.row_says.Statement.{statement}
 use Rattle.tiles.proofs.bit_rows.row_says.Tie as tie
 
-returns : tie.Need-returns
+returns : tie.Need-returns-then-not-beside
 returns c =
-    let s = c.before.before.before.before in
-    let e : s.args.corrections.now ≡ [] = subst (λ (b : Bool). Beside b s.args.corrections.now) (not-true s.args.beside c.before.if1.true)
+    let s = c in
+    let e : s.args.corrections.now ≡ [] = subst (λ (b : Bool). Beside b s.args.corrections.now) (not-true s.args.beside c.if-not-beside.true-raw)
     s.requires in
-    c.bit-says.ensures ∙ sym (with_none s.args.corrections.now s.args.tile s.args.corrected _ (ap (λ (l : List ℕ). get_or l s.args.tile 0) e))
+    c.bit_says.ensures ∙ sym (with_none s.args.corrections.now s.args.tile s.args.corrected _ (ap (λ (l : List ℕ). get_or l s.args.tile 0) e))
 
-returns-2 : tie.Need-returns-2
-returns-2 c = let a = c.before.before.before.before.before.args in
-    sym (with-above a.corrections.now a.tile a.corrected _ (omega (arith, c.if2.true, c.before.correction-at.ensures)))
+returns-2 : tie.Need-returns-then-corrected-correction
+returns-2 c = let a = c.args in
+    sym (with-above a.corrections.now a.tile a.corrected _ (omega (arith, c.if-corrected-correction.true, c.correction_at-correction.ensures)))
 
-returns-3 : tie.Need-returns-3
+returns-3 : tie.Need-returns-then-correction-ne0
 returns-3 c =
-    let a = c.before.before.before.before.before.before.args in
-    let e = c.before.before.correction-at.ensures in
-    sym (with-stored a.corrections.now a.tile a.corrected _ (λ z. c.if3.true (e ∙ z)) (omega (arith, c.before.if2.false, e))
+    let a = c.args in
+    let e = c.correction_at-correction.ensures in
+    sym (with-stored a.corrections.now a.tile a.corrected _ (λ z. c.if-correction-ne0.true (e ∙ z)) (omega (arith, c.if-corrected-correction.false, e))
     ∙ ap Said.Stored (sym e))
 
-returns-4 : tie.Need-returns-4
-returns-4 c = let a = c.before.before.before.before.before.before.before.args in
-    c.bit-says2.ensures
-    ∙ sym (with_none a.corrections.now a.tile a.corrected _ (sym c.before.before.before.correction-at.ensures ∙ c.before.if3.false))
+returns-4 : tie.Need-returns
+returns-4 c = let a = c.args in
+    c.bit_says-2.ensures
+    ∙ sym (with_none a.corrections.now a.tile a.corrected _ (sym c.correction_at-correction.ensures ∙ c.if-correction-ne0.false))
 
-pub row-says-spec : {M : Type 1} → statement M
-row-says-spec =
+pub row_says_spec : {M : Type 1} → statement M
+row_says_spec =
     tie.close
     (tie.spec (λ c κs. search rules) returns (λ c κs. search rules) returns-2 returns-3 (λ c κs. search rules) returns-4)

@@ -14,14 +14,14 @@ use Rattle.tiles.proofs.bits.bits_bands.Statement.{statement}
 use Rattle.tiles.proofs.bits.bits_bands.Tie as tie
 
 -- the number of the pixel's tile, in the base store
-asked : (c : tie.After-with-source) → let a = c.before.before.before.before.args in
-    c.with-source.result ≡ sourced Source.Base (bits_number_of a.k a.words.now a.count a.store.now a.row a.column)
-asked c = let s = c.before.before.before.before in
-    c.with-source.ensures
-    ∙ ap (sourced Source.Base) (c.before.bits-number.ensures ∙ pair-asked (bits_number_of _ _ _ _) s.ranges.row s.ranges.column)
+asked : (c : tie.After-with_source) → let a = c.args in
+    c.with_source.result ≡ sourced Source.Base (bits_number_of a.k a.words.now a.count a.store.now a.row a.column)
+asked c = let s = c in
+    c.with_source.ensures
+    ∙ ap (sourced Source.Base) (c.bits_number-answer.ensures ∙ pair-asked (bits_number_of _ _ _ _) s.ranges.row s.ranges.column)
 
-either-bands-requires : tie.Need-either-bands-requires
-either-bands-requires c κs = let a = c.before.before.before.before.args in
+either-bands-requires : tie.Need-either_bands-requires
+either-bands-requires c κs = let a = c.args in
     subst (λ (x : SourceAnswer). Held x a.store.now a.store.now) (sym (asked c))
     (held-base (bits_number_of a.k a.words.now a.count a.store.now a.row a.column) a.store.now a.store.now
     (bits-number-in-store _ _ _ _ _ _))
@@ -29,13 +29,13 @@ either-bands-requires c κs = let a = c.before.before.before.before.args in
 returns : tie.Need-returns
 unfolding bits_bands_of bits_part_of
 returns c =
-    let s = c.before.before.before.before.before in
+    let s = c in
     let a = s.args in
     let store = a.store.now in
-    c.either-bands.ensures
+    c.either_bands.ensures
     ∙ ap₂ (λ (x : SourceAnswer) (i : ℕ). bands_in (number_alone x) (either_part x store store) i) (asked c.before)
     (pair-asked in_band s.ranges.row s.ranges.column)
     ∙ bands-base (bits_number_of a.k a.words.now a.count store a.row a.column) store store (in_band a.row a.column)
 
-pub bits-bands-spec : {M : Type 1} → statement M
-bits-bands-spec = tie.close (tie.spec (λ c κs. search rules) (λ c κs. search rules) either-bands-requires returns)
+pub bits_bands_spec : {M : Type 1} → statement M
+bits_bands_spec = tie.close (tie.spec (λ c κs. search rules) (λ c κs. search rules) either-bands-requires returns)

@@ -14,36 +14,36 @@ use Rattle.tiles.proofs.bits.bits_number.Statement.{statement}
 use Rattle.tiles.proofs.bits.bits_number.Tie as tie
 
 -- the lengths are right
-right : (c : tie.Else1) → let a = c.before.before.before.before.args in bits_wrong a.k a.words.now a.count a.store.now ≡ false
-right c = sym c.before.bits-wrong.ensures ∙ c.if1.false
+right : (c : tie.Else-bits_wrong) → let a = c.args in bits_wrong a.k a.words.now a.count a.store.now ≡ false
+right c = sym c.bits_wrong.ensures ∙ c.if-bits_wrong.false
 
-returns : tie.Need-returns
+returns : tie.Need-returns-then-bits_wrong
 unfolding bits_number_of
-returns c = rw (sym c.before.before.bits-wrong.ensures ∙ c.before.if1.true) (ap NumberAnswer.Refused c.refused.ensures)
+returns c = rw (sym c.bits_wrong.ensures ∙ c.if-bits_wrong.true) (ap NumberAnswer.Refused c.refused.ensures)
 
-stray-bit-requires : tie.Need-stray-bit-requires
-stray-bit-requires c κs = (c.before.before.before.before.requires, words_right _ _ _ (neither _ _ (right c)).0)
+stray-bit-requires : tie.Need-stray_bit-requires
+stray-bit-requires c κs = (c.requires, words_right _ _ _ (neither _ _ (right c)).0)
 
-returns-2 : tie.Need-returns-2
+returns-2 : tie.Need-returns-then-stray_bit
 unfolding bits_number_of
-returns-2 c = rw (right c.before.before.before, sym c.before.before.stray-bit.ensures ∙ c.before.if2.true)
-    (ap NumberAnswer.Refused c.refused2.ensures)
+returns-2 c = rw (right c.before.before.before, sym c.stray_bit.ensures ∙ c.if-stray_bit.true)
+    (ap NumberAnswer.Refused c.refused-then-stray_bit.ensures)
 
-returns-3 : tie.Need-returns-3
+returns-3 : tie.Need-returns
 unfolding bits_number_of
 returns-3 c =
-    let s = c.before.before.before.before.before.before.before.before.before.before in
+    let s = c in
     let says = said_bits s.args.k s.args.words.now s.args.count in
     rw (
-      right c.before.before.before.before.before.before,
-      sym c.before.before.before.before.before.stray-bit.ensures
-          ∙ c.before.before.before.before.if2.false,
+      right c.before.before.before.before.before,
+      sym c.stray_bit.ensures
+          ∙ c.if-stray_bit.false,
     )
-    (c.number_in.ensures ∙ ap number_alone c.before.bits-found.ensures ∙ none_found s.args.k 0 says _ _
+    (c.number_in.ensures ∙ ap number_alone c.bits_found.ensures ∙ none_found s.args.k 0 says _ _
     ∙ pair-asked (found_of s.args.k says) s.ranges.row s.ranges.column)
 
-pub bits-number-spec : {M : Type 1} → statement M
-bits-number-spec =
+pub bits_number_spec : {M : Type 1} → statement M
+bits_number_spec =
     tie.close
     (tie.spec (λ c κs. search rules) (λ c κs. search rules) returns stray-bit-requires (λ c κs. search rules) returns-2 (λ c. search rules)
     (λ c. search rules) (λ c. search rules) (λ c κs. search rules) (λ c κs. search rules) returns-3)

@@ -12,14 +12,14 @@ use Rattle.tiles.proofs.bits.bits_tile.Statement.{statement}
 use Rattle.tiles.proofs.bits.bits_tile.Tie as tie
 
 -- the number of the pixel's tile, in the base store
-asked : (c : tie.After-with-source) → let a = c.before.before.before.before.args in
-    c.with-source.result ≡ sourced Source.Base (bits_number_of a.k a.words.now a.count a.store.now a.row a.column)
-asked c = let s = c.before.before.before.before in
-    c.with-source.ensures
-    ∙ ap (sourced Source.Base) (c.before.bits-number.ensures ∙ pair-asked (bits_number_of _ _ _ _) s.ranges.row s.ranges.column)
+asked : (c : tie.After-with_source) → let a = c.args in
+    c.with_source.result ≡ sourced Source.Base (bits_number_of a.k a.words.now a.count a.store.now a.row a.column)
+asked c = let s = c in
+    c.with_source.ensures
+    ∙ ap (sourced Source.Base) (c.bits_number-answer.ensures ∙ pair-asked (bits_number_of _ _ _ _) s.ranges.row s.ranges.column)
 
-either-part-requires : tie.Need-either-part-requires
-either-part-requires c κs = let a = c.before.before.before.before.args in
+either-part-requires : tie.Need-either_part-requires
+either-part-requires c κs = let a = c.args in
     subst (λ (x : SourceAnswer). Held x a.store.now a.store.now) (sym (asked c))
     (held-base (bits_number_of a.k a.words.now a.count a.store.now a.row a.column) a.store.now a.store.now
     (bits-number-in-store _ _ _ _ _ _))
@@ -27,10 +27,10 @@ either-part-requires c κs = let a = c.before.before.before.before.args in
 returns : tie.Need-returns
 unfolding bits_part_of
 returns c =
-    let a = c.before.before.before.before.before.args in
+    let a = c.args in
     let store = a.store.now in
-    c.either-part.ensures ∙ ap (λ (x : SourceAnswer). either_part x store store) (asked c.before)
+    c.either_part.ensures ∙ ap (λ (x : SourceAnswer). either_part x store store) (asked c.before)
     ∙ part-base (bits_number_of a.k a.words.now a.count store a.row a.column) store store
 
-pub bits-tile-spec : {M : Type 1} → statement M
-bits-tile-spec = tie.close (tie.spec (λ c κs. search rules) (λ c κs. search rules) either-part-requires returns)
+pub bits_tile_spec : {M : Type 1} → statement M
+bits_tile_spec = tie.close (tie.spec (λ c κs. search rules) (λ c κs. search rules) either-part-requires returns)

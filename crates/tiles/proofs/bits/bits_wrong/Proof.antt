@@ -10,17 +10,17 @@ use Rattle.tiles.proofs.bits.bits_wrong.Statement.{statement}
 use Rattle.tiles.proofs.bits.bits_wrong.Tie as tie
 
 -- the words and the count are right
-right : (c : tie.Else1) → let a = c.before.before.before.before.args in words_wrong a.k a.words.now a.count ≡ false
-right c = sym c.before.words-wrong.ensures ∙ c.if1.false
+right : (c : tie.Else-words_wrong) → let a = c.args in words_wrong a.k a.words.now a.count ≡ false
+right c = sym c.words_wrong.ensures ∙ c.if-words_wrong.false
 
-returns : tie.Need-returns
-returns c = rw (sym c.before.words-wrong.ensures ∙ c.if1.true)
+returns : tie.Need-returns-then-words_wrong
+returns c = rw (sym c.words_wrong.ensures ∙ c.if-words_wrong.true)
 
-mul-result : tie.Need-overflow-mul-result
-mul-result c = omega (arith, tiles-small _ c.before.before.before.before.requires, words_count _ _ _ (right c))
+mul-result : tie.Need-overflow_mul-result
+mul-result c = omega (arith, tiles-small _ c.requires, words_count _ _ _ (right c))
 
-returns-2 : tie.Need-returns-2
+returns-2 : tie.Need-returns
 returns-2 c = rw (right c)
 
-pub bits-wrong-spec : {M : Type 1} → statement M
-bits-wrong-spec = tie.close (tie.spec (λ c κs. search rules) returns mul-result returns-2)
+pub bits_wrong_spec : {M : Type 1} → statement M
+bits_wrong_spec = tie.close (tie.spec (λ c κs. search rules) returns mul-result returns-2)

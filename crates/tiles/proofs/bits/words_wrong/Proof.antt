@@ -7,19 +7,19 @@ use Rattle.tiles.proofs.Entry.{tiles-small}
 use Rattle.tiles.proofs.bits.words_wrong.Statement.{statement}
 use Rattle.tiles.proofs.bits.words_wrong.Tie as tie
 
-mul-tiles : tie.Need-overflow-mul-tiles
-mul-tiles c = let l = known-laid _ c.before.requires in fits-mul 999 999 tt l.down-most l.across-most
+mul-tiles : tie.Need-overflow_mul-tiles
+mul-tiles c = let l = known-laid _ c.requires in fits-mul 999 999 tt l.down-most l.across-most
 
-add-result : tie.Need-overflow-add-result
-add-result c = omega (arith, tiles-small _ c.before.before.requires)
+add-result : tie.Need-overflow_add-result
+add-result c = omega (arith, tiles-small _ c.requires)
 
-returns : tie.Need-returns
+returns : tie.Need-returns-then-k
 unfolding words_wrong
-returns c = rw c.if1.true
+returns c = rw c.if-k.true
 
-returns-2 : tie.Need-returns-2
+returns-2 : tie.Need-returns
 unfolding words_wrong
-returns-2 c = rw c.if1.false
+returns-2 c = rw c.if-k.false
 
-pub words-wrong-spec : {M : Type 1} → statement M
-words-wrong-spec = tie.close (tie.spec mul-tiles add-result returns returns-2)
+pub words_wrong_spec : {M : Type 1} → statement M
+words_wrong_spec = tie.close (tie.spec mul-tiles add-result returns returns-2)

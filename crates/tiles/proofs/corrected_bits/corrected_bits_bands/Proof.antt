@@ -13,23 +13,23 @@ use Rattle.tiles.proofs.corrected_bits.corrected_bits_bands.Statement.{statement
 use Rattle.tiles.proofs.corrected_bits.corrected_bits_bands.Tie as tie
 
 -- the source and the number there of the pixel's tile
-asked : (c : tie.After-corrected-bits-number) → let a = c.before.before.before.before.before.args in
-    c.corrected-bits-number.result ≡ bits_source_of a.k a.words.now a.count a.store.now a.corrections.now a.corrected a.second.now
+asked : (c : tie.After-corrected_bits_number-answer) → let a = c.args in
+    c.corrected_bits_number-answer.result ≡ bits_source_of a.k a.words.now a.count a.store.now a.corrections.now a.corrected a.second.now
     a.row a.column
-asked c = let s = c.before.before.before.before.before in c.corrected-bits-number.ensures
+asked c = let s = c in c.corrected_bits_number-answer.ensures
     ∙ pair-asked (bits_source_of _ _ _ _ _ _ _) s.ranges.row s.ranges.column
 
-either-bands-requires : tie.Need-either-bands-requires
-either-bands-requires c κs = let a = c.before.before.before.before.before.args in
+either-bands-requires : tie.Need-either_bands-requires
+either-bands-requires c κs = let a = c.args in
     subst (λ (x : SourceAnswer). Held x a.store.now a.second.now) (sym (asked c)) (bits-source-in-store _ _ _ _ _ _ _ _ _)
 
 returns : tie.Need-returns
 unfolding bits_either_bands_of bits_either_part_of
 returns c =
-    let s = c.before.before.before.before.before.before in
-    c.either-bands.ensures
+    let s = c in
+    c.either_bands.ensures
     ∙ ap₂ (λ (x : SourceAnswer) (i : ℕ). bands_in (number_alone x) (either_part x s.args.store.now s.args.second.now) i) (asked c.before)
     (pair-asked in_band s.ranges.row s.ranges.column)
 
-pub corrected-bits-bands-spec : {M : Type 1} → statement M
-corrected-bits-bands-spec = tie.close (tie.spec (λ c κs. search rules) either-bands-requires returns)
+pub corrected_bits_bands_spec : {M : Type 1} → statement M
+corrected_bits_bands_spec = tie.close (tie.spec (λ c κs. search rules) either-bands-requires returns)

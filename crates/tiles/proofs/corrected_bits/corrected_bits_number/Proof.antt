@@ -12,52 +12,52 @@ use Rattle.tiles.proofs.corrected_bits.corrected_bits_number.Statement.{statemen
 use Rattle.tiles.proofs.corrected_bits.corrected_bits_number.Tie as tie
 
 -- the lengths of the base, and of the corrections, are right
-right : (c : tie.Else1) → let a = c.before.before.before.before.before.before.args in bits_wrong a.k a.words.now a.count a.store.now ≡ false
-right c = sym c.before.bits-wrong.ensures ∙ c.if1.false
+right : (c : tie.Else-bits_wrong) → let a = c.args in bits_wrong a.k a.words.now a.count a.store.now ≡ false
+right c = sym c.bits_wrong.ensures ∙ c.if-bits_wrong.false
 
-beside : (c : tie.Else2) → let a = c.before.before.before.before.before.before.before.before.args in corrections_wrong a.k a.corrections.now
+beside : (c : tie.Else-corrections_wrong) → let a = c.args in corrections_wrong a.k a.corrections.now
     a.corrected a.second.now ≡ false
-beside c = sym c.before.corrections-wrong.ensures ∙ c.if2.false
+beside c = sym c.corrections_wrong.ensures ∙ c.if-corrections_wrong.false
 
-returns : tie.Need-returns
+returns : tie.Need-returns-then-bits_wrong
 unfolding bits_source_of
-returns c = rw (sym c.before.before.bits-wrong.ensures ∙ c.before.if1.true) (ap SourceAnswer.Refused c.refused.ensures)
+returns c = rw (sym c.bits_wrong.ensures ∙ c.if-bits_wrong.true) (ap SourceAnswer.Refused c.refused.ensures)
 
-returns-2 : tie.Need-returns-2
+returns-2 : tie.Need-returns-then-corrections_wrong
 unfolding bits_source_of
-returns-2 c = rw (right c.before.before.before, sym c.before.before.corrections-wrong.ensures ∙ c.before.if2.true)
-    (ap SourceAnswer.Refused c.refused2.ensures)
+returns-2 c = rw (right c.before.before.before, sym c.corrections_wrong.ensures ∙ c.if-corrections_wrong.true)
+    (ap SourceAnswer.Refused c.refused-then-corrections_wrong.ensures)
 
-stray-bit-requires : tie.Need-stray-bit-requires
+stray-bit-requires : tie.Need-stray_bit-requires
 stray-bit-requires c κs = (
-  c.before.before.before.before.before.before.before.before.requires,
+  c.requires,
   words_right _ _ _
       (neither _ _ (right c.before.before)).0,
 )
 
-returns-3 : tie.Need-returns-3
+returns-3 : tie.Need-returns-then-stray_bit
 unfolding bits_source_of
 returns-3 c = rw (
   right c.before.before.before.before.before,
   beside c.before.before.before,
-  sym c.before.before.stray-bit.ensures
-      ∙ c.before.if3.true,
-) (ap SourceAnswer.Refused c.refused3.ensures)
+  sym c.stray_bit.ensures
+      ∙ c.if-stray_bit.true,
+) (ap SourceAnswer.Refused c.refused-then-stray_bit.ensures)
 
-returns-4 : tie.Need-returns-4
+returns-4 : tie.Need-returns
 unfolding bits_source_of
 returns-4 c =
-    let s = c.before.before.before.before.before.before.before.before.before.before.before in
+    let s = c in
     rw (
       right c.before.before.before.before.before,
       beside c.before.before.before,
-      sym c.before.before.stray-bit.ensures
-          ∙ c.before.if3.false,
+      sym c.stray_bit.ensures
+          ∙ c.if-stray_bit.false,
     )
-    (c.bits-found.ensures ∙ pair-asked (sourced_of _ _ _ _) s.ranges.row s.ranges.column)
+    (c.bits_found.ensures ∙ pair-asked (sourced_of _ _ _ _) s.ranges.row s.ranges.column)
 
-pub corrected-bits-number-spec : {M : Type 1} → statement M
-corrected-bits-number-spec =
+pub corrected_bits_number_spec : {M : Type 1} → statement M
+corrected_bits_number_spec =
     tie.close
     (tie.spec (λ c κs. search rules) (λ c κs. search rules) returns (λ c κs. search rules) (λ c κs. search rules) returns-2 stray-bit-requires
     (λ c κs. search rules) returns-3 (λ c κs. search rules) returns-4)

@@ -11,20 +11,20 @@ use Rattle.tiles.proofs.corrected_bits.corrected_bits_tile.Statement.{statement}
 use Rattle.tiles.proofs.corrected_bits.corrected_bits_tile.Tie as tie
 
 -- the source and the number there of the pixel's tile
-asked : (c : tie.After-corrected-bits-number) → let a = c.before.before.before.before.before.args in
-    c.corrected-bits-number.result ≡ bits_source_of a.k a.words.now a.count a.store.now a.corrections.now a.corrected a.second.now
+asked : (c : tie.After-corrected_bits_number-answer) → let a = c.args in
+    c.corrected_bits_number-answer.result ≡ bits_source_of a.k a.words.now a.count a.store.now a.corrections.now a.corrected a.second.now
     a.row a.column
-asked c = let s = c.before.before.before.before.before in c.corrected-bits-number.ensures
+asked c = let s = c in c.corrected_bits_number-answer.ensures
     ∙ pair-asked (bits_source_of _ _ _ _ _ _ _) s.ranges.row s.ranges.column
 
-either-part-requires : tie.Need-either-part-requires
-either-part-requires c κs = let a = c.before.before.before.before.before.args in
+either-part-requires : tie.Need-either_part-requires
+either-part-requires c κs = let a = c.args in
     subst (λ (x : SourceAnswer). Held x a.store.now a.second.now) (sym (asked c)) (bits-source-in-store _ _ _ _ _ _ _ _ _)
 
 returns : tie.Need-returns
 unfolding bits_either_part_of
-returns c = let a = c.before.before.before.before.before.before.args in
-    c.either-part.ensures ∙ ap (λ (x : SourceAnswer). either_part x a.store.now a.second.now) (asked c.before)
+returns c = let a = c.args in
+    c.either_part.ensures ∙ ap (λ (x : SourceAnswer). either_part x a.store.now a.second.now) (asked c.before)
 
-pub corrected-bits-tile-spec : {M : Type 1} → statement M
-corrected-bits-tile-spec = tie.close (tie.spec (λ c κs. search rules) either-part-requires returns)
+pub corrected_bits_tile_spec : {M : Type 1} → statement M
+corrected_bits_tile_spec = tie.close (tie.spec (λ c κs. search rules) either-part-requires returns)

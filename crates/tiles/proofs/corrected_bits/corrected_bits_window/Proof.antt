@@ -10,47 +10,47 @@ use Rattle.tiles.proofs.corrected_bits.corrected_bits_window.Statement.{statemen
 use Rattle.tiles.proofs.corrected_bits.corrected_bits_window.Tie as tie
 
 -- the lengths of the base, and of the corrections, are right
-right : (c : tie.Else1) → let a = c.before.before.before.before.args in words_wrong a.k a.words.now a.count ≡ false
-right c = sym c.before.words-wrong.ensures ∙ c.if1.false
+right : (c : tie.Else-words_wrong) → let a = c.args in words_wrong a.k a.words.now a.count ≡ false
+right c = sym c.words_wrong.ensures ∙ c.if-words_wrong.false
 
-beside : (c : tie.Else2) → let a = c.before.before.before.before.before.before.args in list_wrong a.k a.corrections.now a.corrected ≡ false
-beside c = sym c.before.list-wrong.ensures ∙ c.if2.false
+beside : (c : tie.Else-list_wrong) → let a = c.args in list_wrong a.k a.corrections.now a.corrected ≡ false
+beside c = sym c.list_wrong.ensures ∙ c.if-list_wrong.false
 
-returns : tie.Need-returns
+returns : tie.Need-returns-then-words_wrong
 unfolding corrected_bits_window_of
-returns c = rw (sym c.before.before.words-wrong.ensures ∙ c.before.if1.true) (ap WindowAnswer.Refused c.refused.ensures)
+returns c = rw (sym c.words_wrong.ensures ∙ c.if-words_wrong.true) (ap WindowAnswer.Refused c.refused.ensures)
 
-returns-2 : tie.Need-returns-2
+returns-2 : tie.Need-returns-then-list_wrong
 unfolding corrected_bits_window_of
-returns-2 c = rw (right c.before.before.before, sym c.before.before.list-wrong.ensures ∙ c.before.if2.true)
-    (ap WindowAnswer.Refused c.refused2.ensures)
+returns-2 c = rw (right c.before.before.before, sym c.list_wrong.ensures ∙ c.if-list_wrong.true)
+    (ap WindowAnswer.Refused c.refused-then-list_wrong.ensures)
 
-stray-bit-requires : tie.Need-stray-bit-requires
-stray-bit-requires c κs = (c.before.before.before.before.before.before.requires, words_right _ _ _ (right c.before.before))
+stray-bit-requires : tie.Need-stray_bit-requires
+stray-bit-requires c κs = (c.requires, words_right _ _ _ (right c.before.before))
 
-returns-3 : tie.Need-returns-3
+returns-3 : tie.Need-returns-then-stray_bit
 unfolding corrected_bits_window_of
 returns-3 c = rw (
   right c.before.before.before.before.before,
   beside c.before.before.before,
-  sym c.before.before.stray-bit.ensures
-      ∙ c.before.if3.true,
-) (ap WindowAnswer.Refused c.refused3.ensures)
+  sym c.stray_bit.ensures
+      ∙ c.if-stray_bit.true,
+) (ap WindowAnswer.Refused c.refused-then-stray_bit.ensures)
 
-bits-view-requires : tie.Need-bits-view-requires
-bits-view-requires c κs = (c.before.before.before.before.before.before.before.before.requires, (right c.before.before.before.before, tt))
+bits-view-requires : tie.Need-bits_view-requires
+bits-view-requires c κs = (c.requires, (right c.before.before.before.before, tt))
 
-returns-4 : tie.Need-returns-4
+returns-4 : tie.Need-returns
 unfolding corrected_bits_window_of
 returns-4 c = rw (
   right c.before.before.before.before.before,
   beside c.before.before.before,
-  sym c.before.before.stray-bit.ensures
-      ∙ c.before.if3.false,
-) c.bits-view.ensures
+  sym c.stray_bit.ensures
+      ∙ c.if-stray_bit.false,
+) c.bits_view.ensures
 
-pub corrected-bits-window-spec : {M : Type 1} → statement M
-corrected-bits-window-spec =
+pub corrected_bits_window_spec : {M : Type 1} → statement M
+corrected_bits_window_spec =
     tie.close
     (tie.spec (λ c κs. search rules) (λ c κs. search rules) returns (λ c κs. search rules) (λ c κs. search rules) returns-2 stray-bit-requires
     (λ c κs. search rules) returns-3 bits-view-requires returns-4)

@@ -10,19 +10,19 @@ use Rattle.tiles.proofs.corrections.corrections_wrong.Statement.{statement}
 use Rattle.tiles.proofs.corrections.corrections_wrong.Tie as tie
 
 -- the list and its count are right
-right : (c : tie.Else1) → let a = c.before.before.before.before.args in list_wrong a.k a.corrections.now a.corrected ≡ false
-right c = sym c.before.list-wrong.ensures ∙ c.if1.false
+right : (c : tie.Else-list_wrong) → let a = c.args in list_wrong a.k a.corrections.now a.corrected ≡ false
+right c = sym c.list_wrong.ensures ∙ c.if-list_wrong.false
 
-returns : tie.Need-returns
+returns : tie.Need-returns-then-list_wrong
 unfolding corrections_wrong
-returns c = rw (sym c.before.list-wrong.ensures ∙ c.if1.true)
+returns c = rw (sym c.list_wrong.ensures ∙ c.if-list_wrong.true)
 
-mul-result : tie.Need-overflow-mul-result
-mul-result c = omega (arith, tiles-small _ c.before.before.before.before.requires, corrected-most _ _ _ (right c))
+mul-result : tie.Need-overflow_mul-result
+mul-result c = omega (arith, tiles-small _ c.requires, corrected-most _ _ _ (right c))
 
-returns-2 : tie.Need-returns-2
+returns-2 : tie.Need-returns
 unfolding corrections_wrong
 returns-2 c = rw (right c)
 
-pub corrections-wrong-spec : {M : Type 1} → statement M
-corrections-wrong-spec = tie.close (tie.spec (λ c κs. search rules) returns mul-result returns-2)
+pub corrections_wrong_spec : {M : Type 1} → statement M
+corrections_wrong_spec = tie.close (tie.spec (λ c κs. search rules) returns mul-result returns-2)

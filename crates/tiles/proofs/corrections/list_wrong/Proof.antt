@@ -6,12 +6,12 @@ use Rattle.tiles.specs.Corrections.{list_wrong}
 use Rattle.tiles.proofs.corrections.list_wrong.Statement.{statement}
 use Rattle.tiles.proofs.corrections.list_wrong.Tie as tie
 
-mul-tiles : tie.Need-overflow-mul-tiles
-mul-tiles c = let l = known-laid _ c.before.requires in fits-mul 999 999 tt l.down-most l.across-most
+mul-tiles : tie.Need-overflow_mul-tiles
+mul-tiles c = let l = known-laid _ c.requires in fits-mul 999 999 tt l.down-most l.across-most
 
 returns : tie.Need-returns
 unfolding list_wrong
 returns c = refl
 
-pub list-wrong-spec : {M : Type 1} → statement M
-list-wrong-spec = tie.close (tie.spec mul-tiles returns)
+pub list_wrong_spec : {M : Type 1} → statement M
+list_wrong_spec = tie.close (tie.spec mul-tiles returns)

@@ -12,41 +12,41 @@ use Rattle.tiles.proofs.corrections.set_correction.Statement.{statement}
 use Rattle.tiles.proofs.corrections.set_correction.Tie as tie
 
 -- the lengths are right
-right : (c : tie.Else1) → let a = c.before.before.before.before.args in list_wrong a.k a.corrections.now a.corrected ≡ false
-right c = sym c.before.list-wrong.ensures ∙ c.if1.false
+right : (c : tie.Else-list_wrong) → let a = c.args in list_wrong a.k a.corrections.now a.corrected ≡ false
+right c = sym c.list_wrong.ensures ∙ c.if-list_wrong.false
 
-returns : tie.Need-returns
+returns : tie.Need-returns-then-list_wrong
 unfolding setting_of set_of
-returns c = rw (sym c.before.before.list-wrong.ensures ∙ c.before.if1.true) (ap Verdict.Refused c.refused.ensures, refl)
+returns c = rw (sym c.list_wrong.ensures ∙ c.if-list_wrong.true) (ap Verdict.Refused c.refused.ensures, refl)
 
-mul-if2 : tie.Need-overflow-mul-if2
-mul-if2 c = omega (arith, tiles-small _ c.before.before.before.before.before.requires)
+mul-if2 : tie.Need-overflow_mul-k
+mul-if2 c = omega (arith, tiles-small _ c.requires)
 
-returns-2 : tie.Need-returns-2
+returns-2 : tie.Need-returns-then-k-tile
 unfolding setting_of set_of
-returns-2 c = rw (right c.before.before.before, le-leb _ _ c.before.if2.true) (ap Verdict.Refused c.refused2.ensures, refl)
+returns-2 c = rw (right c.before.before.before, le-leb _ _ c.if-k-tile.true) (ap Verdict.Refused c.refused-then-k-tile.ensures, refl)
 
-returns-3 : tie.Need-returns-3
+returns-3 : tie.Need-returns-then-corrected-number
 unfolding setting_of set_of
-returns-3 c = rw (right c.before.before.before.before, lt-leb _ _ c.before.before.if2.false, lt-ltb _ _ c.before.if3.true)
-    (ap Verdict.Refused c.bad-entry.ensures, refl)
+returns-3 c = rw (right c.before.before.before.before, lt-leb _ _ c.if-k-tile.false, lt-ltb _ _ c.if-corrected-number.true)
+    (ap Verdict.Refused c.bad_entry.ensures, refl)
 
-cast-corrections : tie.Need-overflow-cast-corrections
+cast-corrections : tie.Need-overflow_cast-corrections
 cast-corrections c = omega
-    (arith, tiles-small _ c.before.before.before.before.before.before.before.requires, corrected-most _ _ _ (right c.before.before.before))
+    (arith, tiles-small _ c.requires, corrected-most _ _ _ (right c.before.before.before))
 
-mul-corrections : tie.Need-overflow-mul-corrections
-mul-corrections c = omega (arith, tiles-small _ c.before.before.before.before.before.before.before.requires, c.before.if2.false)
+mul-corrections : tie.Need-offset_bounds-corrections-tile
+mul-corrections c = omega (arith, tiles-small _ c.requires, c.if-k-tile.false)
 
-slice-write-corrections : tie.Need-slice-write-corrections
-slice-write-corrections c = omega (arith, c.before.if2.false, list-long _ _ _ (right c.before.before.before))
+slice-write-corrections : tie.Need-bounds-corrections-tile
+slice-write-corrections c = omega (arith, c.if-k-tile.false, list-long _ _ _ (right c.before.before.before))
 
-returns-4 : tie.Need-returns-4
+returns-4 : tie.Need-returns
 unfolding setting_of set_of
-returns-4 c = rw (right c.before.before.before, lt-leb _ _ c.before.if2.false, le-ltb _ _ c.if3.false) (refl, refl)
+returns-4 c = rw (right c.before.before.before, lt-leb _ _ c.if-k-tile.false, le-ltb _ _ c.if-corrected-number.false) (refl, refl)
 
-pub set-correction-spec : {M : Type 1} → statement M
-set-correction-spec =
+pub set_correction_spec : {M : Type 1} → statement M
+set_correction_spec =
     tie.close
     (tie.spec (λ c κs. search rules) (λ c κs. search rules) (λ c. search rules) returns mul-if2 (λ c κs. search rules) (λ c. search rules) returns-2
     (λ c κs. search rules) (λ c. search rules) returns-3 cast-corrections mul-corrections slice-write-corrections (λ c. search rules) returns-4)

@@ -6,11 +6,11 @@ use borrow.Author.Rules.{rules}
 use Rattle.tiles.proofs.either.correction_at.Statement.{statement}
 use Rattle.tiles.proofs.either.correction_at.Tie as tie
 
-returns : tie.Need-returns
-returns c = sym (get_or-eq_default c.before.args.corrections.now 0 c.if1.true)
+returns : tie.Need-returns-then-corrections-tile
+returns c = sym (get_or-eq_default c.args.corrections.now 0 c.if-corrections-tile.true)
 
-cast-result : tie.Need-overflow-cast-result
-cast-result c = omega (arith, c.shared-slice-known.given c.before.before.args.tile)
+cast-result : tie.Need-overflow_cast-result
+cast-result c = omega (arith, c.shared_slice_known-1.given c.args.tile)
 
-pub correction-at-spec : {M : Type 1} → statement M
-correction-at-spec = tie.close (tie.spec returns (λ c. search rules) (λ c. search rules) cast-result (λ c. search rules))
+pub correction_at_spec : {M : Type 1} → statement M
+correction_at_spec = tie.close (tie.spec returns (λ c. search rules) (λ c. search rules) cast-result (λ c. search rules))

@@ -3,8 +3,8 @@ use borrow.Author.Rules.{rules}
 use Rattle.tiles.proofs.either.number_in.Statement.{statement}
 use Rattle.tiles.proofs.either.number_in.Tie as tie
 
-pub number-in-spec : {M : Type 1} → statement M
-number-in-spec =
+pub number_in_spec : {M : Type 1} → statement M
+number_in_spec =
     tie.close
-    (tie.spec (λ c. search rules) (λ c. search rules) (λ c. search rules) (λ c. rw c.before.answer.given.1) (λ c. rw c.before.answer2.given.1)
-    (λ c. rw c.before.answer3.given.1))
+    (tie.spec (λ c. search rules) (λ c. search rules) (λ c. search rules) (λ c. rw c.in-Base.is) (λ c. rw c.in-Corrections.is)
+    (λ c. rw c.in-Refused.is))

@@ -11,13 +11,13 @@ use Rattle.tiles.proofs.look_up.bands_at.Tie as tie
 
 returns : tie.Need-returns
 returns c =
-    let s = c.before.before.before.before.before.before in
+    let s = c in
     ap (bands_at s.args.tile.now)
-    (ap₂ (λ (x y : ℕ). x % 128 * 128 + y % 128) (c.before.before.before.before.size.ensures ∙ ap nat_abs (to_z-of_z w64 s.args.row s.ranges.row))
-    (c.before.before.before.size2.ensures ∙ ap nat_abs (to_z-of_z w64 s.args.column s.ranges.column)))
+    (ap₂ (λ (x y : ℕ). x % 128 * 128 + y % 128) (c.size.ensures ∙ ap nat_abs (to_z-of_z w64 s.args.row s.ranges.row))
+    (c.size-2.ensures ∙ ap nat_abs (to_z-of_z w64 s.args.column s.ranges.column)))
 
-pub bands-at-spec : {M : Type 1} → statement M
-bands-at-spec =
+pub bands_at_spec : {M : Type 1} → statement M
+bands_at_spec =
     tie.close
     (tie.spec (λ c κs. search rules) (λ c. search rules) (λ c κs. search rules) (λ c. search rules) (λ c. search rules) (λ c. search rules)
     (λ c. search rules) (λ c. search rules) (λ c. search rules) (λ c. search rules) returns)

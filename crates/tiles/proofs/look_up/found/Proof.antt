@@ -15,41 +15,41 @@ use Rattle.tiles.proofs.look_up.found.Statement.{statement}
 use Rattle.tiles.proofs.look_up.found.Tie as tie
 
 -- the pixel's verdict
-verdict : (c : tie.After-judge-pixel) → let a = c.before.before.before.args in verdict_of a.k a.row a.column ≡ c.judge-pixel.result
-verdict c = let s = c.before.before.before in sym (c.judge-pixel.ensures ∙ pair-asked (verdict_of s.args.k) s.ranges.row s.ranges.column)
+verdict : (c : tie.After-judge_pixel) → let a = c.args in verdict_of a.k a.row a.column ≡ c.judge_pixel.result
+verdict c = let s = c in sym (c.judge_pixel.ensures ∙ pair-asked (verdict_of s.args.k) s.ranges.row s.ranges.column)
 
-accepted : (c : tie.After-enum-told) → let a = c.before.before.before.before.before.args in verdict_of a.k a.row a.column ≡ Verdict.Accepted
-accepted c = verdict c.before.before ∙ c.enum_told.given.1
+accepted : (c : tie.In-Accepted) → let a = c.args in verdict_of a.k a.row a.column ≡ Verdict.Accepted
+accepted c = verdict c.before ∙ c.in-Accepted.is
 
 -- the pixel's tile
-here : (c : tie.After-pixel-tile) → let a = c.before.before.before.before.before.before.args in c.pixel-tile.result ≡ tile_of a.k
+here : (c : tie.After-pixel_tile-tile) → let a = c.args in c.pixel_tile-tile.result ≡ tile_of a.k
     (nat_abs a.row) (nat_abs a.column)
-here c = let s = c.before.before.before.before.before.before in c.pixel-tile.ensures
+here c = let s = c in c.pixel_tile-tile.ensures
     ∙ pair-asked (λ r q. tile_of s.args.k (nat_abs r) (nat_abs q)) s.ranges.row s.ranges.column
 
-inside : (c : tie.After-pixel-tile) → c.pixel-tile.result < tiles c.before.before.before.before.before.before.args.k
-inside c = let a = c.before.before.before.before.before.before.args in rw (here c) (tile-in a.k a.row a.column (accepted c.before))
+inside : (c : tie.After-pixel_tile-tile) → c.pixel_tile-tile.result < tiles c.args.k
+inside c = let a = c.args in rw (here c) (tile-in a.k a.row a.column (accepted c.before))
 
-pixel-tile-requires : tie.Need-pixel-tile-requires
-pixel-tile-requires c κs = let s = c.before.before.before.before.before in
+pixel-tile-requires : tie.Need-pixel_tile-tile-requires
+pixel-tile-requires c κs = let s = c in
     (s.requires.0, pair-asked (verdict_of s.args.k) s.ranges.row s.ranges.column ∙ accepted c)
 
-returns : tie.Need-returns
+returns : tie.Need-returns-in-Accepted
 returns c =
-    let a = c.before.before.before.before.before.before.before.before.before.before.args in
+    let a = c.args in
     let says = said_with a.corrections.now a.corrected (said_of a.k a.index.now a.count) in
-    c.with-source.ensures
-    ∙ ap₂ sourced c.before.before.source-at.ensures (c.before.number-said.ensures ∙ ap (number_said _) c.before.before.before.tile-says.ensures)
+    c.with_source.ensures
+    ∙ ap₂ sourced c.source_at.ensures (c.number_said.ensures ∙ ap (number_said _) c.tile_says-said.ensures)
     ∙ ap (λ (t : ℕ). sourced (source_at a.corrections.now t) (number_said t (says t))) (here c.before.before.before.before)
     ∙ sym (sourced-in _ _ _ _ _ _ (accepted c.before.before.before.before.before))
 
-returns-2 : tie.Need-returns-2
-returns-2 c = sym (sourced-out _ _ _ _ _ _ _ (verdict c.before.before.before ∙ c.before.e.given.1))
+returns-2 : tie.Need-returns-in-Refused
+returns-2 c = sym (sourced-out _ _ _ _ _ _ _ (verdict c.before ∙ c.in-Refused.is))
 
-pub found-spec : {M : Type 1} → statement M
-found-spec =
+pub found_spec : {M : Type 1} → statement M
+found_spec =
     tie.close
     (tie.spec (λ c κs. search rules) (λ c. search rules) pixel-tile-requires
-    (λ c κs. (c.before.before.before.before.before.before.requires.0, (c.before.before.before.before.before.before.requires.1, inside c)))
+    (λ c κs. (c.requires.0, (c.requires.1, inside c)))
     (λ c κs. search rules) (λ c κs. search rules)
     (λ c κs. search rules) (λ c. search rules) returns returns-2)

@@ -9,11 +9,11 @@ use Rattle.tiles.proofs.look_up.part.Tie as tie
 
 returns : tie.Need-returns
 returns c =
-    let n = c.before.args.n in
+    let n = c.args.n in
     let e : n * 49152 - (n - 1) * 49152 ≡ 49152 = omega arith in
-    ap (λ (m : ℕ). take m (drop ((n - 1) * 49152) c.before.args.store.now)) e
+    ap (λ (m : ℕ). take m (drop ((n - 1) * 49152) c.args.store.now)) e
 
-pub part-spec : {M : Type 1} → statement M
-part-spec =
+pub part_spec : {M : Type 1} → statement M
+part_spec =
     tie.close
     (tie.spec (λ c. search rules) (λ c. search rules) (λ c. search rules) (λ c. search rules) (λ c. search rules) (λ c. search rules) returns)

@@ -12,24 +12,24 @@ use borrow.Author.Rules.{rules}
 use Rattle.tiles.proofs.look_up.pixel_tile.Statement.{statement}
 use Rattle.tiles.proofs.look_up.pixel_tile.Tie as tie
 
-small : (c : tie.After-size) → let a = c.before.args in tile_of a.k (nat_abs a.row) (nat_abs a.column) < 998001
-small c = let s = c.before in omega (arith, tile-in s.args.k s.args.row s.args.column s.requires.1, tiles-small _ s.requires.0)
+small : (c : tie.After-size) → let a = c.args in tile_of a.k (nat_abs a.row) (nat_abs a.column) < 998001
+small c = let s = c in omega (arith, tile-in s.args.k s.args.row s.args.column s.requires.1, tiles-small _ s.requires.0)
 
-rows : (c : tie.After-size) → c.size.result ≡ nat_abs c.before.args.row
-rows c = let s = c.before in c.size.ensures ∙ ap nat_abs (to_z-of_z w64 s.args.row s.ranges.row)
+rows : (c : tie.After-size) → c.size.result ≡ nat_abs c.args.row
+rows c = let s = c in c.size.ensures ∙ ap nat_abs (to_z-of_z w64 s.args.row s.ranges.row)
 
-here : (c : tie.After-size2) → let a = c.before.before.before.args in
-    c.before.before.size.result / 128 * a.k.nfc + c.size2.result / 128 ≡ tile_of a.k (nat_abs a.row) (nat_abs a.column)
+here : (c : tie.After-size-2) → let a = c.args in
+    c.size.result / 128 * a.k.nfc + c.size-2.result / 128 ≡ tile_of a.k (nat_abs a.row) (nat_abs a.column)
 here c =
-    let s = c.before.before.before in
+    let s = c in
     ap₂ (λ (x y : ℕ). x / 128 * s.args.k.nfc + y / 128) (rows c.before.before)
-    (c.size2.ensures ∙ ap nat_abs (to_z-of_z w64 s.args.column s.ranges.column))
+    (c.size-2.ensures ∙ ap nat_abs (to_z-of_z w64 s.args.column s.ranges.column))
 
-mul-result : tie.Need-overflow-mul-result
-mul-result c = let a = c.before.before.args in omega (arith, small c.before, ap (λ (x : ℕ). x / 128 * a.k.nfc) (rows c.before))
+mul-result : tie.Need-overflow_mul-result
+mul-result c = let a = c.args in omega (arith, small c.before, ap (λ (x : ℕ). x / 128 * a.k.nfc) (rows c.before))
 
-add-result : tie.Need-overflow-add-result
+add-result : tie.Need-overflow_add-result
 add-result c = omega (arith, small c.before.before, here c)
 
-pub pixel-tile-spec : {M : Type 1} → statement M
-pixel-tile-spec = tie.close (tie.spec (λ c κs. search rules) mul-result (λ c κs. search rules) add-result (λ c. here c))
+pub pixel_tile_spec : {M : Type 1} → statement M
+pixel_tile_spec = tie.close (tie.spec (λ c κs. search rules) mul-result (λ c κs. search rules) add-result (λ c. here c))

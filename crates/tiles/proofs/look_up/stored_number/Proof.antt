@@ -13,27 +13,27 @@ use Rattle.tiles.proofs.look_up.stored_number.Statement.{statement}
 use Rattle.tiles.proofs.look_up.stored_number.Tie as tie
 
 -- the lengths are right
-right : (c : tie.Else1) → let a = c.before.before.before.before.args in store_wrong a.k a.index.now a.count a.store.now ≡ false
-right c = sym c.before.base-wrong.ensures ∙ c.if1.false
+right : (c : tie.Else-base_wrong) → let a = c.args in store_wrong a.k a.index.now a.count a.store.now ≡ false
+right c = sym c.base_wrong.ensures ∙ c.if-base_wrong.false
 
-returns : tie.Need-returns
+returns : tie.Need-returns-then-base_wrong
 unfolding number_of
-returns c = rw (sym c.before.before.base-wrong.ensures ∙ c.before.if1.true) (ap NumberAnswer.Refused c.refused.ensures)
+returns c = rw (sym c.base_wrong.ensures ∙ c.if-base_wrong.true) (ap NumberAnswer.Refused c.refused.ensures)
 
 found-requires : tie.Need-found-requires
-found-requires c κs = (c.before.before.before.before.before.requires, (neither _ _ (right c.before)).0)
+found-requires c κs = (c.requires, (neither _ _ (right c.before)).0)
 
-returns-2 : tie.Need-returns-2
+returns-2 : tie.Need-returns
 unfolding number_of
 returns-2 c =
-    let s = c.before.before.before.before.before.before.before in
+    let s = c in
     let says = said_of s.args.k s.args.index.now s.args.count in
     rw (right c.before.before.before)
-    (c.number_in.ensures ∙ ap number_alone c.before.found.ensures ∙ none_found s.args.k 0 says _ _
+    (c.number_in.ensures ∙ ap number_alone c.found.ensures ∙ none_found s.args.k 0 says _ _
     ∙ pair-asked (found_of s.args.k says) s.ranges.row s.ranges.column)
 
-pub stored-number-spec : {M : Type 1} → statement M
-stored-number-spec =
+pub stored_number_spec : {M : Type 1} → statement M
+stored_number_spec =
     tie.close
     (tie.spec (λ c κs. search rules) (λ c κs. search rules) returns (λ c. search rules) (λ c. search rules) (λ c. search rules) found-requires
     (λ c κs. search rules) returns-2)

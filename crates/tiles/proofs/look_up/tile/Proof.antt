@@ -12,24 +12,24 @@ use Rattle.tiles.proofs.look_up.tile.Statement.{statement}
 use Rattle.tiles.proofs.look_up.tile.Tie as tie
 
 -- the number of the pixel's tile, in the base store
-asked : (c : tie.After-with-source) → let a = c.before.before.before.before.args in
-    c.with-source.result ≡ sourced Source.Base (number_of a.k a.index.now a.count a.store.now a.row a.column)
-asked c = let s = c.before.before.before.before in
-    c.with-source.ensures
-    ∙ ap (sourced Source.Base) (c.before.stored-number.ensures ∙ pair-asked (number_of _ _ _ _) s.ranges.row s.ranges.column)
+asked : (c : tie.After-with_source) → let a = c.args in
+    c.with_source.result ≡ sourced Source.Base (number_of a.k a.index.now a.count a.store.now a.row a.column)
+asked c = let s = c in
+    c.with_source.ensures
+    ∙ ap (sourced Source.Base) (c.stored_number-answer.ensures ∙ pair-asked (number_of _ _ _ _) s.ranges.row s.ranges.column)
 
-either-part-requires : tie.Need-either-part-requires
-either-part-requires c κs = let a = c.before.before.before.before.args in
+either-part-requires : tie.Need-either_part-requires
+either-part-requires c κs = let a = c.args in
     subst (λ (x : SourceAnswer). Held x a.store.now a.store.now) (sym (asked c))
     (held-base (number_of a.k a.index.now a.count a.store.now a.row a.column) a.store.now a.store.now (number-in-store _ _ _ _ _ _))
 
 returns : tie.Need-returns
 unfolding part_of
 returns c =
-    let a = c.before.before.before.before.before.args in
+    let a = c.args in
     let store = a.store.now in
-    c.either-part.ensures ∙ ap (λ (x : SourceAnswer). either_part x store store) (asked c.before)
+    c.either_part.ensures ∙ ap (λ (x : SourceAnswer). either_part x store store) (asked c.before)
     ∙ part-base (number_of a.k a.index.now a.count store a.row a.column) store store
 
-pub tile-spec : {M : Type 1} → statement M
-tile-spec = tie.close (tie.spec (λ c κs. search rules) (λ c κs. search rules) either-part-requires returns)
+pub tile_spec : {M : Type 1} → statement M
+tile_spec = tie.close (tie.spec (λ c κs. search rules) (λ c κs. search rules) either-part-requires returns)

@@ -15,11 +15,11 @@ moved most from size h = go (ltb (most - from) size) refl
     go true t = sym (lt-ltb most (from + size) (omega (arith, ltb-true (most - from) size t)))
     go false t = sym (le-ltb most (from + size) (omega (arith, ltb-false (most - from) size t)))
 
-returns : tie.Need-returns
-returns c = sym (lt-ltb c.before.args.most (c.before.args.from + c.before.args.length) (omega arith))
+returns : tie.Need-returns-then-most-from
+returns c = sym (lt-ltb c.args.most (c.args.from + c.args.length) (omega arith))
 
-returns-2 : tie.Need-returns-2
-returns-2 c = moved c.before.args.most c.before.args.from c.before.args.length c.if1.false
+returns-2 : tie.Need-returns
+returns-2 c = moved c.args.most c.args.from c.args.length c.if-most-from.false
 
-pub reaches-past-spec : {M : Type 1} → statement M
-reaches-past-spec = tie.close (tie.spec returns returns-2)
+pub reaches_past_spec : {M : Type 1} → statement M
+reaches_past_spec = tie.close (tie.spec returns returns-2)

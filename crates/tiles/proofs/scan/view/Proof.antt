@@ -12,25 +12,25 @@ use Rattle.tiles.proofs.scan.view.Statement.{statement}
 use Rattle.tiles.proofs.scan.view.Tie as tie
 
 -- the test of 12
-past : (c : tie.After-reaches-past2) → let a = c.before.before.before.before.args in
-    ltb a.k.nfl (a.top + a.height) || ltb a.k.nfc (a.left + a.width) ≡ c.before.reaches-past.result || c.reaches-past2.result
-past c = ap₂ (λ (x y : Bool). x || y) (sym c.before.reaches-past.ensures) (sym c.reaches-past2.ensures)
+past : (c : tie.After-reaches_past-2) → let a = c.args in
+    ltb a.k.nfl (a.top + a.height) || ltb a.k.nfc (a.left + a.width) ≡ c.reaches_past.result || c.reaches_past-2.result
+past c = ap₂ (λ (x y : Bool). x || y) (sym c.reaches_past.ensures) (sym c.reaches_past-2.ensures)
 
-returns : tie.Need-returns
+returns : tie.Need-returns-then-reaches_past
 unfolding view_of
-returns c = rw (past c.before.before ∙ c.before.if1.true) (ap WindowAnswer.Refused c.refused.ensures)
+returns c = rw (past c.before.before ∙ c.if-reaches_past.true) (ap WindowAnswer.Refused c.refused.ensures)
 
-first-missing-requires : tie.Need-first-missing-requires
+first-missing-requires : tie.Need-first_missing-requires
 first-missing-requires c κs =
-    let s = c.before.before.before.before.before in
-    let n = neither _ _ (past c.before ∙ c.if1.false) in
+    let s = c in
+    let n = neither _ _ (past c.before ∙ c.if-reaches_past.false) in
     record { known = s.requires.0; right = s.requires.1; down = ltb-false _ _ n.0; across = ltb-false _ _ n.1 }
 
-returns-2 : tie.Need-returns-2
+returns-2 : tie.Need-returns
 unfolding view_of
-returns-2 c = rw (past c.before.before ∙ c.before.if1.false) c.first-missing.ensures
+returns-2 c = rw (past c.before.before ∙ c.if-reaches_past.false) c.first_missing.ensures
 
-pub view-spec : {M : Type 1} → statement M
-view-spec =
+pub view_spec : {M : Type 1} → statement M
+view_spec =
     tie.close
     (tie.spec (λ c κs. search rules) (λ c κs. search rules) (λ c κs. search rules) returns first-missing-requires returns-2)

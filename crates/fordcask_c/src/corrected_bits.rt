@@ -1,0 +1,106 @@
+// Questions on a card, its tile index as presence bits and the corrections beside it (02, E1, E7).
+ghost use Rattle.std.specs.Prelude.{◌≡◌};
+ghost use Rattle.card.specs.Read.{read_of, on_card, told_on_card};
+ghost use Rattle.tiles.specs.declared.SourceAnswer.{SourceAnswer};
+ghost use Rattle.tiles.specs.declared.BandsAnswer.{BandsAnswer};
+ghost use Rattle.tiles.specs.declared.WindowAnswer.{WindowAnswer};
+ghost use Rattle.tiles.specs.LookUp.{bands_report};
+ghost use Rattle.tiles.specs.Window.{window_report};
+ghost use Rattle.tiles.specs.Bits.{bits_source_of, bits_either_bands_of, corrected_bits_window_of};
+ghost use Rattle.fordcask.specs.Entry.{bands_block, window_block, corrected_tile};
+
+use arc::Series;
+use fordcask::{BandsOnCard, CorrectedTile, WindowOnCard};
+
+// The store that holds a pixel's tile, its number there and its bytes. Refuses reading's numbers, then 6, 6, 21, 12, 13, 15 of a correction, 14, 15.
+#[unsafe(no_mangle)]
+pub extern "C" fn fordcask_corrected_bits_tile(
+    series: Series,
+    card: &[u8],
+    words: &[u64],
+    count: u64,
+    store: &[u8],
+    corrections: &[u32],
+    corrected: u64,
+    second: &[u8],
+    row: i64,
+    column: i64,
+) -> CorrectedTile
+    ensures { result ≡ corrected_tile (read_of series card.now).blanks (on_card (read_of series card.now) SourceAnswer.Refused
+        (λ k. bits_source_of k words.now count store.now corrections.now corrected second.now row column)) }
+{
+    fordcask::fordcask_corrected_bits_tile(
+        series,
+        card,
+        words,
+        count,
+        store,
+        corrections,
+        corrected,
+        second,
+        row,
+        column,
+    )
+}
+
+// The band values of a pixel, corrected first. Refuses reading's numbers, then 6, 6, 21, 12, 13, 15 of a correction, 14, 15.
+#[unsafe(no_mangle)]
+pub extern "C" fn fordcask_corrected_bits_bands(
+    series: Series,
+    card: &[u8],
+    words: &[u64],
+    count: u64,
+    store: &[u8],
+    corrections: &[u32],
+    corrected: u64,
+    second: &[u8],
+    row: i64,
+    column: i64,
+) -> BandsOnCard
+    ensures { bands_block result ≡ told_on_card bands_report (read_of series card.now) BandsAnswer.Refused
+        (λ k. bits_either_bands_of k words.now count store.now corrections.now corrected second.now row column) }
+{
+    fordcask::fordcask_corrected_bits_bands(
+        series,
+        card,
+        words,
+        count,
+        store,
+        corrections,
+        corrected,
+        second,
+        row,
+        column,
+    )
+}
+
+// The first tile of a window, in reading order, that is neither corrected nor stored. Refuses reading's numbers, then 6, 6, 21, 12, 15.
+#[unsafe(no_mangle)]
+pub extern "C" fn fordcask_corrected_bits_window(
+    series: Series,
+    card: &[u8],
+    words: &[u64],
+    count: u64,
+    corrections: &[u32],
+    corrected: u64,
+    top: u64,
+    left: u64,
+    height: u64,
+    width: u64,
+) -> WindowOnCard
+    ensures { window_block result ≡ told_on_card window_report (read_of series card.now) WindowAnswer.Refused
+        (λ k. corrected_bits_window_of k words.now count corrections.now corrected top left height width) }
+{
+    fordcask::fordcask_corrected_bits_window(
+        series,
+        card,
+        words,
+        count,
+        corrections,
+        corrected,
+        top,
+        left,
+        height,
+        width,
+    )
+}
