@@ -32,8 +32,8 @@ pub const SPACING_UNIT: usize = 4;
 // What stands in a column of the row at a place, 0 to 8; 0 past them.
 fn cell(row: u64, column: usize) -> u64
     requires { column < 5 }
-    ensures fact_1 { result ≡ cell_at row column }
-    ensures fact_2 { result ≤ 782 }
+    ensures value { result ≡ cell_at row column }
+    ensures at_most { result ≤ 782 }
 {
     if 9 <= row {
         return 0;

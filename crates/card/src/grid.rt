@@ -12,10 +12,10 @@ use arc::{Circle, Tile, Verdict};
 
 // v − s, round the circle of a columns.
 fn turned(v: u64, s: u64, a: u64) -> u64
-    requires fact_1 { v ≤ a }
-    requires fact_2 { s ≤ a }
-    requires fact_3 { 1 ≤ a }
-    requires fact_4 { a ≤ 129600000 }
+    requires v_in_range { v ≤ a }
+    requires s_in_range { s ≤ a }
+    requires positive { 1 ≤ a }
+    requires at_most { a ≤ 129600000 }
     ensures { result ≡ (v + (a - s)) % a }
 {
     if v < s {
@@ -88,8 +88,8 @@ impl Card {
 
     // 128n − r (01, "Origins and the zone grid").
     fn place_row(self, row: u64) -> i64
-        requires fact_1 { Known self }
-        requires fact_2 { row < 128 * self.nfl }
+        requires known { Known self }
+        requires in_tiles { row < 128 * self.nfl }
         ensures { result ≡ place_row self (pos row) }
     {
         whole::difference((self.north - row) as u32, (self.b / 4) as u32)
@@ -97,8 +97,8 @@ impl Card {
 
     // (128m + c) modulo A (01, "Origins and the zone grid").
     fn place_column(self, column: u64) -> i64
-        requires fact_1 { Known self }
-        requires fact_2 { column < 128 * self.nfc }
+        requires known { Known self }
+        requires in_tiles { column < 128 * self.nfc }
         ensures { result ≡ place_column self (pos column) }
     {
         ((self.east + column + self.a / 2) % self.a) as i64
@@ -106,8 +106,8 @@ impl Card {
 
     // The nearest hundredth to the latitude of a row's exact place (001, 3.4.3).
     fn latitude(self, pair: Pair, row: u64) -> i64
-        requires fact_1 { Known self }
-        requires fact_2 { row < 128 * self.nfl }
+        requires known { Known self }
+        requires in_tiles { row < 128 * self.nfl }
         ensures { result ≡ latitude_of pair self (pos row) }
     {
         let exact = (self.north - row) * Circle::H - pair.inward();
@@ -116,8 +116,8 @@ impl Card {
 
     // The nearest hundredth to the longitude of a column's exact place, brought into range (001, 3.4.3).
     fn longitude(self, pair: Pair, column: u64) -> i64
-        requires fact_1 { Known self }
-        requires fact_2 { column < 128 * self.nfc }
+        requires known { Known self }
+        requires in_tiles { column < 128 * self.nfc }
         ensures { result ≡ longitude_of pair self (pos column) }
     {
         let exact = (self.east + column) * Circle::H + pair.inward();
@@ -127,8 +127,8 @@ impl Card {
 
     // The row at a latitude counted from the South Pole, before the bounds are looked at (001, 3.4.4).
     fn row_at(self, pair: Pair, north: u64) -> i64
-        requires fact_1 { Known self }
-        requires fact_2 { north ≤ 64800000 }
+        requires known { Known self }
+        requires in_range { north ≤ 64800000 }
         ensures { result ≡ row_of pair self (pos north -ℤ pos 32400000) }
     {
         let half = self.b / 2;
@@ -140,8 +140,8 @@ impl Card {
 
     // The column at a longitude counted from 180° west, before the bounds are looked at (001, 3.4.4).
     fn column_at(self, pair: Pair, east: u64) -> i64
-        requires fact_1 { Known self }
-        requires fact_2 { east ≤ 129600000 }
+        requires known { Known self }
+        requires in_range { east ≤ 129600000 }
         ensures { result ≡ column_of pair self (pos east -ℤ pos 64800000) }
     {
         let up = Circle::H / 2 - pair.inward();

@@ -9,8 +9,8 @@ use arc::Circle;
 
 // The longitude difference the short way, both counted from 180° west.
 fn short_way(east: u64, centre: u64) -> i64
-    requires fact_1 { east ≤ 129600000 }
-    requires fact_2 { centre ≤ 129600000 }
+    requires east_in_range { east ≤ 129600000 }
+    requires centre_in_range { centre ≤ 129600000 }
     ensures { result ≡ into_range (pos east -ℤ pos centre) }
 {
     whole::difference(
@@ -21,10 +21,10 @@ fn short_way(east: u64, centre: u64) -> i64
 
 // The offset between two positions counted from the South Pole and from 180° west.
 fn offset_at(north: u64, east: u64, cnorth: u64, ceast: u64) -> Offset
-    requires fact_1 { north ≤ 64800000 }
-    requires fact_2 { east ≤ 129600000 }
-    requires fact_3 { cnorth ≤ 64800000 }
-    requires fact_4 { ceast ≤ 129600000 }
+    requires north_in_range { north ≤ 64800000 }
+    requires east_in_range { east ≤ 129600000 }
+    requires centre_north_in_range { cnorth ≤ 64800000 }
+    requires centre_east_in_range { ceast ≤ 129600000 }
     ensures { result ≡ difference (pos north) (pos east) (pos cnorth) (pos ceast) }
 {
     let rows = whole::difference(north as u32, cnorth as u32);

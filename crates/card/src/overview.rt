@@ -8,8 +8,8 @@ use crate::{Card, Pair, PixelAnswer, PositionAnswer};
 impl Card {
     // The overview's pixel at the position of this chart's pixel. Refuses 12, 13 of the chart, then 12, 13 of the overview.
     pub fn overview_pixel(self, overview: Card, row: i64, column: i64) -> PixelAnswer
-        requires fact_1 { Known self }
-        requires fact_2 { Known overview }
+        requires known { Known self }
+        requires overview_known { Known overview }
         ensures { result ≡ overview_pixel_of self overview row column }
     {
         match self.position_in(Pair::Corner, row, column) {

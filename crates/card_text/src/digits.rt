@@ -16,16 +16,16 @@ fn is_name_byte(b: u8) -> bool
 // The w bytes of s from offset o.
 pub fn bytes_at<'a>(s: &'a [u8], o: usize, w: usize) -> &'a [u8]
     requires { o + w ≤ length s.now }
-    ensures fact_1 { result.now ≡ part o w s.now }
-    ensures fact_2 { length result.now ≡ w }
+    ensures value { result.now ≡ part o w s.now }
+    ensures width { length result.now ≡ w }
 {
     &s[o..o + w]
 }
 
 // The run of w digits from offset o.
 pub fn digits_at(s: &[u8], o: usize, w: usize) -> Digits
-    requires fact_1 { o + w ≤ length s.now }
-    requires fact_2 { w ≤ 8 }
+    requires within { o + w ≤ length s.now }
+    requires width { w ≤ 8 }
     ensures { DigitsOf (part o w s.now) result }
 {
     text::digits_of(bytes_at(s, o, w))
@@ -49,9 +49,9 @@ fn leading(s: &[u8]) -> usize
 
 // The same of the w bytes from offset o.
 pub fn leading_at(s: &[u8], o: usize, w: usize) -> u64
-    requires fact_1 { o + w ≤ length s.now }
-    requires fact_2 { 0 < w }
-    requires fact_3 { w ≤ 8 }
+    requires within { o + w ≤ length s.now }
+    requires not_empty { 0 < w }
+    requires width { w ≤ 8 }
     ensures { (result ≡ lead (part o w s.now)) × (result ≤ 8) }
 {
     leading(bytes_at(s, o, w)) as u64
@@ -70,8 +70,8 @@ fn skipped(fill: Fill, s: &[u8]) -> usize
 
 // A number that starts with a blank.
 fn past_blanks(fill: Fill, s: &[u8]) -> Digits
-    requires fact_1 { 0 < length s.now }
-    requires fact_2 { length s.now ≤ 8 }
+    requires not_empty { 0 < length s.now }
+    requires width { length s.now ≤ 8 }
     ensures { NumberOf fill s.now result }
 {
     text::digits_of(&s[skipped(fill, s)..])
@@ -79,8 +79,8 @@ fn past_blanks(fill: Fill, s: &[u8]) -> Digits
 
 // A number: digits, and blanks before them where they may stand (02, E2). Its first byte tells whether there are any.
 pub fn number_of(fill: Fill, s: &[u8]) -> Digits
-    requires fact_1 { 0 < length s.now }
-    requires fact_2 { length s.now ≤ 8 }
+    requires not_empty { 0 < length s.now }
+    requires width { length s.now ≤ 8 }
     ensures { NumberOf fill s.now result }
 {
     if s[0] == 32 {

@@ -72,8 +72,8 @@ fn unread(r: Refusal) -> Field
 
 // An angle counted from its limit below zero, and 0 where it is below that.
 fn shifted_by(limit: u64, below: bool, size: u64) -> u64
-    requires fact_1 { limit ≤ 64800000 }
-    requires fact_2 { size < 2000000000000000 }
+    requires limit_in_range { limit ≤ 64800000 }
+    requires size_in_range { size < 2000000000000000 }
     ensures { result ≡ shifted limit below size }
 {
     if !below {
@@ -87,9 +87,9 @@ fn shifted_by(limit: u64, below: bool, size: u64) -> u64
 
 // Digits, from low to high, and blanks before them where they may stand.
 fn number_at(fill: Fill, s: &[u8], o: usize, w: usize, low: u64, high: u64, before: Field) -> Field
-    requires fact_1 { o + w ≤ length s.now }
-    requires fact_2 { 0 < w }
-    requires fact_3 { w ≤ 8 }
+    requires within { o + w ≤ length s.now }
+    requires not_empty { 0 < w }
+    requires width { w ≤ 8 }
     ensures { FieldAt fill (sub o w (Kind.Number low high)) s.now before.verdict result }
 {
     let first = before.verdict;
@@ -102,10 +102,10 @@ fn number_at(fill: Fill, s: &[u8], o: usize, w: usize, low: u64, high: u64, befo
 
 // ±DDDMMSS.SS or ±DDMMSS.SS, its degrees being read: 43 is +, 45 is −, 46 is the dot.
 fn angle_at(s: &[u8], o: usize, w: usize, d: Digits, limit: u64, before: Field) -> Field
-    requires fact_1 { o + (w + 8) ≤ length s.now }
-    requires fact_2 { w ≤ 3 }
-    requires fact_3 { limit ≤ 64800000 }
-    requires fact_4 { DigitsOf (part (o + 1) w s.now) d }
+    requires within { o + (w + 8) ≤ length s.now }
+    requires width { w ≤ 3 }
+    requires limit_in_range { limit ≤ 64800000 }
+    requires degrees { DigitsOf (part (o + 1) w s.now) d }
     ensures { PlainAt (sub o (w + 8) (Kind.Angle w limit)) s.now before.verdict result }
 {
     let first = before.verdict;

@@ -18,8 +18,8 @@ mod write;
 
 // Reading, the spacing being known. Refuses 3, 6, the subfields' 7 and 8, 9, 10, 11.
 fn read_spaced(fill: Fill, series: Series, a: u64, b: u64, bytes: &[u8]) -> Reading
-    requires fact_1 { Grid a }
-    requires fact_2 { Grid b }
+    requires a_on_grid { Grid a }
+    requires b_on_grid { Grid b }
     ensures { result ≡ read_in fill series (SpacingAnswer.Constants a b) bytes.now }
 {
     if arc::is_polar(series.zone) {

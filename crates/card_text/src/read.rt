@@ -128,9 +128,9 @@ fn card_of(series: Series, a: u64, b: u64, north: u64, east: u64, r: Record) -> 
 
 // The card, its subfields being right. Refuses 9, 10, 11.
 pub fn read_values(series: Series, a: u64, b: u64, s: &[u8], values: [u64; 20]) -> Reading
-    requires fact_1 { Grid a }
-    requires fact_2 { Grid b }
-    requires fact_3 { Walked s.now values }
+    requires a_on_grid { Grid a }
+    requires b_on_grid { Grid b }
+    requires walked { Walked s.now values }
     ensures { result ≡ with_values series a b s.now }
 {
     if !((values[ARV] == a) & (values[BRV] == b)) {

@@ -9,8 +9,8 @@ use whole::Counted;
 
 // The angle stored for a count of tiles, the axis' low end being at −limit.
 pub fn angle_at(tiles: u64, spacing: u64, limit: u32) -> i64
-    requires fact_1 { Grid spacing }
-    requires fact_2 { 128 * tiles ≤ spacing }
+    requires on_grid { Grid spacing }
+    requires in_circle { 128 * tiles ≤ spacing }
     ensures { result ≡ pos (near (tiles * 16588800000) spacing) -ℤ pos limit }
 {
     whole::difference(origin::stored_at(tiles, spacing) as u32, limit)
@@ -18,8 +18,8 @@ pub fn angle_at(tiles: u64, spacing: u64, limit: u32) -> i64
 
 // The tiles whose stored angle this is: the nearest hundredth to theirs, which is asked without a division.
 pub fn tile_of(spacing: u64, angle: u64) -> Counted
-    requires fact_1 { Grid spacing }
-    requires fact_2 { angle ≤ 129600000 }
+    requires on_grid { Grid spacing }
+    requires in_circle { angle ≤ 129600000 }
     ensures { result ≡ found_at spacing angle }
 {
     let asked = angle * spacing;

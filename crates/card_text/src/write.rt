@@ -58,8 +58,8 @@ fn put_name(out: &mut [u8], bad: [u8; 12])
 
 // STR ARV BRV LSO PSO NUL NUS NLL NLS NFL NFC PNC PNL COD ROD POR PCB PVB BAD TIF of a record, its stored origin being known.
 fn put_card(out: &mut [u8], a: u64, b: u64, lat: i64, lon: i64, r: Record)
-    requires fact_1 { 98 ≤ length out.old }
-    requires fact_2 { (lat ≡ stored_angle b r.n) × (lon ≡ stored_angle a r.m) }
+    requires room { 98 ≤ length out.old }
+    requires stored { (lat ≡ stored_angle b r.n) × (lon ≡ stored_angle a r.m) }
     ensures { out.new ≡ over (card_text a b r) out.old }
 {
     let bad = r.bad;
@@ -87,8 +87,8 @@ fn put_card(out: &mut [u8], a: u64, b: u64, lat: i64, lon: i64, r: Record)
 
 // Writing, the spacing being known. Refuses 3, 6, then NFL, NFC (8), BAD (7), then 10, 11; on a refusal the output stays.
 pub fn write_spaced(zone: u64, a: u64, b: u64, r: Record, out: &mut [u8]) -> Verdict
-    requires fact_1 { Grid a }
-    requires fact_2 { Grid b }
+    requires a_on_grid { Grid a }
+    requires b_on_grid { Grid b }
     ensures verdict { result ≡ write_in zone (SpacingAnswer.Constants a b) r (length out.old) }
     ensures left { out.new ≡ out_in zone (SpacingAnswer.Constants a b) r out.old }
 {

@@ -63,8 +63,8 @@ fn eastward(west: i64, lon: i64) -> Counted
 
 // The latitude of a row (001, 3.4.3).
 fn latitude(e: Engine, row: u64) -> i64
-    requires fact_1 { Made e }
-    requires fact_2 { row < 128 * e.card.nfl }
+    requires made { Made e }
+    requires in_tiles { row < 128 * e.card.nfl }
     ensures { result ≡ pos (near ((e.card.north - row) * circle - inward e.pair) e.card.b) -ℤ pos quarter }
 {
     let x = e.rows;
@@ -73,8 +73,8 @@ fn latitude(e: Engine, row: u64) -> i64
 
 // The longitude of a column (001, 3.4.3).
 fn longitude(e: Engine, column: u64) -> i64
-    requires fact_1 { Made e }
-    requires fact_2 { column < 128 * e.card.nfc }
+    requires made { Made e }
+    requires in_tiles { column < 128 * e.card.nfc }
     ensures { result ≡ pos (near ((e.card.east + column) * circle + inward e.pair) e.card.a % circle) -ℤ pos half }
 {
     let x = e.columns;
@@ -111,8 +111,8 @@ pub fn west_of(e: Engine) -> i64
 
 // The pixel of the chart at a position (001, 3.4.4).
 fn pixel(e: Engine, west: i64, lat: i64, lon: i64) -> Charted
-    requires fact_1 { Made e }
-    requires fact_2 { west ≡ west_of e }
+    requires made { Made e }
+    requires west_edge { west ≡ west_of e }
     ensures { Agrees result (pixel_report (pixel_of e.pair e.card lat lon)) }
 {
     let y = e.down;
@@ -134,8 +134,8 @@ fn pixel(e: Engine, west: i64, lat: i64, lon: i64) -> Charted
 
 // The answer to what is asked of an entry, where the engine gives it.
 pub fn on_chart(e: Engine, west: i64, asked: Asked, first: i64, second: i64) -> Charted
-    requires fact_1 { Made e }
-    requires fact_2 { west ≡ west_of e }
+    requires made { Made e }
+    requires west_edge { west ≡ west_of e }
     ensures { Agrees result (asked_report e.pair asked e.card first second) }
 {
     match asked {

@@ -68,8 +68,8 @@ fn start_of(rest: u64, d: u64, off: bool) -> u64
 
 // The axis of x pixels a circle, whose first pixel's exact place is so far from its end, a pixel being STEP.
 fn axis_of(x: u64, from: u64, off: bool) -> Axis
-    requires fact_1 { Grid x }
-    requires fact_2 { from ≤ 506250 * x + 253125 }
+    requires on_grid { Grid x }
+    requires from_in_range { from ≤ 506250 * x + 253125 }
     ensures { result ≡ axis_of x from off }
 {
     let unit = x / 512;
@@ -84,11 +84,11 @@ fn axis_of(x: u64, from: u64, off: bool) -> Axis
 
 // The span of so many pixels from pixel `low` on, a hundredth adding `unit` to what its first one has, a pixel being UNIT.
 fn span_of(unit: u64, first: u64, rest: u64, low: u64, pixels: u64) -> Span
-    requires fact_1 { 1 ≤ unit }
-    requires fact_2 { unit ≤ 156400 }
-    requires fact_3 { rest < 253125 }
-    requires fact_4 { 1 ≤ pixels }
-    requires fact_5 { low + pixels ≤ 127872 }
+    requires unit_positive { 1 ≤ unit }
+    requires unit_in_range { unit ≤ 156400 }
+    requires rest_in_range { rest < 253125 }
+    requires not_empty { 1 ≤ pixels }
+    requires last_in_range { low + pixels ≤ 127872 }
     ensures { result ≡ span_of unit first rest low pixels }
 {
     Span {
@@ -111,8 +111,8 @@ fn lesser(x: u64, y: u64) -> u64
 
 // The chart's rows, what is added before they are made whole being given.
 fn down_of(up: u64, k: Card) -> Span
-    requires fact_1 { Known k }
-    requires fact_2 { up ≤ 126562 }
+    requires known { Known k }
+    requires up_in_range { up ≤ 126562 }
     ensures { result ≡ down_of (k.b / 512) (253125 * (k.north - k.nul) + up) k }
 {
     let unit = k.b / 512;
@@ -123,8 +123,8 @@ fn down_of(up: u64, k: Card) -> Span
 
 // The chart's columns, likewise.
 fn across_of(up: u64, k: Card) -> Span
-    requires fact_1 { Known k }
-    requires fact_2 { up ≤ 126562 }
+    requires known { Known k }
+    requires up_in_range { up ≤ 126562 }
     ensures { result ≡ across_of (k.a / 512) (253125 * (2 * k.a - (k.east + k.nls)) + up) k }
 {
     let unit = k.a / 512;

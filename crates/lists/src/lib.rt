@@ -115,11 +115,11 @@ fn clear(numbers: &mut [u32], n: usize)
 
 // The entries from an element of the list on, as far as the engine answers them; the element where the first stands that it does not, or the length.
 fn fill_charted(e: Engine, asked: Asked, list: &[i64], values: &mut [i64], from: usize) -> usize
-    requires fact_1 { Made e }
-    requires fact_2 { Even (length list.now) }
-    requires fact_3 { length list.now ≤ length values.old }
-    requires fact_4 { Even from }
-    requires fact_5 { from ≤ length list.now }
+    requires made { Made e }
+    requires pairs { Even (length list.now) }
+    requires values_fit { length list.now ≤ length values.old }
+    requires from_pair { Even from }
+    requires from_within { from ≤ length list.now }
     ensures { ChartedEntries (report_at e.pair asked e.card list.now) (length list.now) from result
         values.old values.new }
 {
@@ -151,10 +151,10 @@ fn fill_asked(
     numbers: &mut [u32],
     from: usize,
 ) -> usize
-    requires fact_1 { Known k }
-    requires fact_2 { lists_fit (length list.now) (length values.old) (length numbers.old) ≡ true }
-    requires fact_3 { Even from }
-    requires fact_4 { from < length list.now }
+    requires known { Known k }
+    requires fit { lists_fit (length list.now) (length values.old) (length numbers.old) ≡ true }
+    requires from_pair { Even from }
+    requires from_within { from < length list.now }
     ensures told { AskedEntries (report_at pair asked k list.now) (length list.now) from result
         values.old values.new numbers.old numbers.new }
     ensures further { from < result }
@@ -176,8 +176,8 @@ fn fill_asked(
 
 // What is told of each entry: by the engine, and by the card where the engine stops.
 fn fill(e: Engine, asked: Asked, list: &[i64], values: &mut [i64], numbers: &mut [u32])
-    requires fact_1 { Made e }
-    requires fact_2 { lists_fit (length list.now) (length values.old) (length numbers.old) ≡ true }
+    requires made { Made e }
+    requires fit { lists_fit (length list.now) (length values.old) (length numbers.old) ≡ true }
     ensures values { values.new
         ≡ values_left (report_at e.pair asked e.card) list.now values.old numbers.old }
     ensures numbers { numbers.new

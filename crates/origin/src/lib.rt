@@ -41,10 +41,10 @@ pub fn stored_at(tiles: u64, spacing: u64) -> u64
 
 // The origin of a point north of the South Pole and east of 180° west by these angles.
 fn origin_at(a: u64, b: u64, north: u64, east: u64) -> Origin
-    requires fact_1 { Grid a }
-    requires fact_2 { Grid b }
-    requires fact_3 { north ≤ 64800000 }
-    requires fact_4 { east ≤ 129600000 }
+    requires a_on_grid { Grid a }
+    requires b_on_grid { Grid b }
+    requires north_in_range { north ≤ 64800000 }
+    requires east_in_range { east ≤ 129600000 }
     ensures { result ≡ origin_of a b (pos north -ℤ pos 32400000) (pos east -ℤ pos 64800000) }
 {
     let rows = (north * b + (Tile::ANGLE - 1)) / Tile::ANGLE;
@@ -61,8 +61,8 @@ fn origin_at(a: u64, b: u64, north: u64, east: u64) -> Origin
 
 // Alignment, the spacing being known. Refuses 3, 4, 5.
 fn align_in(a: u64, b: u64, zone: u64, lat: i64, lon: i64) -> OriginAnswer
-    requires fact_1 { Grid a }
-    requires fact_2 { Grid b }
+    requires a_on_grid { Grid a }
+    requires b_on_grid { Grid b }
     ensures { result ≡ align_in zone (SpacingAnswer.Constants a b) lat lon }
 {
     if arc::is_polar(zone) {

@@ -30,8 +30,8 @@ fn ends(file: &mut File) -> bool {
 
 // Whether the file goes on with the lines of row and column, from an offset on.
 fn lines_same(file: &mut File, k: Card, input: &[u8], start: usize) -> bool
-    requires fact_1 { Known k }
-    requires fact_2 { length input.now ≤ 65536 }
+    requires known { Known k }
+    requires input_in_range { length input.now ≤ 65536 }
 {
     let mut same = true;
     let mut at = start;

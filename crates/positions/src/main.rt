@@ -10,8 +10,8 @@ use std::io::{Read, Write};
 
 // The lines of row and column, from an offset on.
 fn print_lines(rt: &HostRuntime, k: Card, input: &[u8], start: usize) -> io::Result<()>
-    requires fact_1 { Known k }
-    requires fact_2 { length input.now ≤ 65536 }
+    requires known { Known k }
+    requires input_in_range { length input.now ≤ 65536 }
 {
     let mut at = start;
     while at < input.len() {

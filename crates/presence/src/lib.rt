@@ -25,8 +25,8 @@ pub fn bit(words: &[u64], tile: u64) -> u64
 
 // The count of ones up to and including a tile's bit: over the whole words before, and over its word under a mask (02, E7).
 fn ones_to(words: &[u64], tile: u64) -> u64
-    requires fact_1 { tile < 2 ^ 32 }
-    requires fact_2 { tile / 64 < length words.now }
+    requires tile_in_range { tile < 2 ^ 32 }
+    requires word_within { tile / 64 < length words.now }
     ensures { result ≡ counted words.now (tile + 1) }
 {
     let whole = (tile / 64) as usize;
@@ -83,10 +83,10 @@ fn pass_words(words: &[u64], count: u64, most: u64) -> WordsPassed
 
 // The same, from a tile on, the ones before it being counted and not above `count` (02, E7).
 fn pass_bits(words: &[u64], count: u64, most: u64, from: u64, before: u64) -> u64
-    requires fact_1 { most < 2 ^ 32 }
-    requires fact_2 { from ≤ most }
-    requires fact_3 { before ≡ counted words.now from }
-    requires fact_4 { before ≤ count }
+    requires most_in_range { most < 2 ^ 32 }
+    requires from_within { from ≤ most }
+    requires before_counted { before ≡ counted words.now from }
+    requires before_in_count { before ≤ count }
     ensures { result ≡ within words.now count most }
 {
     let mut ones = before;

@@ -43,9 +43,9 @@ fn put_line(out: &mut [u8], row: u64, column: u64, a: PositionAnswer) -> usize
 
 // The answer for a row and a column of up to nine digits, in the corner pair (02, E8).
 fn position_at(k: Card, row: u64, column: u64) -> PositionAnswer
-    requires fact_1 { Known k }
-    requires fact_2 { row < 1000000000 }
-    requires fact_3 { column < 1000000000 }
+    requires known { Known k }
+    requires row_in_range { row < 1000000000 }
+    requires column_in_range { column < 1000000000 }
     ensures { result ≡ position_of Pair.Corner k (pos row) (pos column) }
 {
     k.position_in(Pair::Corner, row as i64, column as i64)
@@ -53,8 +53,8 @@ fn position_at(k: Card, row: u64, column: u64) -> PositionAnswer
 
 // Row, column and the answer, or "bad line".
 pub fn put_pixel(out: &mut [u8], k: Card, line: &[u8]) -> usize
-    requires fact_1 { Known k }
-    requires fact_2 { 64 ≤ length out.old }
+    requires known { Known k }
+    requires room { 64 ≤ length out.old }
     ensures { Put (line_for k line.now) 0 out.old out.new result }
 {
     match parse::numbers_in(line) {

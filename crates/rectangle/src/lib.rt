@@ -42,9 +42,9 @@ fn less(a: u64, b: u64) -> u64
 
 // Whether a row shares a stretch with the sizes of latitude from low to high. Low is below high, or both are 0 and nothing is shared.
 fn row_shares(b: u64, row: u64, low: u64, high: u64) -> bool
-    requires fact_1 { Rows b }
-    requires fact_2 { row < 9 }
-    requires fact_3 { low ≤ half }
+    requires rows { Rows b }
+    requires row_in_table { row < 9 }
+    requires low_in_range { low ≤ half }
     ensures { result ≡ shares_row b (row_at row) low high }
 {
     if high <= arc::equatorward(row) {
@@ -80,9 +80,9 @@ fn zone_shares(b: u64, zone: u64, south: u64, north: u64) -> bool
 
 // The list, the edges counted from the South Pole.
 fn zones_of(b: u64, south: u64, north: u64) -> RectangleAnswer
-    requires fact_1 { Rows b }
-    requires fact_2 { south < north }
-    requires fact_3 { north ≤ half }
+    requires rows { Rows b }
+    requires south_below { south < north }
+    requires north_in_range { north ≤ half }
     ensures { result ≡ accepted_rectangle (rectangle_zones b (pos south -ℤ pos quarter) (pos north -ℤ pos quarter)) }
 {
     let mut zones = [0u64; 18];

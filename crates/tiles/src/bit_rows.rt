@@ -60,8 +60,8 @@ fn row_missing(
     start: u64,
     width: u64,
 ) -> WindowAnswer
-    requires fact_1 { Beside beside corrections.now }
-    requires fact_2 { start + width ≤ 998001 }
+    requires empty_if_none { Beside beside corrections.now }
+    requires within { start + width ≤ 998001 }
     ensures { result ≡ scan (said_with corrections.now corrected (said_before end words.now)) (up_from start width) }
 {
     for c in 0..width {
@@ -88,8 +88,8 @@ fn rows_missing(
     height: u64,
     width: u64,
 ) -> WindowAnswer
-    requires fact_1 { Beside beside corrections.now }
-    requires fact_2 { WindowRows k top left height width }
+    requires empty_if_none { Beside beside corrections.now }
+    requires in_image { WindowRows k top left height width }
     ensures { result ≡ scan (said_with corrections.now corrected (said_before end words.now)) (window_tiles k top left height width) }
 {
     for r in 0..height {
@@ -116,9 +116,9 @@ pub fn bits_view(
     height: u64,
     width: u64,
 ) -> WindowAnswer
-    requires fact_1 { Known k }
-    requires fact_2 { words_wrong k words.now count ≡ false }
-    requires fact_3 { Beside beside corrections.now }
+    requires known { Known k }
+    requires words_fit { words_wrong k words.now count ≡ false }
+    requires empty_if_none { Beside beside corrections.now }
     ensures { result ≡ view_of k (said_with corrections.now corrected (said_bits k words.now count)) top left height width }
 {
     if !k.tif {

@@ -38,8 +38,8 @@ pub fn bits_wrong(k: Card, words: &[u64], count: u64, store: &[u8]) -> bool
 
 // Whether a bit is set past the last tile, the number of words being right (02, E7).
 pub fn stray_bit(k: Card, words: &[u64]) -> bool
-    requires fact_1 { Known k }
-    requires fact_2 { length words.now ≡ words_length k }
+    requires known { Known k }
+    requires words_fit { length words.now ≡ words_length k }
     ensures { result ≡ stray_bit k words.now }
 {
     presence::any_set(words, k.nfl * k.nfc)
@@ -54,8 +54,8 @@ fn bits_say(
     corrected: u64,
     tile: u64,
 ) -> Said
-    requires fact_1 { Known k }
-    requires fact_2 { tile < tiles k }
+    requires known { Known k }
+    requires in_image { tile < tiles k }
     ensures { result ≡ said_with corrections.now corrected (said_bits k words.now count) tile }
 {
     let correction = correction_at(corrections, tile);

@@ -21,8 +21,8 @@ fn fill(marks: &mut [u8], count: usize, value: u8)
 
 // Marks the numbers named, up to the first bad entry; the first `count` marks are 0 before (01, "Tiles"). Refuses 15.
 fn mark_entries(index: &[u32], count: usize, marks: &mut [u8]) -> Verdict
-    requires fact_1 { count ≤ length marks.old }
-    requires fact_2 { marks.old ≡ marked count [] marks.old }
+    requires room { count ≤ length marks.old }
+    requires cleared { marks.old ≡ marked count [] marks.old }
     ensures answer { result ≡ judged count index.now (first_bad count index.now) }
     ensures left { marks.new ≡ marks_passed count index.now marks.old }
 {

@@ -26,9 +26,9 @@ pub fn tile_says(
     corrected: u64,
     tile: u64,
 ) -> Said
-    requires fact_1 { Known k }
-    requires fact_2 { index_wrong k index.now count ≡ false }
-    requires fact_3 { tile < tiles k }
+    requires known { Known k }
+    requires index_fits { index_wrong k index.now count ≡ false }
+    requires in_image { tile < tiles k }
     ensures { result ≡ said_with corrections.now corrected (said_of k index.now count) tile }
 {
     let correction = correction_at(corrections, tile);

@@ -119,9 +119,9 @@ fn entry_says(index: &[u32], count: u64, tile: u64) -> Said
 
 // What the index says of a tile, the lengths being right (01, "Tiles").
 fn index_says(k: Card, index: &[u32], count: u64, tile: u64) -> Said
-    requires fact_1 { Known k }
-    requires fact_2 { index_wrong k index.now count ≡ false }
-    requires fact_3 { tile < tiles k }
+    requires known { Known k }
+    requires index_fits { index_wrong k index.now count ≡ false }
+    requires in_image { tile < tiles k }
     ensures { result ≡ said_of k index.now count tile }
 {
     if !k.tif {

@@ -29,8 +29,8 @@ pub fn number_said(tile: u64, said: Said) -> NumberAnswer
 
 // An accepted pixel's tile, by its number from 0 in the image (01, "Tiles").
 pub fn pixel_tile(k: Card, row: i64, column: i64) -> u64
-    requires fact_1 { Known k }
-    requires fact_2 { verdict_of k row column ≡ Verdict.Accepted }
+    requires known { Known k }
+    requires in_tiles { verdict_of k row column ≡ Verdict.Accepted }
     ensures { result ≡ tile_of k (nat_abs row) (nat_abs column) }
 {
     whole::size(row) / Tile::SIDE * k.nfc + whole::size(column) / Tile::SIDE
@@ -46,8 +46,8 @@ pub fn found(
     row: i64,
     column: i64,
 ) -> SourceAnswer
-    requires fact_1 { Known k }
-    requires fact_2 { index_wrong k index.now count ≡ false }
+    requires known { Known k }
+    requires index_fits { index_wrong k index.now count ≡ false }
     ensures { result ≡ sourced_of k corrections.now corrected (said_of k index.now count) row column }
 {
     match k.judge_pixel(row, column) {
@@ -91,8 +91,8 @@ pub fn stored_number(
 
 // The n-th stored tile, a part of the store (01, "Tiles").
 fn part<'a>(store: &'a [u8], n: u64) -> &'a [u8]
-    requires fact_1 { 1 ≤ n }
-    requires fact_2 { n * tile_bytes ≤ length store.now }
+    requires stored { 1 ≤ n }
+    requires in_store { n * tile_bytes ≤ length store.now }
     ensures { result.now ≡ part_at n store.now }
 {
     let start = ((n - 1) * Tile::BYTES) as usize;

@@ -68,8 +68,8 @@ pub fn view(
     height: u64,
     width: u64,
 ) -> WindowAnswer
-    requires fact_1 { Known k }
-    requires fact_2 { index_wrong k index.now count ≡ false }
+    requires known { Known k }
+    requires index_fits { index_wrong k index.now count ≡ false }
     ensures { result ≡ view_of k (said_with corrections.now corrected (said_of k index.now count)) top left height width }
 {
     if reaches_past(k.nfl, top, height) | reaches_past(k.nfc, left, width) {

@@ -2,8 +2,8 @@
 use Rattle.printing.proofs.Short.{opening-known}
 use Rattle.position_cases.proofs.all_same.Goals as goal
 
-pub lines_same-requires-clause-fact_1 : goal.lines_same-requires-clause-fact_1
-lines_same-requires-clause-fact_1 c = (opening-known _ _ c.opening-first.ensures.answer c.if-first.true).0
+pub lines_same-requires-clause-known : goal.lines_same-requires-clause-known
+lines_same-requires-clause-known c = (opening-known _ _ c.opening-first.ensures.answer c.if-first.true).0
 
-pub lines_same-requires-clause-fact_2 : goal.lines_same-requires-clause-fact_2
-lines_same-requires-clause-fact_2 c = (opening-known _ _ c.opening-first.ensures.answer c.if-first.true).1
+pub lines_same-requires-clause-input_in_range : goal.lines_same-requires-clause-input_in_range
+lines_same-requires-clause-input_in_range c = (opening-known _ _ c.opening-first.ensures.answer c.if-first.true).1

@@ -2,8 +2,8 @@
 use Rattle.printing.proofs.Short.{opening-known}
 use Rattle.positions.proofs.main.Goals as goal
 
-pub print_lines-requires-clause-fact_1 : goal.print_lines-requires-clause-fact_1
-print_lines-requires-clause-fact_1 c = (opening-known _ _ c.opening-first.ensures.answer c.if-first.true).0
+pub print_lines-requires-clause-known : goal.print_lines-requires-clause-known
+print_lines-requires-clause-known c = (opening-known _ _ c.opening-first.ensures.answer c.if-first.true).0
 
-pub print_lines-requires-clause-fact_2 : goal.print_lines-requires-clause-fact_2
-print_lines-requires-clause-fact_2 c = (opening-known _ _ c.opening-first.ensures.answer c.if-first.true).1
+pub print_lines-requires-clause-input_in_range : goal.print_lines-requires-clause-input_in_range
+print_lines-requires-clause-input_in_range c = (opening-known _ _ c.opening-first.ensures.answer c.if-first.true).1
