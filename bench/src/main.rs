@@ -1,4 +1,4 @@
-//! Benchmarks of libfordcask_c.a against the plain rule in Rust.
+//! Benchmarks of libfordcask.a against the plain rule in Rust.
 
 mod bit_windows;
 mod bits;

@@ -105,8 +105,8 @@
    bits the tile, or the index length where a stored tile is never named. Else
    it is 0.
 
-   To link: `rt lib` in crates/fordcask_c makes out/libfordcask_c.a there; then
-   cc program.c -Ibindings/c crates/fordcask_c/out/libfordcask_c.a */
+   To link: bindings/archive makes target/staticlib/libfordcask.a; then
+   cc program.c -Ibindings/c target/staticlib/libfordcask.a */
 
 #ifndef FORDCASK_H
 #define FORDCASK_H

@@ -1,4 +1,4 @@
-//! Links libfordcask_c.a from $FORDCASK_LIB, by default from ../../crates/fordcask_c/out.
+//! Links libfordcask.a from $FORDCASK_LIB, by default from ../../target/staticlib.
 
 use std::env;
 use std::path::PathBuf;
@@ -8,11 +8,11 @@ fn main() {
         Some(folder) => PathBuf::from(folder),
         None => {
             let manifest = env::var_os("CARGO_MANIFEST_DIR").expect("set by cargo");
-            PathBuf::from(manifest).join("../../crates/fordcask_c/out")
+            PathBuf::from(manifest).join("../../target/staticlib")
         }
     };
     println!("cargo:rerun-if-env-changed=FORDCASK_LIB");
-    println!("cargo:rerun-if-changed={}", folder.join("libfordcask_c.a").display());
+    println!("cargo:rerun-if-changed={}", folder.join("libfordcask.a").display());
     println!("cargo:rustc-link-search=native={}", folder.display());
-    println!("cargo:rustc-link-lib=static=fordcask_c");
+    println!("cargo:rustc-link-lib=static=fordcask");
 }
