@@ -13,7 +13,7 @@ use Rattle.arc.specs.declared.ConstantAnswer.{ConstantAnswer}
 use Rattle.arc.specs.declared.SpacingAnswer.{SpacingAnswer}
 use Rattle.arc.specs.Zones.{Row, table, has_zone, row_in, table_row}
 use Rattle.arc.specs.Scales.{overview_scale, on_scale, OverviewOf}
-use Rattle.arc.specs.Spacing.{spacing_at, row_unit, columns_in, rows_for, rows_of, on_constant, spacing_of, SpacingUnit, GridsIs}
+use Rattle.arc.specs.Spacing.{spacing_at, row_unit, columns_in, rows_for, rows_of, on_constant, spacing_of, GridsIs}
 use Rattle.arc.proofs.ScaleLaws.{scale-is}
 use Rattle.arc.proofs.Spaced.{grid, columns-least, rows-least}
 

@@ -1,7 +1,7 @@
 -- Demand 3, for both pairs at once. A pixel of a later card has the first pixel's place exactly when it is the one that the position gives (the round
 -- trip of each axis), so that card's two tests decide what it answers, and the same place has the same two numbers again.
 -- Then by induction down the list. Assumes nothing.
-use mathlib.Core.Path.{◌≡◌, refl, sym, ap, ap₂, ◌∙◌, subst, subst⁻¹, subst₂}
+use mathlib.Core.Path.{◌≡◌, refl, sym, ap, ap₂, ◌∙◌, subst⁻¹, subst₂}
 use mathlib.Core.Bool.{Bool, true, false, false≢true}
 use mathlib.Core.List.{List, [], ◌∷◌}
 use mathlib.Core.Logic.{inl, inr}

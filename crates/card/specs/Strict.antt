@@ -36,7 +36,8 @@ abbrev pub TolerantAccepts : Type 0
 TolerantAccepts = (series : Series) (s : List ℕ) (k : Card) → read_of series s ≡ accepted_card k 0 → read_strict series s ≡ accepted_card k 0
 
 abbrev pub RefusedNone : Type 0
-RefusedNone = (fill : Fill) (series : Series) (s : List ℕ) (e : Refusal) → (read_as fill series s).verdict ≡ Verdict.Refused e → (read_as fill series s).blanks ≡ 0
+RefusedNone = (fill : Fill) (series : Series) (s : List ℕ) (e : Refusal) → (read_as fill series s).verdict ≡ Verdict.Refused e
+    → (read_as fill series s).blanks ≡ 0
 
 -- ARV and BRV have 4 digits and 5 at least, PNC and PNL 3, the others 1: 4 + 3 + 2 × 3 + 4 × 5 + 2 × 2
 abbrev pub AtMost37 : Type 0

@@ -2,7 +2,7 @@
 use mathlib.Core.Path.{◌≡◌, refl, sym, ap, ap₂, ◌∙◌}
 use mathlib.Core.Bool.{Bool, true, false, cond, not}
 use mathlib.Core.List.{List}
-use Prim.Native.Nat.{ℕ, zero, suc, ◌+◌, ◌-◌, ◌*◌, ◌/◌, ◌%◌, ◌^◌, ◌≤◌, ◌<◌}
+use Prim.Native.Nat.{ℕ, suc, ◌+◌, ◌-◌, ◌*◌, ◌/◌, ◌%◌, ◌^◌, ◌≤◌, ◌<◌}
 use native.Mathlib.Omega.{arith}
 use native.Mathlib.Nat.{lt_of_not-le}
 use native.Mathlib.Numerals.{add-one}
@@ -26,7 +26,7 @@ use Rattle.tiles.proofs.AsList.{bits-have-list}
 use Rattle.convert.specs.Convert.{lengths_wrong, in_order, bit_of, word_from, bits_of, to_bits_of, bits_left, to_list_of, list_left}
 use Rattle.convert.specs.Convert.{ToBitsForms, ToListForms, FormsInOrder, BitsAndBack, ListAndBack}
 use Rattle.convert.proofs.Words.{bit-none, bit-some, present-of, word-is}
-use Rattle.convert.proofs.Order.{non_zero, same_count, Ordered, order-ordered, ordered-order}
+use Rattle.convert.proofs.Order.{same_count, order-ordered, ordered-order}
 
 -- ---- lengths
 pub lengths-right : (k : Card) (m n : ℕ) → lengths_wrong k m n ≡ false → (m ≡ index_length k) × (n ≡ words_length k)

@@ -28,7 +28,8 @@ pub record AsInDocument01 (s zone : ℕ) : Type 0 where
       → write_of (chart_series s zone) r out ≡ write_in zone (for_writing s (spacing_for (chart_scale s) zone)) r (length out)
   pub output : (r : Record) (out : List ℕ)
       → out_of (chart_series s zone) r out
-      ≡ out_after (write_in zone (for_writing s (spacing_for (chart_scale s) zone)) r (length out)) (text_for (for_writing s (spacing_for (chart_scale s) zone)) r) out
+      ≡ out_after (write_in zone (for_writing s (spacing_for (chart_scale s) zone)) r (length out))
+      (text_for (for_writing s (spacing_for (chart_scale s) zone)) r) out
 
 abbrev pub FactorOne : Type 0
 FactorOne = (s zone : ℕ) → AsInDocument01 s zone

@@ -12,7 +12,6 @@ use Rattle.arc.specs.Zones.{circle, half, quarter, tile}
 use Rattle.arc.specs.declared.SpacingAnswer.{SpacingAnswer}
 use Rattle.arc.specs.TownScales.{spacing_for_writing}
 use Rattle.arc.proofs.TownScales.{town-refused, written_from, only-from}
-use Rattle.origin.specs.declared.Origin.{Origin}
 use Rattle.origin.specs.declared.OriginAnswer.{OriginAnswer}
 use Rattle.origin.specs.Origin.{row_tiles, column_tiles, origin_of, align_in, AlignedIs, AlignedOnGrid, AlignedFrom, AlignedScale, TownNotAligned}
 use Rattle.origin.proofs.Line.{is-inside}

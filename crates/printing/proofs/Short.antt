@@ -17,7 +17,7 @@ use Rattle.card.specs.declared.Card.{Card}
 use Rattle.card.specs.declared.PositionAnswer.{PositionAnswer}
 use Rattle.card.specs.declared.Pair.{Pair}
 use Rattle.card.specs.Grid.{position_of}
-use Rattle.card.specs.Read.{read_of, Accepted, Known}
+use Rattle.card.specs.Read.{read_of, Known}
 use Rattle.printing.specs.Lines.{TwoNumbers, numbers_of}
 use Rattle.printing.specs.Printed.{bad_line, too_long, answer_text, line_out, line_for, card_out}
 use Rattle.printing.specs.Run.{line_at, next_at, Opened, closed, opened_with, opened_card, opening_of}

@@ -1,14 +1,13 @@
 -- Each tile's number by the bits is its entry, so every answer is the list's. Assumes nothing.
-use mathlib.Core.Path.{◌≡◌, refl, sym, ap, ap₂, fun_ext, ◌∙◌}
+use mathlib.Core.Path.{◌≡◌, sym, ap, ap₂, fun_ext, ◌∙◌}
 use mathlib.Core.Bool.{Bool, true, false, cond}
 use mathlib.Core.List.{List}
-use Prim.Native.Nat.{ℕ, ◌+◌, ◌-◌, ◌*◌, ◌/◌, ◌≤◌, ◌<◌}
+use Prim.Native.Nat.{ℕ, ◌+◌, ◌-◌, ◌*◌, ◌/◌, ◌≤◌}
 use native.Mathlib.Omega.{arith}
 use native.Mathlib.Nat.{lt_of_not-le}
 use native.Mathlib.Decide.{dec_le}
 use borrow.Author.Tests.{eq-eqb}
 use lib.ListN.{length, get_or, get_or-eq_default}
-use lib.IntN.{ℤ}
 use Rattle.presence.specs.Presence.{present, number_at}
 use Rattle.presence.proofs.Counted.{present-past, number-none}
 use Rattle.presence.proofs.Set.{none-set}

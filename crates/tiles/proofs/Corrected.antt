@@ -17,7 +17,7 @@ use Rattle.tiles.specs.declared.NumberAnswer.{NumberAnswer}
 use Rattle.tiles.specs.declared.SourceAnswer.{SourceAnswer}
 use Rattle.tiles.specs.declared.WindowAnswer.{WindowAnswer}
 use Rattle.tiles.specs.Index.{tile_of, index_wrong, said, said_of}
-use Rattle.tiles.specs.LookUp.{store_wrong, found_of, number_of, part_in, part_of, in_band, bands_in, bands_of}
+use Rattle.tiles.specs.LookUp.{store_wrong, found_of, number_of, part_of, in_band, bands_in, bands_of}
 use Rattle.tiles.specs.Window.{window_tiles, scanned, scan, view_of, window_of}
 use Rattle.tiles.specs.Corrections.{list_wrong, corrections_wrong, said_with, source_at, sourced, number_alone}
 use Rattle.tiles.specs.Corrections.{sourced_of, source_of, either_part, either_part_of, either_bands_of, corrected_window_of}

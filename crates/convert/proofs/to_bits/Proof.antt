@@ -1,7 +1,6 @@
 -- The tests are the definition's, and every word is written. Assumes nothing.
 use mathlib.Core.Path.{◌≡◌, refl, sym, ap, ◌∙◌}
-use mathlib.Core.Bool.{true, false}
-use native.Mathlib.Omega.{arith}
+use mathlib.Core.Bool.{false}
 use lib.ListN.{length}
 use Rattle.arc.specs.declared.Verdict.{Verdict}
 use Rattle.tiles.proofs.Forms.{words-few}

@@ -1,5 +1,5 @@
 -- The rest of the word is 0 just where none of its bits is set. Assumes nothing.
-use mathlib.Core.Path.{◌≡◌, sym}
+use mathlib.Core.Path.{sym}
 use Rattle.presence.proofs.Set.{set_rest, set_past}
 use borrow.Author.Rules.{rules}
 use Rattle.presence.proofs.any_set.Statement.{statement}

@@ -1,6 +1,5 @@
 -- A clear bit has no number, and a set one is in the words. Assumes nothing.
 use mathlib.Core.Path.{◌≡◌, sym, ◌∙◌}
-use native.Mathlib.Omega.{arith}
 use Rattle.presence.proofs.Counted.{present-in, number-none, number-some}
 use Rattle.presence.specs.Presence.{present}
 use borrow.Author.Rules.{rules}

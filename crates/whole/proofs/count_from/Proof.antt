@@ -1,6 +1,6 @@
 -- The test is that of `outside`, and past it z + limit is not negative and comes back as it was. Assumes nothing.
 use mathlib.Core.Path.{◌≡◌, refl, ap, ap₂, ◌∙◌}
-use mathlib.Core.Bool.{true, false, ◌||◌}
+use mathlib.Core.Bool.{false, ◌||◌}
 use borrow.Author.Tests.{not-true, not-false}
 use lib.IntN.{ℤ, nat_abs}
 use Rattle.whole.specs.declared.Counted.TheVariants.{From}

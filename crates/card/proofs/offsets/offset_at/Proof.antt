@@ -9,7 +9,6 @@ use Rattle.whole.proofs.Machine.{result-is}
 use Rattle.whole.proofs.Signed.{is-difference, is-size}
 use Rattle.card.specs.declared.Offset.{Offset}
 use Rattle.card.specs.Grid.{into_range}
-use Rattle.card.specs.Offset.{difference}
 use Rattle.card.proofs.Doubles.{in-float, short-size}
 use borrow.Author.Rules.{rules}
 use Rattle.card.proofs.offsets.offset_at.Statement.{statement}

@@ -1,7 +1,6 @@
 -- A stored number's bytes begin that many tiles into the store. Assumes nothing.
 use mathlib.Core.Path.{sym, ap, subst, ◌∙◌}
 use native.Mathlib.Omega.{arith}
-use Rattle.tiles.specs.declared.NumberAnswer.{NumberAnswer}
 use Rattle.fordcask.specs.Entry.{tile_parts}
 use Rattle.fordcask.specs.Steps.{Small, Numbered}
 use borrow.Author.Rules.{rules}

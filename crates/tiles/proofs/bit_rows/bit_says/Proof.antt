@@ -1,5 +1,5 @@
 -- The tests are the definition's. Assumes nothing.
-use mathlib.Core.Path.{◌≡◌, sym, ◌∙◌}
+use mathlib.Core.Path.{sym, ◌∙◌}
 use borrow.Author.Tests.{eq-eqb, ne_eqb, le-leb, lt-leb}
 use borrow.Author.Rules.{rules}
 use Rattle.tiles.proofs.bit_rows.bit_says.Statement.{statement}

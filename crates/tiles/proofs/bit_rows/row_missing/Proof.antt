@@ -1,6 +1,6 @@
 -- Each turn passes a stored tile, and the scan of what is left is the scan of the whole. Assumes nothing.
-use mathlib.Core.Path.{◌≡◌, refl, sym, ap, ◌∙◌}
-use Prim.Native.Nat.{ℕ, ◌+◌, ◌-◌, ◌≤◌}
+use mathlib.Core.Path.{◌≡◌, sym, ap, ◌∙◌}
+use Prim.Native.Nat.{◌+◌, ◌-◌, ◌≤◌}
 use native.Mathlib.Omega.{arith}
 use Rattle.whole.specs.Lists.{up_from}
 use Rattle.tiles.specs.declared.Said.{Said}

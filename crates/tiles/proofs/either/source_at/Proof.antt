@@ -1,5 +1,5 @@
 -- The test is the definition's. Assumes nothing.
-use mathlib.Core.Path.{sym, ap, ◌∙◌}
+use mathlib.Core.Path.{sym, ◌∙◌}
 use Rattle.tiles.proofs.Sources.{source-none, source-some}
 use borrow.Author.Rules.{rules}
 use Rattle.tiles.proofs.either.source_at.Statement.{statement}

@@ -1,5 +1,5 @@
 -- The tests are those of the correction's entry; where it is 0 the base is asked. Assumes nothing.
-use mathlib.Core.Path.{◌≡◌, sym, ap, ◌∙◌}
+use mathlib.Core.Path.{sym, ap, ◌∙◌}
 use native.Mathlib.Omega.{arith}
 use Rattle.tiles.specs.declared.Said.{Said}
 use Rattle.tiles.proofs.Sources.{with_none, with-above, with-stored}

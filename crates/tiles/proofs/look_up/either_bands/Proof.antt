@@ -1,8 +1,5 @@
 -- The number lies in the store that is named, and its part is a tile's bytes. Assumes nothing.
-use mathlib.Core.Path.{◌≡◌, sym, ap, ap₂, subst, ◌∙◌}
-use Prim.Native.Nat.{ℕ, ◌-◌, ◌*◌}
-use native.Mathlib.Omega.{arith}
-use mathlib.Core.List.{List}
+use mathlib.Core.Path.{sym, ap, ap₂, subst, ◌∙◌}
 use lib.ListN.{length}
 use Rattle.card.proofs.Answers.{pair-asked}
 use Rattle.tiles.specs.declared.SourceAnswer.{SourceAnswer}
