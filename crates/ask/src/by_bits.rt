@@ -11,15 +11,13 @@ pub fn asked(
     at: usize,
     store: &[u8],
 ) -> io::Result<bool> {
-    let mut bytes = lent::bytes(rt.alloc())?;
-    let bytes = bytes.as_mut_slice();
-    let k = buffer::card(line, at, bytes);
+    let mut bytes = lent::bytes();
+    let k = buffer::card(line, at, &mut bytes);
     if line.len() <= k.next {
         return Ok(false);
     }
-    let mut words = lent::words(rt.alloc())?;
-    let words = words.as_mut_slice();
-    let filled = list::words(line, k.next, words);
+    let mut words = lent::words();
+    let filled = list::words(line, k.next, &mut words);
     let count = word::natural(line, filled.next);
     let n = k.length;
     let i = filled.length;
@@ -94,8 +92,7 @@ pub fn to_bits(
         return Ok(false);
     }
     let n = s.count as usize;
-    let mut words = lent::words(rt.alloc())?;
-    let words = words.as_mut_slice();
+    let mut words = lent::words();
     set_words(rt, s, card, index, &mut words[..n])?;
     Ok(true)
 }
@@ -123,8 +120,7 @@ fn to_list(rt: &HostRuntime, at: usize, s: Stated, card: &[u8], words: &[u64]) -
         return Ok(false);
     }
     let n = s.count as usize;
-    let mut index = lent::numbers(rt.alloc())?;
-    let index = index.as_mut_slice();
+    let mut index = lent::numbers();
     set_list(rt, s, card, words, &mut index[..n])?;
     Ok(true)
 }
@@ -172,9 +168,8 @@ fn corrected_window(
     if line.len() <= at {
         return Ok(false);
     }
-    let mut entries = lent::numbers(rt.alloc())?;
-    let entries = entries.as_mut_slice();
-    let filled = list::index(rt.alloc(), line, at, entries)?;
+    let mut entries = lent::numbers();
+    let filled = list::index(line, at, &mut entries);
     let corrected = word::natural(line, filled.next);
     let top = word::natural(line, corrected.next);
     let left = word::natural(line, top.next);

@@ -9,9 +9,8 @@ pub fn asked(rt: &HostRuntime, name: &[u8], line: &[u8], at: usize) -> io::Resul
     if word::same(name, b"overview_pixel") {
         return overview::asked(rt, line, at);
     }
-    let mut bytes = lent::bytes(rt.alloc())?;
-    let bytes = bytes.as_mut_slice();
-    let k = buffer::card(line, at, bytes);
+    let mut bytes = lent::bytes();
+    let k = buffer::card(line, at, &mut bytes);
     let n = k.length;
     if word::ended(k.next) {
         return on_card(rt, name, k.series, &bytes[..n]);

@@ -22,9 +22,8 @@ pub fn asked(
     if line.len() <= length.next {
         return Ok(false);
     }
-    let mut entries = lent::numbers(rt.alloc())?;
-    let entries = entries.as_mut_slice();
-    let filled = list::index(rt.alloc(), line, length.next, entries)?;
+    let mut entries = lent::numbers();
+    let filled = list::index(line, length.next, &mut entries);
     let corrected = word::natural(line, filled.next);
     let second = word::natural(line, corrected.next);
     let row = word::signed(line, second.next);

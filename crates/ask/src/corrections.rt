@@ -15,9 +15,8 @@ pub fn window(
     if line.len() <= at {
         return Ok(false);
     }
-    let mut entries = lent::numbers(rt.alloc())?;
-    let entries = entries.as_mut_slice();
-    let filled = list::index(rt.alloc(), line, at, entries)?;
+    let mut entries = lent::numbers();
+    let filled = list::index(line, at, &mut entries);
     let corrected = word::natural(line, filled.next);
     let top = word::natural(line, corrected.next);
     let left = word::natural(line, top.next);

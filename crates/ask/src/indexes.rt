@@ -18,15 +18,13 @@ pub fn asked(
     at: usize,
     store: &[u8],
 ) -> io::Result<bool> {
-    let mut bytes = lent::bytes(rt.alloc())?;
-    let bytes = bytes.as_mut_slice();
-    let k = buffer::card(line, at, bytes);
+    let mut bytes = lent::bytes();
+    let k = buffer::card(line, at, &mut bytes);
     if line.len() <= k.next {
         return Ok(false);
     }
-    let mut entries = lent::numbers(rt.alloc())?;
-    let entries = entries.as_mut_slice();
-    let filled = list::index(rt.alloc(), line, k.next, entries)?;
+    let mut entries = lent::numbers();
+    let filled = list::index(line, k.next, &mut entries);
     let count = word::natural(line, filled.next);
     let n = k.length;
     let i = filled.length;
@@ -108,8 +106,7 @@ fn index_check(
         return Ok(false);
     }
     let n = length.value as usize;
-    let mut marks = lent::bytes(rt.alloc())?;
-    let marks = marks.as_mut_slice();
+    let mut marks = lent::bytes();
     checked(rt, s, card, index, &mut marks[..n])?;
     Ok(true)
 }

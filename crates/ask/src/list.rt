@@ -1,10 +1,9 @@
 // Lists of numbers, taken into a buffer: [], or numbers with a comma between two in brackets.
-ghost use Rattle.std.specs.Prelude.{◌≤◌, length, IfOk};
+ghost use Rattle.std.specs.Prelude.{◌≤◌, length};
 ghost use Rattle.ask.specs.Steps.{Fills};
 
 use crate::buffer::{Filled, bad};
 use crate::{lent, word};
-use std::alloc::{AllocError, Global};
 
 // A number of a list, where the next one is, 0 where this is none, and whether it is the last.
 #[derive(Clone, Copy)]
@@ -105,20 +104,19 @@ fn entries(list: &[i64], out: &mut [u32]) -> bool
 }
 
 // A word that is an index.
-pub fn index(alloc: Global, line: &[u8], at: usize, out: &mut [u32]) -> Result<Filled, AllocError>
-    ensures { IfOk result (λ filled. Fills filled.length out.new) }
+pub fn index(line: &[u8], at: usize, out: &mut [u32]) -> Filled
+    ensures { Fills result.length out.new }
 {
-    let mut values = lent::values(alloc)?;
-    let values = values.as_mut_slice();
-    let filled = list(line, at, false, values);
+    let mut values = lent::values();
+    let filled = list(line, at, false, &mut values);
     let n = filled.length;
     if out.len() < n {
-        return Ok(bad());
+        return bad();
     }
     if entries(&values[..n], out) {
-        return Ok(filled);
+        return filled;
     }
-    Ok(bad())
+    bad()
 }
 
 // The words of presence bits, from the place past a bracket on: numbers of 64 bits without sign.

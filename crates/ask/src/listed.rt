@@ -28,12 +28,10 @@ fn listed(
     line: &[u8],
     at: usize,
 ) -> io::Result<bool> {
-    let mut bytes = lent::bytes(rt.alloc())?;
-    let bytes = bytes.as_mut_slice();
-    let mut given = lent::values(rt.alloc())?;
-    let given = given.as_mut_slice();
-    let k = buffer::card(line, at, bytes);
-    let filled = list::list(line, k.next, true, given);
+    let mut bytes = lent::bytes();
+    let mut given = lent::values();
+    let k = buffer::card(line, at, &mut bytes);
+    let filled = list::list(line, k.next, true, &mut given);
     let values = word::natural(line, filled.next);
     let numbers = word::natural(line, values.next);
     if !word::ended(numbers.next) {
@@ -49,10 +47,8 @@ fn listed(
     let i = filled.length;
     let v = values.value as usize;
     let u = numbers.value as usize;
-    let mut left = lent::values(rt.alloc())?;
-    let left = left.as_mut_slice();
-    let mut told = lent::numbers(rt.alloc())?;
-    let told = told.as_mut_slice();
+    let mut left = lent::values();
+    let mut told = lent::numbers();
     answer(
         rt,
         corner,
@@ -78,18 +74,15 @@ fn answer(
 ) -> io::Result<()> {
     if corner & positions {
         let r = fordcask::fordcask_corner_positions(series, card, given, values, numbers);
-        print::lists(rt, r.number, r.at, values, numbers, r.blanks)?;
-        return Ok(());
+        return print::lists(rt, r.number, r.at, values, numbers, r.blanks);
     }
     if corner {
         let r = fordcask::fordcask_corner_pixels(series, card, given, values, numbers);
-        print::lists(rt, r.number, r.at, values, numbers, r.blanks)?;
-        return Ok(());
+        return print::lists(rt, r.number, r.at, values, numbers, r.blanks);
     }
     if positions {
         let r = fordcask::fordcask_positions(series, card, given, values, numbers);
-        print::lists(rt, r.number, r.at, values, numbers, r.blanks)?;
-        return Ok(());
+        return print::lists(rt, r.number, r.at, values, numbers, r.blanks);
     }
     let r = fordcask::fordcask_pixels(series, card, given, values, numbers);
     print::lists(rt, r.number, r.at, values, numbers, r.blanks)

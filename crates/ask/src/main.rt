@@ -6,7 +6,6 @@
 
 ghost use Rattle.std.specs.Prelude.{◌≡◌, ◌≤◌, length, IfOk};
 
-use std::alloc::{AllocError, Global};
 use std::io;
 use std::io::Read;
 
@@ -119,19 +118,34 @@ fn answer_lines(rt: &HostRuntime, input: &[u8], store: &[u8]) -> io::Result<()> 
 }
 
 // 1 MiB and a byte, as long as they are.
-fn sized(alloc: Global) -> Result<Vec<u8>, AllocError>
-    ensures { IfOk result (λ bytes. 1048577 ≡ length bytes.items) }
+fn sized(bytes: [u8; 1_048_577]) -> [u8; 1_048_577]
+    ensures { 1048577 ≡ length result }
 {
-    Vec::from_elem(alloc, 0u8, 1_048_577)
+    bytes
+}
+
+// Reads until the buffer is full or the input ends, and returns how many bytes it put at the buffer's start.
+fn read_full<R: Read>(reader: &mut R, buffer: &mut [u8]) -> io::Result<usize>
+    ensures { IfOk result (λ n. n ≤ length buffer.new) }
+{
+    let mut done = 0;
+    while done < buffer.len() {
+        let n = reader.read(&mut buffer[done..])?;
+        if n == 0 {
+            break;
+        }
+        done += n;
+    }
+    Ok(done)
 }
 
 fn main(rt: HostRuntime) -> io::Result<()> {
-    let mut input = Vec::new(rt.alloc());
-    rt.reader().take(1_048_577).read_to_end(&mut input)?;
-    if 1_048_576 < input.len() {
+    let mut input = sized([0; 1_048_577]);
+    let n = read_full(&mut rt.stdin(), &mut input)?;
+    if 1_048_576 < n {
         return print::text(&rt, b"input too long\n");
     }
-    let mut store = sized(rt.alloc())?;
-    fill(store.as_mut_slice());
-    answer_lines(&rt, input.as_slice(), store.as_slice())
+    let mut store = sized([0; 1_048_577]);
+    fill(&mut store);
+    answer_lines(&rt, &input[..n], &store)
 }

@@ -4,13 +4,11 @@ use std::io;
 
 // Whether the line is this question, well formed; then it is answered.
 pub fn asked(rt: &HostRuntime, line: &[u8], at: usize) -> io::Result<bool> {
-    let mut bytes = lent::bytes(rt.alloc())?;
-    let bytes = bytes.as_mut_slice();
-    let k = buffer::card(line, at, bytes);
+    let mut bytes = lent::bytes();
+    let k = buffer::card(line, at, &mut bytes);
     let n = k.length;
-    let mut over = lent::bytes(rt.alloc())?;
-    let over = over.as_mut_slice();
-    let o = buffer::card(line, k.next, over);
+    let mut over = lent::bytes();
+    let o = buffer::card(line, k.next, &mut over);
     let m = o.length;
     let row = word::signed(line, o.next);
     let column = word::signed(line, row.next);

@@ -84,8 +84,7 @@ pub fn write_card(rt: &HostRuntime, line: &[u8], at: usize) -> io::Result<bool> 
         return Ok(false);
     }
     let n = length.value as usize;
-    let mut out = lent::bytes(rt.alloc())?;
-    let out = out.as_mut_slice();
+    let mut out = lent::bytes();
     written(rt, r, &mut out[..n])?;
     Ok(true)
 }

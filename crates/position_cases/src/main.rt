@@ -2,13 +2,17 @@
 // The arguments are pairs of files: an input, NAME.in, and the whole output expected of it.
 #![tactic(auto)]
 
-ghost use Rattle.std.specs.Prelude.{◌≤◌, length};
+ghost use Rattle.std.specs.Prelude.{◌≤◌, length, IfOk};
 ghost use Rattle.card.specs.Read.{Known};
 
 use card::Card;
+use std::env::Env;
 use std::fs::File;
 use std::io::{Read, Write};
-use std::{env, io};
+use std::{io, str};
+
+// As long as any path may be.
+const PATH: usize = 4096;
 
 // Whether the file goes on with these bytes.
 fn goes_on(file: &mut File, text: &[u8]) -> bool {
@@ -55,12 +59,21 @@ fn all_same(file: &mut File, input: &[u8]) -> bool {
     begun & ends(file)
 }
 
+// The file that a path names; a path that is no UTF-8 names none that can be opened.
+fn open(rt: &HostRuntime, path: &[u8]) -> io::Result<File> {
+    match str::from_utf8(path) {
+        Ok(path) => File::open(rt, path),
+        Err(_) => Err(io::Error::from(io::ErrorKind::InvalidInput)),
+    }
+}
+
 // Whether the file that the k-th argument names is what is printed of an input.
-fn held_to(rt: &HostRuntime, arguments: &[String], k: usize, input: &[u8]) -> bool {
-    let Some(path) = arguments.get(k) else {
+fn held_to(rt: &HostRuntime, k: usize, input: &[u8]) -> bool {
+    let mut path = [0u8; PATH];
+    let Ok(length) = rt.arg(k, &mut path) else {
         return false;
     };
-    let Ok(mut file) = File::open(rt, path.as_str()) else {
+    let Ok(mut file) = open(rt, &path[..length]) else {
         return false;
     };
     all_same(&mut file, input)
@@ -79,31 +92,53 @@ fn report(rt: &HostRuntime, path: &[u8], same: bool) -> io::Result<()> {
     }
 }
 
+// Says on standard error that the file cannot be opened, and why.
+fn fail(rt: &HostRuntime, path: &[u8], error: io::Error) -> io::Result<()> {
+    rt.stderr().write_all(path)?;
+    eprintln!(rt; ": {error}")
+}
+
+// Reads until the buffer is full or the input ends, and returns how many bytes it put at the buffer's start.
+fn read_full<R: Read>(reader: &mut R, buffer: &mut [u8]) -> io::Result<usize>
+    ensures { IfOk result (λ n. n ≤ length buffer.new) }
+{
+    let mut done = 0;
+    while done < buffer.len() {
+        let n = reader.read(&mut buffer[done..])?;
+        if n == 0 {
+            break;
+        }
+        done += n;
+    }
+    Ok(done)
+}
+
 // The case whose input the k-th argument names; false where there is none.
-fn one(rt: &HostRuntime, arguments: &[String], k: usize) -> io::Result<bool>
+fn one(rt: &HostRuntime, k: usize) -> io::Result<bool>
     requires { k ≤ 100000 }
 {
-    let Some(path) = arguments.get(k) else {
+    let mut path = [0u8; PATH];
+    let Ok(length) = rt.arg(k, &mut path) else {
         return Ok(false);
     };
-    let file = match File::open(rt, path.as_str()) {
+    let mut file = match open(rt, &path[..length]) {
         Ok(file) => file,
         Err(error) => {
-            eprintln!(rt; "{path}: {error}")?;
+            fail(rt, &path[..length], error)?;
             return Ok(false);
         }
     };
-    let mut input = Vec::new(rt.alloc());
-    file.take(65_537).read_to_end(&mut input)?;
-    let same = held_to(rt, arguments, k + 1, input.as_slice());
-    report(rt, path.as_bytes(), same)?;
+    let mut input = [0u8; 65537];
+    let n = read_full(&mut file, &mut input)?;
+    drop(file);
+    let same = held_to(rt, k + 1, &input[..n]);
+    report(rt, &path[..length], same)?;
     Ok(true)
 }
 
 fn main(rt: HostRuntime) -> io::Result<()> {
-    let arguments: Vec<String> = env::args(&rt)?.collect(rt.alloc())?;
     for k in 0..1000 {
-        if !one(&rt, arguments.as_slice(), 2 * k + 1)? {
+        if !one(&rt, 2 * k + 1)? {
             return Ok(());
         }
     }

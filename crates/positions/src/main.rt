@@ -1,7 +1,7 @@
 // Prints positions of a card's pixels, from standard input to standard output (01, "The printing program").
 #![tactic(auto)]
 
-ghost use Rattle.std.specs.Prelude.{◌≤◌, length};
+ghost use Rattle.std.specs.Prelude.{◌≤◌, length, IfOk};
 ghost use Rattle.card.specs.Read.{Known};
 
 use card::Card;
@@ -23,15 +23,29 @@ fn print_lines(rt: &HostRuntime, k: Card, input: &[u8], start: usize) -> io::Res
     Ok(())
 }
 
+// Reads until the buffer is full or the input ends, and returns how many bytes it put at the buffer's start.
+fn read_full<R: Read>(reader: &mut R, buffer: &mut [u8]) -> io::Result<usize>
+    ensures { IfOk result (λ n. n ≤ length buffer.new) }
+{
+    let mut done = 0;
+    while done < buffer.len() {
+        let n = reader.read(&mut buffer[done..])?;
+        if n == 0 {
+            break;
+        }
+        done += n;
+    }
+    Ok(done)
+}
+
 fn main(rt: HostRuntime) -> io::Result<()> {
-    let mut input = Vec::new(rt.alloc());
-    rt.reader().take(65_537).read_to_end(&mut input)?;
-    let text = input.as_slice();
+    let mut input = [0u8; 65537];
+    let n = read_full(&mut rt.stdin(), &mut input)?;
     let mut out = [0u8; 64];
-    let first = printing::opening(text, &mut out);
+    let first = printing::opening(&input[..n], &mut out);
     io::writer(&rt).write_all(&out[..first.length])?;
     if first.more {
-        print_lines(&rt, first.card, text, first.next)?;
+        print_lines(&rt, first.card, &input[..n], first.next)?;
     }
     Ok(())
 }
