@@ -1,7 +1,7 @@
 -- The zone table once more, row by row as 01 prints it, in a place of its own: what is changed in the code's table and in `table` alike is refused by
 -- this claim (02, E5). The proof is proofs/AsPrinted.antt.
 --     printed_row n s e p u    the row of the zones n and s, from e to p degrees, A / 512 being u
---     printed_rows        the rows
+--     printed_rows       the rows
 --     TableAsPrinted     the table has these rows
 use Rattle.std.specs.Prelude.{◌≡◌, List, [], ◌∷◌, ℕ}
 use Rattle.arc.specs.Zones.{Row, table}

@@ -1,11 +1,11 @@
 -- What a refusal carries, and what the paper has of any answer (01, "Numbers given in refusal"). Definitions only.
 --     refusal n          the refusal of number n, its place 0
---     refusal_at n p      the refusal of number n at the place p
---     refusal_of v        what `Verdict::refusal` answers: number and place 0 where accepted
+--     refusal_at n p     the refusal of number n at the place p
+--     refusal_of v       what `Verdict::refusal` answers: number and place 0 where accepted
 --     answered vs        a report that refuses nothing, with the value parts vs
---     refused_with r k    the report of a refusal, its k value parts 0
---     report_in v n l     the report of a verdict with a length and slots
---     on_verdict v f x    f of the refusal, else x
+--     refused_with r k   the report of a refusal, its k value parts 0
+--     report_in v n l    the report of a verdict with a length and slots
+--     on_verdict v f x   f of the refusal, else x
 use Rattle.std.specs.Prelude.{ℕ, List, ◌∷◌, map, replicate, ℤ, pos}
 use Rattle.arc.specs.declared.Refusal.{Refusal}
 use Rattle.arc.specs.declared.Verdict.{Verdict}

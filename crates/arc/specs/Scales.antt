@@ -1,5 +1,5 @@
 -- The scale that a spacing is read from (01, "Units and the zone table"; 02, E4, which calls the factor k). Definitions, and what they are held to.
---     Series                  what is stated beside a card: scale S, factor and zone
+--     Series                   what is stated beside a card: scale S, factor and zone
 --     is_scale S               5,000 to 20,000,000
 --     is_factor factor         1 to 64
 --     overview_scale S factor  S × k, or refusals 1, 17, 1

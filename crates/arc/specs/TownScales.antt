@@ -1,7 +1,7 @@
 -- The town scales, at which cards are no longer written and origins no longer aligned (02, E13). Definitions, and what they are held to.
---     is_town_scale S              1:5,000 to 1:9,999
+--     is_town_scale S             1:5,000 to 1:9,999
 --     for_writing S x             the spacing x, where a card is to be written or an origin aligned
---     spacing_for_writing series   what `spacing_for_writing` answers, for writing and alignment alone: refusals 1, 24, 17, 1, 2
+--     spacing_for_writing series  what `spacing_for_writing` answers, for writing and alignment alone: refusals 1, 24, 17, 1, 2
 use Rattle.std.specs.Prelude.{◌≡◌, Bool, cond, not, ◌&&◌, ℕ, ◌≤◌, ◌<◌, leb}
 use Rattle.arc.specs.declared.Series.{Series}
 use Rattle.arc.specs.declared.SpacingAnswer.{SpacingAnswer}

@@ -5,10 +5,10 @@
 --     tile               128 pixels, the side of a tile
 --     Row                a row of the table: its two zones, its limits in degrees, and A / 512 at 1:1,000,000
 --     table              the rows
---     table_row zone      the row of a zone, none where the number is no zone's
---     is_polar zone       zone 9 or 18
+--     table_row zone     the row of a zone, none where the number is no zone's
+--     is_polar zone      zone 9 or 18
 --     from r, to r       a row's equatorward and poleward limit, in hundredths of an arc-second
---     row_at i            the row at place i, 0 to 8
+--     row_at i           the row at place i, 0 to 8
 use Rattle.std.specs.Prelude.{ℕ, ◌*◌, Bool, cond, ◌||◌, List, [], ◌∷◌, eqb, get_or}
 use Rattle.std.proofs.Math.Option.{Option, some, none}
 

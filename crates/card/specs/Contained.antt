@@ -1,12 +1,12 @@
 -- The pixel that contains a position, in the centre pair (02, E8). Definitions and claims; the proof is proofs/Containing.antt.
---     north_edge k r, west_edge k c   a pixel's north edge, times B, and its west edge, times A
---     Contains k r c lat lon        a pixel contains a position: its north and west edges belong to it, its south and east edges do not
---     TilesContain, ChartContains   a pixel of the card's tiles, of its chart rectangle, contains the position
---     FoundContains                 a pixel is given exactly where it is one of the chart and contains the position
---     RefusedContains               12 exactly where no pixel of the tiles contains the position, 13 exactly where one does and none of the chart
---     InsideItsPixel k r c          the position answered for a pixel lies in that pixel, and asked back it gives that pixel
---     CentreInside                  so it is with every pixel of the chart of every accepted card
---     AskedBack                     in either pair a position asked back gives its pixel
+--     north_edge k r, west_edge k c  a pixel's north edge, times B, and its west edge, times A
+--     Contains k r c lat lon         a pixel contains a position: its north and west edges belong to it, its south and east edges do not
+--     TilesContain, ChartContains    a pixel of the card's tiles, of its chart rectangle, contains the position
+--     FoundContains                  a pixel is given exactly where it is one of the chart and contains the position
+--     RefusedContains                12 exactly where no pixel of the tiles contains the position, 13 exactly where one does and none of the chart
+--     InsideItsPixel k r c           the position answered for a pixel lies in that pixel, and asked back it gives that pixel
+--     CentreInside                   so it is with every pixel of the chart of every accepted card
+--     AskedBack                      in either pair a position asked back gives its pixel
 use Rattle.std.specs.Prelude.{◌≡◌, true, false, ◌↔◌, ℤ, pos, ◌+ℤ◌, ◌*ℤ◌, ◌≤ℤ◌, ◌<ℤ◌}
 use Rattle.whole.specs.Whole.{outside}
 use Rattle.arc.specs.Refusals.{refusal}

@@ -5,7 +5,7 @@
 --     row_value k lat, column_value k lon    the row and the column of a position before they are made whole
 --     row_of p k lat, column_of p k lon      the pixel at a position in the pair p, before the bounds are looked at
 --     in_tiles k r c, in_chart k r c         the pixel is one of the card's tiles, of its chart rectangle
---     place_of, position_of p, pixel_of p     what the methods `place`, `position_in` and `pixel_in` answer; `position` and `pixel` are the centre pair's
+--     place_of, position_of p, pixel_of p    what the methods `place`, `position_in` and `pixel_in` answer; `position` and `pixel` are the centre pair's
 --     verdict_of, extents_of                 what `judge_pixel` and `extents` answer
 use Rattle.std.specs.Prelude.{◌*◌, Bool, cond, ◌&&◌, [], ◌∷◌, ℤ, pos, ◌+ℤ◌, ◌-ℤ◌, ◌*ℤ◌}
 use Rattle.std.specs.Int.Signed.{le_z, lt_z}

@@ -3,8 +3,8 @@
 --     Subfield, sub at width kind    a subfield: its offset, its width, what may stand in it
 --     STR .. TIF             the subfields, by the standard's tags
 --     layout                 all of them, left to right
---     number_laid fill s      whether s is laid out as a number, with zeros (01) or with blanks too (02, E2) before its digits
---     judge_field fill f s    7 before 8 in each, the subfield's offset as place
+--     number_laid fill s     whether s is laid out as a number, with zeros (01) or with blanks too (02, E2) before its digits
+--     judge_field fill f s   7 before 8 in each, the subfield's offset as place
 --     walk fill layout s     the first refusal, left to right
 use Rattle.std.specs.Prelude.{ℕ, List, [], ◌∷◌, Bool, true, cond, ◌&&◌, leb, get_or}
 use Rattle.arc.specs.declared.Verdict.{Verdict}

@@ -1,7 +1,7 @@
 -- The offset of a position from a centre (01, "Origins and the zone grid"). Definitions, and a claim.
 --     Exactly x z            the double x is the whole number z, nothing lost
---     offset_of ..            what `offset_from` answers: 4, 5 of the position, then 4, 5 of the centre
---     offset_parts a          the paper's number, place and values of an answer, the values doubles
+--     offset_of ..           what `offset_from` answers: 4, 5 of the position, then 4, 5 of the centre
+--     offset_parts a         the paper's number, place and values of an answer, the values doubles
 use Rattle.std.specs.Prelude.{◌≡◌, cond, ℤ, pos, ◌-ℤ◌, Float}
 use Rattle.std.specs.Float.Ieee.{of_int, to_signed}
 use Rattle.std.specs.Float.{binary64}

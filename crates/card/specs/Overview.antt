@@ -1,11 +1,11 @@
 -- The overview pixel of a chart's pixel, in the corner pair (02, E4, E8). Definitions and claims: the proofs are proofs/Nearest.antt.
 --     on_position x f g                     f of the refusal, else g of latitude and longitude
---     overview_pixel_of chart overview r c   what the method `overview_pixel` answers
---     apart x angle u                      |angle − u H / x|, times x: how far an angle is from u pixels, x being A or B
---     NearestRow, NearestColumn            no other row, or column, of the grid is as near
---     PixelNearest                         the pixel that a card gives for a position in the corner pair is the nearest
---     OverviewNearest                      so it is with an overview
---     OverviewRefused                      what an overview question is refused with
+--     overview_pixel_of chart overview r c  what the method `overview_pixel` answers
+--     apart x angle u                       |angle − u H / x|, times x: how far an angle is from u pixels, x being A or B
+--     NearestRow, NearestColumn             no other row, or column, of the grid is as near
+--     PixelNearest                          the pixel that a card gives for a position in the corner pair is the nearest
+--     OverviewNearest                       so it is with an overview
+--     OverviewRefused                       what an overview question is refused with
 use Rattle.std.specs.Prelude.{◌≡◌, ◌⊎◌, ℕ, ◌*◌, ◌<◌, ℤ, pos, nat_abs, ◌+ℤ◌, ◌-ℤ◌, ◌*ℤ◌, ◌≤ℤ◌, ◌<ℤ◌}
 use Rattle.arc.specs.declared.Refusal.{Refusal}
 use Rattle.arc.specs.Refusals.{refusal}

@@ -5,9 +5,9 @@
 --     read_as fill series s   what reading answers, whatever may fill the numbers
 --     read_of series s        what reading answers: blanks may stand before a number's digits, and the total of them is told (02, E2)
 --     read_strict series s    what reading answers where none may: 01 as it stands
---     Accepted, Known        some bytes are read to this card
+--     Accepted, Known         some bytes are read to this card
 --     on_card x f g           a question on a card as it was read: reading's refusal first, then the question's own answer
---     told_on_card t x f g     what is told of it: its report and the total of blanks (02, E2)
+--     told_on_card t x f g    what is told of it: its report and the total of blanks (02, E2)
 use Rattle.std.specs.Prelude.{◌≡◌, ℕ, ◌+◌, ◌*◌, ◌/◌, List, Bool, false, cond, ◌&&◌, eqb, length, get_or, replicate, ℤ, pos, negsuc, neg_ℤ}
 use Rattle.std.proofs.Math.Option.{Option, some, none}
 use Rattle.std.proofs.Math.IntN.{suc_ℤ}

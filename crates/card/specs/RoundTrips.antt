@@ -1,6 +1,6 @@
 -- Both round trips (01, "The image card, 98 bytes"), and how far they go (02, E2, E13): what is claimed, proved in round_trip/proofs/ReadBack.antt,
 -- WriteBack.antt and Town.antt.
---     record_of k         the record that a card's value holds
+--     record_of k        the record that a card's value holds
 --     ReadsBack          reading what was written gives the record back, and meets no blanks
 --     WritesBack         writing what was read gives the bytes back exactly where no blanks were met, and what was written is read to the same card
 --                        with total 0; from 10,000 up

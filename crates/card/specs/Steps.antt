@@ -1,7 +1,7 @@
 -- What only the code needs: the pairs as one number (02, E8), and a position in range, counted in naturals (01, "Numbers given in refusal").
 -- Definitions only.
 --     inward p           how far south and east of a pixel's corner the pair's exact place is, a pixel being H: nothing, or H/2, half a pixel
---     ranged_of lat lon   what `count_position` answers: the position counted from the South Pole and from 180° west; 4, 5
+--     ranged_of lat lon  what `count_position` answers: the position counted from the South Pole and from 180° west; 4, 5
 use Rattle.std.specs.Prelude.{cond, [], ◌∷◌, ℕ, ℤ, pos}
 use Rattle.whole.specs.Whole.{outside, raise}
 use Rattle.arc.specs.Refusals.{refusal, Report, answered, refused_with}

@@ -1,9 +1,9 @@
 -- Writing a card: 1, 24 (02, E13), 17, 1 (02, E4), 2, 3, 6, then NFL, NFC (8), BAD (7), then 10, 11 (01, "Numbers given in refusal"). Definitions only.
 --     Value                  what a subfield holds
---     values_of a b r         the record's values in the layout's order
---     card_text a b r         the 98 bytes
---     write_of series r out   what writing answers
---     out_of series r out     what the output then holds
+--     values_of a b r        the record's values in the layout's order
+--     card_text a b r        the 98 bytes
+--     write_of series r out  what writing answers
+--     out_of series r out    what the output then holds
 use Rattle.std.specs.Prelude.{ℕ, List, [], ◌∷◌, ◌++◌, Bool, cond, ◌&&◌, leb, length, ℤ}
 use Rattle.whole.specs.Lists.{over}
 use Rattle.text.specs.Text.{name_laid, digits, angle_text}

@@ -4,11 +4,11 @@
 --     lead s             how many blanks s starts with, its last byte not among them
 --     skip fill s        how many of them are passed over
 --     NumberOf fill s r  a number as it was read: whether it is laid out as one, and then its value
---     lead_total s        the blanks that the numbers of a card start with, their last bytes not among them
---     value_of kind s     what a subfield holds, as a natural: an angle is counted from its limit below zero
---     value_in f s        the value of the subfield f of a card
---     field_of ..         a value and its tests for 7 and 8
---     unread_after r      a subfield after a refusal
+--     lead_total s       the blanks that the numbers of a card start with, their last bytes not among them
+--     value_of kind s    what a subfield holds, as a natural: an angle is counted from its limit below zero
+--     value_in f s       the value of the subfield f of a card
+--     field_of ..        a value and its tests for 7 and 8
+--     unread_after r     a subfield after a refusal
 --     FieldAt fill f s before r    a subfield as it was read: the first refusal up to it, and its value where there is none
 --     PlainAt f s before r         the same of an angle, BAD or TIF, whatever may fill numbers
 --     FieldsOf fill s r  the card as it was read: the first refusal of the layout, and every value where there is none

@@ -1,10 +1,10 @@
 -- What only the code needs: what it makes of the values, the origin counted in tiles, the record and the card (01, "The image card, 98 bytes").
 -- Definitions only; proofs/ tie them to crate card's.
---     found_at x angle    the tile whose stored angle this is, both counted from the axis' low end
---     tile_at t r         that tile, as a whole number from −t to t
---     extents_at ..       the extents, n being counted from −B/512
---     record_in n m s     the record that a card's bytes hold
---     card_from ..        the value of a card, of its record
+--     found_at x angle   the tile whose stored angle this is, both counted from the axis' low end
+--     tile_at t r        that tile, as a whole number from −t to t
+--     extents_at ..      the extents, n being counted from −B/512
+--     record_in n m s    the record that a card's bytes hold
+--     card_from ..       the value of a card, of its record
 --     Walked s values    the layout refuses nothing, for some fill of its numbers, and these are its values
 use Rattle.std.specs.Prelude.{◌≡◌, ℕ, ◌*◌, ◌/◌, List, Bool, cond, ◌&&◌, leb, ltb, eqb, length, get_or, ℤ, pos, ◌-ℤ◌}
 use Rattle.std.proofs.Math.Option.{Option, some, none}

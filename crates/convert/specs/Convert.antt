@@ -1,7 +1,7 @@
 -- Converting the index between a list and presence bits (02, E7). Definitions, and what they are held to.
---     in_order n index        the non-zero entries are n + 1, n + 2, n + 3 and so on in reading order
---     word_from index t n     the number whose n bits are those of the tiles from t on, first tile lowest
---     bits_of index n         the list's bits, in n words
+--     in_order n index          the non-zero entries are n + 1, n + 2, n + 3 and so on in reading order
+--     word_from index t n       the number whose n bits are those of the tiles from t on, first tile lowest
+--     bits_of index n           the list's bits, in n words
 --     to_bits_of, bits_left ..  what `to_bits` answers, and what the words then hold
 --     to_list_of, list_left ..  what `to_list` answers, and what the list then holds
 use Rattle.std.specs.Prelude.{◌≡◌, ℕ, zero, suc, ◌+◌, ◌*◌, ◌^◌, ◌<◌, List, [], ◌∷◌, Bool, true, cond, not, ◌&&◌, ◌||◌, eqb, length, get_or}

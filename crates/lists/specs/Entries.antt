@@ -3,13 +3,13 @@
 --     south_of first lat  a latitude counted southward from the first, that being counted from the South Pole; or outside
 --     east_of west lon    a longitude counted eastward from west, round the circle; or outside
 --     west_of e           the westernmost longitude in the chart's first column
---     Agrees c r         what the engine answers, if anything, is the report r
+--     Agrees c r          what the engine answers, if anything, is the report r
 --     entry_from ps at    the entry that starts at an element of a list
---     Even n             n is even: an element where an entry starts, or the length of a list of entries
+--     Even n              n is even: an element where an entry starts, or the length of a list of entries
 --     ChartedEntries f n from to before after   in a list of length n, where the values before the element `from` are those of the reports f, so are
 --                        those before `to`; and no report between them refuses
 --     AskedEntries f n from to before after counts then   the same of values and of numbers, also where reports refuse
---     zeros n            n zeros
+--     zeros n             n zeros
 use Rattle.std.specs.Prelude.{◌≡◌, ℕ, ◌+◌, ◌%◌, ◌≤◌, ◌<◌, cond, ◌||◌, List, [], ◌∷◌, length, get_or, ℤ, pos, neg_ℤ, nat_abs, ◌+ℤ◌, ◌-ℤ◌}
 use Rattle.std.specs.Int.Signed.{lt_z}
 use Rattle.whole.specs.declared.Counted.{Counted}

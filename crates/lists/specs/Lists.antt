@@ -1,12 +1,12 @@
 -- Lists of pixels and of positions of one card, in either pair (01, "Origins and the zone grid"; 02, E8). Definitions only.
 --     entries n              the entries in a list of length n: a row and a column, or a latitude and a longitude each
---     lists_fit h o n         the length h handed in is even, the list to fill, of length o, is no shorter, and there is a number for each entry
---     lists_verdict h o n     6 where they do not fit
---     entry_at ps i           entry i of a list: its first number stands at 2i, its second at 2i + 1
+--     lists_fit h o n        the length h handed in is even, the list to fill, of length o, is no shorter, and there is a number for each entry
+--     lists_verdict h o n    6 where they do not fit
+--     entry_at ps i          entry i of a list: its first number stands at 2i, its second at 2i + 1
 --     asked_report p asked k x y   the report of the position of pixel (x, y), or of the pixel at position (x, y), in the pair p
 --     report_at p asked k ps i     the same of entry i of the list
---     position_report_at p k ps i   the report of pixel i of the list
---     pixel_report_at p k qs i      the report of position i of the list
+--     position_report_at p k ps i  the report of pixel i of the list
+--     pixel_report_at p k qs i     the report of position i of the list
 --     report_values, report_numbers  the value parts, and the numbers, of the first n reports
 --     values_left, numbers_left    what the list to fill and the numbers hold at the end
 use Rattle.std.specs.Prelude.{ℕ, ◌+◌, ◌*◌, ◌/◌, ◌%◌, List, [], ◌∷◌, Bool, cond, ◌&&◌, leb, eqb, length, get_or, ℤ, pos}

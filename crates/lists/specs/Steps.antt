@@ -10,11 +10,11 @@
 --     column_axis p k     the eastings of the columns, added to that of column 0
 --     span_of u first rest low n   the hundredths of n pixels from pixel low on, the first having rest and each adding u to it, a pixel being 253,125
 --     lesser x y        the lesser of two numbers
---     down_of, across_of   the chart's rows and columns, by u and by what their first edge has
+--     down_of, across_of  the chart's rows and columns, by u and by what their first edge has
 --     down_span p k       the chart's rows, counted southward, from no farther north than the pole
 --     across_span p k     the chart's columns, counted eastward round the circle
 --     engine_of p k       the engine of a card for a pair
---     Made e             it is the engine of its card and its pair, and some accepted card gives that card
+--     Made e              it is the engine of its card and its pair, and some accepted card gives that card
 --     entry_told x        the report that the parts of an entry tell
 use Rattle.std.specs.Prelude.{◌≡◌, ℕ, ◌+◌, ◌-◌, ◌*◌, ◌/◌, ◌%◌, Bool, true, false, cond, ltb, [], ◌∷◌}
 use Rattle.arc.specs.Refusals.{Report}

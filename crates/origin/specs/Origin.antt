@@ -5,8 +5,8 @@
 --     row_tiles b lat     n, the smallest whole number with 128 × n × H ≥ lat × B
 --     column_tiles a lon  m, the greatest whole number with 128 × m × H ≤ lon × A
 --     stored_angle x k    the nearest hundredth to 128 × k × H / x, x being A or B
---     origin_of a b lat lon     the origin of an upper left point
---     align_of series lat lon   what `align` answers: refusals 1, 24, 17, 1, 2, 3, 4, 5
+--     origin_of a b lat lon    the origin of an upper left point
+--     align_of series lat lon  what `align` answers: refusals 1, 24, 17, 1, 2, 3, 4, 5
 --     on_grid a b n m     −B/512 ≤ n ≤ B/512 and −A/256 ≤ m ≤ A/256
 use Rattle.std.specs.Prelude.{◌≡◌, Bool, true, false, cond, not, ◌&&◌, [], ◌∷◌, ℕ, ◌*◌, ◌/◌, ◌≤◌, ◌<◌, ℤ, pos, ◌*ℤ◌, ◌≤ℤ◌}
 use Rattle.whole.specs.Whole.{floor_div, nearest, ceil_div, outside, Greatest, Smallest}

@@ -1,10 +1,10 @@
 -- Presence bits: one bit a tile, 64 to a word, first tile lowest (02, E7). Definitions only.
---     present words t        the bit of tile t, 1 where it is stored, else 0; 0 past the words
---     counted words n        the count of ones among the first n tiles
+--     present words t         the bit of tile t, 1 where it is stored, else 0; 0 past the words
+--     counted words n         the count of ones among the first n tiles
 --     number_at words t       the stored number of tile t, 0 where it is not stored
 --     numbers_to words n      the stored numbers of the first n tiles
---     any_set_from words t n   one of the n bits from tile t's on is set
---     within words count n   how far, up to n tiles, the count of ones is not above `count`
+--     any_set_from words t n  one of the n bits from tile t's on is set
+--     within words count n    how far, up to n tiles, the count of ones is not above `count`
 use Rattle.std.specs.Prelude.{ℕ, zero, suc, ◌+◌, ◌/◌, ◌%◌, ◌^◌, List, [], ◌∷◌, Bool, false, cond, not, ◌||◌, ltb, eqb, get_or}
 use Rattle.whole.specs.Lists.{each}
 

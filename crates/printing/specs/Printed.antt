@@ -1,5 +1,5 @@
 -- What the program prints, from input bytes to output bytes (01, "The printing program"). It asks the corner pair (02, E8). Definitions only.
---     line_for k l        what is printed for a line of row and column
+--     line_for k l       what is printed for a line of row and column
 --     printed s          the whole output
 use Rattle.std.specs.Prelude.{ℕ, List, [], ◌∷◌, ◌++◌, cond, ltb, length, pos}
 use Rattle.std.proofs.Math.Option.{Option, some, none}

@@ -1,10 +1,10 @@
 -- A run: what is printed first, and then a line at a time, and where it goes on (01, "The printing program"). Definitions, and the claims they are held to.
---     line_at s at        the line that starts at an offset
---     next_at s at        where the next line starts
---     opening_of s        what is printed before any line of row and column, and where those start; where none follow, the end of the input
---     goes_on s at out    where a caller of `pixel_line` goes on
---     from_on k s at n    the texts of the lines from an offset on, put together, n being no less than their count
---     run_of s            the texts of `opening` and of `pixel_line`, put together, in a run whose buffers have room
+--     line_at s at       the line that starts at an offset
+--     next_at s at       where the next line starts
+--     opening_of s       what is printed before any line of row and column, and where those start; where none follow, the end of the input
+--     goes_on s at out   where a caller of `pixel_line` goes on
+--     from_on k s at n   the texts of the lines from an offset on, put together, n being no less than their count
+--     run_of s           the texts of `opening` and of `pixel_line`, put together, in a run whose buffers have room
 --     RunPrints          a run prints what document 01 says; proved in proofs/Prints.antt
 --     RunEnds            a run with buffers of 64 bytes or more ends: it goes on above the offset wherever a line starts; proved in proofs/Served.antt
 --     NeverBack          a caller never goes on below the offset; proved in proofs/Served.antt

@@ -4,8 +4,8 @@
 --     opening_for s out       what is printed first, into a buffer of 64 bytes or more; else nothing
 --     opening_answer o        the same as `opening` answers it
 --     opening_left s out      what the buffer then holds
---     Opens o s t r          o is printed into the buffer s, which is t then, and r is answered
---     served s at out        a line starts at the offset, and the buffer has 64 bytes or more
+--     Opens o s t r           o is printed into the buffer s, which is t then, and r is answered
+--     served s at out         a line starts at the offset, and the buffer has 64 bytes or more
 --     text_at k s at out      what is printed for that line; else nothing
 --     line_answer k s at out  the same as `pixel_line` answers it
 --     line_left k s at out    what the buffer then holds

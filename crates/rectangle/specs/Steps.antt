@@ -1,6 +1,6 @@
 -- What only the code needs: how it asks of a row and a stretch of sizes of latitude. The law that ties it to the rectangle is in proofs/.
 -- Definitions only.
---     shares_row b r low high     the row shares a stretch of more than zero height with the sizes from low to high; low is below high, or both are 0
+--     shares_row b r low high    the row shares a stretch of more than zero height with the sizes from low to high; low is below high, or both are 0
 --     Sides                      what `zone_shares` is handed
 use Rattle.std.specs.Prelude.{ℕ, ◌≤◌, ◌<◌, Bool, ◌&&◌, ltb}
 use Rattle.arc.specs.Zones.{half, Row, from}

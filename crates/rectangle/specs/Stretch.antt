@@ -1,12 +1,12 @@
 -- Stretches of latitude (02, E3; 001, 3.3.3). Definitions only. Latitude is a continuous line, and P + 1024 H / B is mostly no whole hundredth: each
 -- end is given times B, so nothing is rounded.
---     poleward_end b r        where a row's stretch ends, with its overlap of 1024 rows, times B; b is B
+--     poleward_end b r       where a row's stretch ends, with its overlap of 1024 rows, times B; b is B
 --     Stretch                two ends, times B
---     northern_stretch, southern_stretch    those of a row's two zones
---     zone_stretch b zone r   that of a zone, r being its row
---     rectangle_stretch b south north      that of a rectangle from south to north
+--     northern_stretch, southern_stretch  those of a row's two zones
+--     zone_stretch b zone r  that of a zone, r being its row
+--     rectangle_stretch b south north     that of a rectangle from south to north
 --     larger, smaller        of two numbers
---     shares_height p q       the two share a stretch of more than zero height
+--     shares_height p q      the two share a stretch of more than zero height
 --     shares b south north zone           the zone and the rectangle do
 use Rattle.std.specs.Prelude.{ℕ, ◌+◌, ◌*◌, Bool, false, cond, eqb, ℤ, pos, neg_ℤ, ◌*ℤ◌}
 use Rattle.std.proofs.Math.Option.{Option, some, none}

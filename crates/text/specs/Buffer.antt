@@ -1,11 +1,11 @@
 -- Text put at an offset of a lent buffer, and digits as they are read (01, "The image card, 98 bytes", "The printing program").
 -- Definitions only.
 --     splice o x s       s with x at offset o
---     has_room x o s      x fits at offset o of s
---     put_at x o s        s with x at offset o, where x fits there; else s as it was
---     end_of x o s        where x then ends; else the offset itself, nothing being put
+--     has_room x o s     x fits at offset o of s
+--     put_at x o s       s with x at offset o, where x fits there; else s as it was
+--     end_of x o s       where x then ends; else the offset itself, nothing being put
 --     summed v s         the bytes s written after a number v, each less 48 and, below 48, 256 more; of digits it is their number
---     digits_in s         a run of up to 17 bytes: whether each is a digit, and what they sum to; 0 for a longer one
+--     digits_in s        a run of up to 17 bytes: whether each is a digit, and what they sum to; 0 for a longer one
 use Rattle.std.specs.Prelude.{ℕ, ◌+◌, ◌*◌, ◌%◌, Bool, cond, ◌&&◌, List, [], ◌∷◌, ◌++◌, length, take, drop, nat_le}
 use Rattle.text.specs.Text.{is_digit, all}
 use Rattle.text.specs.declared.Digits.{Digits}

@@ -6,14 +6,14 @@
 --     number s           the number that digits stand for; a byte below 0, as the blank is, counts as a 0
 --     blanks s           how many blanks s starts with
 --     filled s           blanks or none, then digits to the end, one at least (02, E2)
---     angle_laid d s      ±DDDMMSS.SS or ±DDMMSS.SS, d being the count of degree digits
---     angle_size d s      its size in hundredths of an arc-second
---     angle_of d s        the angle
+--     angle_laid d s     ±DDDMMSS.SS or ±DDMMSS.SS, d being the count of degree digits
+--     angle_size d s     its size in hundredths of an arc-second
+--     angle_of d s       the angle
 --     angle_valid d limit s     minutes and seconds below 60, within the limit, and no minus zero
---     name_laid s         eight letters or digits, a dot, three more
+--     name_laid s        eight letters or digits, a dot, three more
 --     digits w v         the w digits of v, zero-filled
 --     decimal n          a number with no leading zeros
---     angle_text d z      ±DDDMMSS.SS or ±DDMMSS.SS; zero carries a plus
+--     angle_text d z     ±DDDMMSS.SS or ±DDMMSS.SS; zero carries a plus
 use Rattle.std.specs.Prelude.{ℕ, zero, suc, ◌+◌, ◌-◌, ◌*◌, ◌/◌, ◌%◌, ◌^◌, Bool, true, cond, not, ◌&&◌, ◌||◌, List, [], ◌∷◌, ◌++◌, length, take, drop, ℤ, pos, neg_ℤ, ◌==◌, int_lt, nat_le, nat_lt, slice_index, unsigned_abs}
 use Prim.Native.Char.{code}
 use Prim.Native.String.{String, [] as []ᵗ, ◌∷◌ as ◌∷ᵗ◌}

@@ -1,5 +1,5 @@
 -- What presence bits are held to (02, E7): every look-up and window answer is the same as from the list. Proved in proofs/AsList.antt.
---     list_of k words         the list of these bits
+--     list_of k words        the list of these bits
 --     Forms k index words    the list and the bits are two forms of one index
 use Rattle.std.specs.Prelude.{◌≡◌, ℕ, List, false, length, get_or, ℤ}
 use Rattle.presence.specs.Presence.{number_at, numbers_to}

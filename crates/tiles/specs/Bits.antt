@@ -1,12 +1,12 @@
 -- The index as presence bits (02, E7): `words` in place of the index list. Definitions only.
 --     words_wrong k words count    the words or the count are of the wrong length
---     bits_wrong ..           the words, the count or the store is of the wrong length
---     stray_bit k words       a bit is set past the last tile
+--     bits_wrong ..          the words, the count or the store is of the wrong length
+--     stray_bit k words      a bit is set past the last tile
 --     said_bits k words count t    what the bits say of tile t
---     bits_number_of ..        what `bits_number` answers
---     bits_part_of ..          the bytes that `bits_tile` hands back, none in a refusal
---     bits_bands_of ..         what `bits_bands` answers: red, green, blue
---     bits_window_of ..        what `bits_window` answers
+--     bits_number_of ..      what `bits_number` answers
+--     bits_part_of ..        the bytes that `bits_tile` hands back, none in a refusal
+--     bits_bands_of ..       what `bits_bands` answers: red, green, blue
+--     bits_window_of ..      what `bits_window` answers
 --     bits_source_of, .., corrected_bits_window_of    the same with corrections beside (02, E1)
 use Rattle.std.specs.Prelude.{ℕ, ◌+◌, ◌-◌, ◌*◌, ◌/◌, List, Bool, cond, not, ◌||◌, eqb, length, ℤ}
 use Rattle.arc.specs.Refusals.{refusal}

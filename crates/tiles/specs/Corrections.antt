@@ -5,10 +5,10 @@
 --     source_at corrections t    which of the two stores a tile is looked for in
 --     sourced_of k corrections corrected says r c    the source and the number there of a pixel's tile, past the lengths
 --     source_of ..            what `corrected_number` answers
---     either_part_of ..        the bytes that `corrected_tile` hands back, none in a refusal
---     either_bands_of ..       what `corrected_bands` answers: red, green, blue
---     corrected_window_of ..   what `corrected_window` answers
---     setting_of, set_of ..    what `set_correction` answers, and what the list then holds
+--     either_part_of ..       the bytes that `corrected_tile` hands back, none in a refusal
+--     either_bands_of ..      what `corrected_bands` answers: red, green, blue
+--     corrected_window_of ..  what `corrected_window` answers
+--     setting_of, set_of ..   what `set_correction` answers, and what the list then holds
 use Rattle.std.specs.Prelude.{ℕ, ◌*◌, List, [], ◌∷◌, Bool, cond, not, ◌||◌, ltb, leb, eqb, length, get_or, set, ℤ, pos, nat_abs}
 use Rattle.arc.specs.declared.Verdict.{Verdict}
 use Rattle.arc.specs.Refusals.{refusal, refusal_at, on_verdict, Report, answered, refused_with}

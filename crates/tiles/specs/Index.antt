@@ -3,7 +3,7 @@
 --     index_wrong k index count     the index or the count is of the wrong length
 --     Said                   what is said of a tile: its stored number, that it is not stored, or that its entry is above the count
 --     said_of k index count t       what the index says of tile t, by its number from 0 in reading order
---     tile_of k r c           the tile of a pixel
+--     tile_of k r c          the tile of a pixel
 use Rattle.std.specs.Prelude.{ℕ, ◌+◌, ◌*◌, ◌/◌, List, Bool, cond, not, ◌||◌, ltb, eqb, length, get_or}
 use Rattle.card.specs.declared.Card.{Card}
 use Rattle.tiles.specs.declared.Said.{Said}

@@ -2,7 +2,7 @@
 -- Definitions, and what they are held to.
 --     window_tiles k top left height width    its tiles in reading order
 --     scan says ts           the first of them that is not stored, by what `says` has of each tile
---     view_of k says ..       the window by what `says` has of each tile
+--     view_of k says ..      the window by what `says` has of each tile
 --     window_of ..                what `window` answers
 use Rattle.std.specs.Prelude.{◌≡◌, ℕ, zero, suc, ◌+◌, ◌*◌, ◌<◌, List, [], ◌∷◌, ◌++◌, false, cond, ◌||◌, ltb, pos}
 use Rattle.whole.specs.Lists.{up_from}

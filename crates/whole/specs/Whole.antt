@@ -1,12 +1,12 @@
 -- Whole numbers as document 01 uses them, signed. Definitions, and what they are held to. No proofs.
---     floor_div x d       the floor of x / d
+--     floor_div x d      the floor of x / d
 --     nearest x d        the whole number nearest to x / d: the floor of x / d + 1 / 2
 --     near x d           the same of a natural x
---     ceil_div x d        the smallest whole number not below x / d
+--     ceil_div x d       the smallest whole number not below x / d
 --     modulo x d         x modulo d, from 0 to d − 1
---     nat_abs z           |z|, of the kit
+--     nat_abs z          |z|, of the kit
 --     outside k z        z is below −k or above k
---     counted_by k z      z counted from −k, where it is not outside
+--     counted_by k z     z counted from −k, where it is not outside
 use Rattle.std.specs.Prelude.{◌≡◌, Bool, false, cond, ◌||◌, ℕ, ◌+◌, ◌-◌, ◌*◌, ◌/◌, ◌≤◌, ◌<◌, ℤ, pos, negsuc, neg_ℤ, nat_abs, ◌+ℤ◌, ◌-ℤ◌, ◌*ℤ◌, ◌≤ℤ◌, ◌<ℤ◌}
 use Rattle.std.specs.Int.Signed.{lt_z}
 use Rattle.whole.specs.declared.Counted.{Counted}

@@ -1,9 +1,9 @@
 -- The basic zone of a latitude (001, 3.3.3; 01, "Units and the zone table"). Definitions only.
---     holds_size r size   a latitude of that size lies between the row's limits
---     row_holding size    the row that holds it
---     zone_on lat r       the row's zone on the latitude's side of the Equator
---     basic_zone lat      the basic zone
---     basic_zone_of lat    what `basic_zone` answers: refusal 4
+--     holds_size r size  a latitude of that size lies between the row's limits
+--     row_holding size   the row that holds it
+--     zone_on lat r      the row's zone on the latitude's side of the Equator
+--     basic_zone lat     the basic zone
+--     basic_zone_of lat  what `basic_zone` answers: refusal 4
 use Rattle.std.specs.Prelude.{ℕ, Bool, cond, ◌&&◌, ◌||◌, List, [], ◌∷◌, leb, ltb, eqb, ℤ, pos, nat_abs}
 use Rattle.std.specs.Int.Signed.{lt_z}
 use Rattle.whole.specs.Whole.{outside}

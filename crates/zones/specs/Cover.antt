@@ -2,7 +2,7 @@
 --     overlaps b r size  the row's overlap of 1024 rows poleward reaches a latitude of that size, B being b
 --     covers b lat zone  the zone covers the latitude
 --     zones_equatorward lat  the zones on the Equator's side of the basic zone, nearest to it first
---     cover_zones b lat   the cover list
+--     cover_zones b lat  the cover list
 --     cover_of S factor lat  what `cover` answers: refusals 1, 17, 1, 4
 use Rattle.std.specs.Prelude.{◌≡◌, ℕ, ◌-◌, ◌*◌, ◌≤◌, Bool, true, false, cond, not, ◌&&◌, ◌||◌, List, ◌∷◌, leb, ltb, eqb, length, replicate, ℤ, pos, nat_abs}
 use Rattle.std.proofs.Math.Option.{Option, some, none}

@@ -1,6 +1,6 @@
 -- What only the code needs: how it asks of a row and a size of latitude. The laws that tie this to cover and rectangle are in proofs/.
 -- Definitions only.
---     located_of lat      a latitude in range by its basic zone, its row's place and its size; the row at place i has the zones 1 + i and 10 + i
+--     located_of lat     a latitude in range by its basic zone, its row's place and its size; the row at place i has the zones 1 + i and 10 + i
 --     reaches b r size   the row and its overlap do not end before a latitude of that size
 --     cover_from b first i size    the zones from the row at i equatorward that reach the size; row j's zone is first + j
 --     Rows, Rowed        what the code's parts are handed

@@ -1,5 +1,5 @@
 -- How the basic zone is found (02, E5; 001, 3.3.3). A claim: the proof is proofs/ZoneRule.antt.
---     printed_at i        the row at place i, 0 to 8, of the nine that 01 prints
+--     printed_at i       the row at place i, 0 to 8, of the nine that 01 prints
 --     Holds r size       the row holds a latitude of that size
 --     Found lat zone     exactly one row of the nine holds the latitude's size, the zone is that row's, and it is the southern one exactly below 0
 --     ZoneRule           this holds of the zone answered, for every latitude in range
