@@ -62,6 +62,24 @@ fn on_pair(
         print::pair(rt, r.number, r.at, r.row, r.column, r.blanks)?;
         return Ok(true);
     }
+    if word::same(name, b"judge_pixel") {
+        let r = judged(series, card, x, y);
+        print::refusal(rt, r.number, r.at)?;
+        print::end_line(rt)?;
+        return Ok(true);
+    }
+    on_corner_pair(rt, name, series, card, x, y)
+}
+
+// Questions that the corner pair answers.
+fn on_corner_pair(
+    rt: &HostRuntime,
+    name: &[u8],
+    series: Series,
+    card: &[u8],
+    x: i64,
+    y: i64,
+) -> io::Result<bool> {
     if word::same(name, b"corner_position") {
         let r = fordcask::fordcask_corner_position(series, card, x, y);
         print::pair(rt, r.number, r.at, r.lat, r.lon, r.blanks)?;
@@ -70,12 +88,6 @@ fn on_pair(
     if word::same(name, b"corner_pixel") {
         let r = fordcask::fordcask_corner_pixel(series, card, x, y);
         print::pair(rt, r.number, r.at, r.row, r.column, r.blanks)?;
-        return Ok(true);
-    }
-    if word::same(name, b"judge_pixel") {
-        let r = judged(series, card, x, y);
-        print::refusal(rt, r.number, r.at)?;
-        print::end_line(rt)?;
         return Ok(true);
     }
     Ok(false)

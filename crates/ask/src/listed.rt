@@ -43,7 +43,6 @@ fn listed(
     if lent::MOST < numbers.value {
         return Ok(false);
     }
-    let n = k.length;
     let i = filled.length;
     let v = values.value as usize;
     let u = numbers.value as usize;
@@ -54,7 +53,7 @@ fn listed(
         corner,
         positions,
         k.series,
-        &bytes[..n],
+        &bytes[..k.length],
         &given[..i],
         &mut left[..v],
         &mut told[..u],
