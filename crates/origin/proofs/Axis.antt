@@ -54,7 +54,7 @@ module _ {x t l : ℕ} (axis : Axis x t l) where
   stored_is k n e = angle-is axis (pos tile *ℤ k *ℤ pos circle) (n * tile_angle) (is-tiles k n t e)
 
   -- none passes the far end
-  spanned : (p : ℕ) → p ≤ 2 * l → p * x ≤ 2 * t * tile_angle
+  pub spanned : (p : ℕ) → p ≤ 2 * l → p * x ≤ 2 * t * tile_angle
   spanned p h = omega (arith, mul-le-mul_right x h, mul_assoc 2 l x, axis.exact)
 
   pub row-high : (p : ℕ) → p ≤ 2 * l → (p * x + 16588799999) / tile_angle ≤ 2 * t
