@@ -39,7 +39,7 @@ abbrev pub on_scale : {A : Type 0} → ScaleAnswer → (Refusal → A) → (ℕ 
 on_scale (ScaleAnswer.Scale t) f g = g t
 on_scale (ScaleAnswer.Refused r) f g = f r
 
--- ---- what it is held to, one claim for each stretch of scales and factors: proved in proofs/Scales.antt
+-- ---- what it is held to, one claim for each stretch of scales and factors: proved in proofs/ScaleLaws.antt
 
 -- S outside its range: 1, whatever the factor
 abbrev pub ScaleRefused : Type 0
