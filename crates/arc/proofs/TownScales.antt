@@ -5,8 +5,9 @@ use borrow.Author.Tests.{leb-true, leb-false}
 use Rattle.std.proofs.lemmas.Bool.Decides.{nat_tests}
 use Rattle.arc.specs.declared.Series.{Series}
 use Rattle.arc.specs.declared.SpacingAnswer.{SpacingAnswer}
+use Rattle.arc.specs.Refusals.{refusal}
 use Rattle.arc.specs.Spacing.{spacing_of, Grids}
-use Rattle.arc.specs.TownScales.{spacing_for_writing, BelowRefused, TownRefused, WrittenFrom}
+use Rattle.arc.specs.TownScales.{is_town_scale, spacing_for_writing, BelowRefused, TownRefused, WrittenFrom}
 use Rattle.arc.proofs.Answered.{answered-grids}
 
 pub below-refused : BelowRefused
@@ -14,6 +15,13 @@ below-refused series p = grind (arith, nat_tests)
 
 pub town-refused : TownRefused
 town-refused series p q = grind (arith, nat_tests)
+
+-- the two ways of the code's test
+pub at-town : (series : Series) → is_town_scale series.scale ≡ true → spacing_for_writing series ≡ SpacingAnswer.Refused (refusal 24)
+at-town series e = grind (arith, nat_tests)
+
+pub at_other : (series : Series) → is_town_scale series.scale ≡ false → spacing_for_writing series ≡ spacing_of series
+at_other series e = grind (arith, nat_tests)
 
 pub written_from : WrittenFrom
 written_from series h = grind (arith, nat_tests)
