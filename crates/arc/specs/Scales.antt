@@ -62,8 +62,8 @@ ProductServed = (s factor : ℕ) → 5000 ≤ s → 1 ≤ factor → factor ≤ 
 
 -- what is answered is S × k, of a scale and a factor, and is a scale of 01 itself
 pub record OverviewOf (s factor t : ℕ) : Type 0 where
-  pub good-scale : is_scale s ≡ true
-  pub good-factor : is_factor factor ≡ true
+  pub good_scale : is_scale s ≡ true
+  pub good_factor : is_factor factor ≡ true
   pub product : t ≡ s * factor
   pub served : is_scale t ≡ true
 
