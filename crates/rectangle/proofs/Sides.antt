@@ -12,7 +12,8 @@ use Rattle.whole.proofs.Signed.{Is, is-nat, is-neg, is_mul, is_lt, lt-is, is-dif
 use Rattle.arc.specs.Zones.{circle, quarter, is_polar, Row, from, to, row_at}
 use Rattle.arc.proofs.Table.{southern-at, row-north, row-south, from-to, to-most}
 use Rattle.zones.specs.Steps.{reaches, Rows}
-use Rattle.rectangle.specs.Stretch.{poleward_end, Stretch, northern_stretch, southern_stretch, zone_stretch, rectangle_stretch, shares_height, shares_in, shares}
+use Rattle.rectangle.specs.Stretch.{poleward_end, Stretch, northern_stretch, southern_stretch, zone_stretch, rectangle_stretch, shares_height}
+use Rattle.rectangle.specs.Stretch.{shares_in, shares}
 use Rattle.rectangle.specs.Steps.{shares_row, Sides}
 use Rattle.rectangle.proofs.Ends.{Crossed, crossed, shared}
 

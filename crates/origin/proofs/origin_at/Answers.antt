@@ -22,13 +22,21 @@ pub overflow_cast-pso : goal.overflow_cast-pso
 overflow_cast-pso c =
     let g = c.requires.b_on_grid in
     let rows = latitudes c.args.b g in
-    omega (arith, stored_fits rows c.stored_at-pso.ensures (omega (arith, spanned rows c.args.north c.requires.north_in_range)) (omega (arith, g.most)) (omega arith))
+    omega (
+      arith,
+      stored_fits rows c.stored_at-pso.ensures (omega (arith, spanned rows c.args.north c.requires.north_in_range)) (omega (arith, g.most))
+          (omega arith),
+    )
 
 pub overflow_cast-lso : goal.overflow_cast-lso
 overflow_cast-lso c =
     let g = c.requires.a_on_grid in
     let columns = longitudes c.args.a g in
-    omega (arith, stored_fits columns c.stored_at-lso.ensures (omega (arith, spanned columns c.args.east c.requires.east_in_range)) (omega (arith, g.most)) (omega arith))
+    omega (
+      arith,
+      stored_fits columns c.stored_at-lso.ensures (omega (arith, spanned columns c.args.east c.requires.east_in_range)) (omega (arith, g.most))
+          (omega arith),
+    )
 
 pub returns : goal.returns
 unfolding origin_of

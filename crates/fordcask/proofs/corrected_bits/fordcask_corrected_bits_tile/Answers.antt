@@ -18,4 +18,5 @@ source_tile-requires c =
     let b : length a.store.now < 2 ^ 64 = omega (arith, c.well_formed) in
     let d : length a.second.now < 2 ^ 64 = omega (arith, c.well_formed) in
     let e = c.corrected_bits_number.ensures ∙ pair-asked (bits_source_of _ _ _ _ _ _ _) c.ranges.row c.ranges.column in
-    from-source c.corrected_bits_number.result a.store.now a.second.now b d (subst (λ (x : SourceAnswer). Held x a.store.now a.second.now) (sym e) (bits-source-in-store _ _ _ _ _ _ _ _ _))
+    from-source c.corrected_bits_number.result a.store.now a.second.now b d
+    (subst (λ (x : SourceAnswer). Held x a.store.now a.second.now) (sym e) (bits-source-in-store _ _ _ _ _ _ _ _ _))
