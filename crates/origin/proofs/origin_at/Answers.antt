@@ -3,7 +3,6 @@ use Rattle.std.proofs.Common.{◌≡◌, ℕ, ◌*◌, ◌≤◌, ◌<◌, ◌^�
 use Rattle.whole.proofs.Signed.{is-difference}
 use Rattle.whole.proofs.Machine.{told}
 use Rattle.arc.specs.Zones.{circle, half, quarter}
-use Rattle.arc.specs.Spacing.{Grid}
 use Rattle.origin.specs.declared.Origin.{Origin}
 use Rattle.origin.specs.Origin.{origin_of}
 use Rattle.origin.specs.Steps.{stored_from}

@@ -1,19 +1,18 @@
 -- Each test decides one case of `write_in`, in its order, with the output as it was; past the tests the codes of the record
 -- are its bytes. Assumes nothing.
-use Rattle.std.proofs.Common.{◌≡◌, ℕ, List, ◌/◌, ◌≤◌, Bool, true, false, cond, length, refl, sym, ap, ◌∙◌, arith, rules, w64}
+use Rattle.std.proofs.Common.{◌≡◌, ℕ, List, ◌/◌, ◌≤◌, true, false, length, refl, sym, ap, ◌∙◌, arith, rules, w64}
 use borrow.Author.Tests.{le-leb}
 use mir.Val.{SFits}
 use Rattle.whole.proofs.Machine.{told}
-use Rattle.whole.proofs.Counts.{Inside, inside_is, counted-outside, counted-from}
+use Rattle.whole.proofs.Counts.{inside_is, counted-outside, counted-from}
 use Rattle.origin.proofs.Axis.{latitudes, longitudes, stored_is}
 use Rattle.arc.specs.declared.Refusal.{Refusal}
 use Rattle.arc.specs.declared.SpacingAnswer.{SpacingAnswer}
 use Rattle.arc.specs.declared.Verdict.{Verdict}
-use Rattle.arc.specs.Refusals.{refusal}
 use Rattle.arc.specs.Zones.{is_polar}
 use Rattle.card.specs.declared.Record.{Record}
 use Rattle.card.specs.Write.{first, record_tests, write_in}
-use Rattle.card_text.specs.StepsWrite.{count_tests, out_in}
+use Rattle.card_text.specs.StepsWrite.{out_in}
 use Rattle.card_text.proofs.Tests.{counts-refused, rows-refused, columns-refused, extents-judged}
 use Rattle.card_text.proofs.write.write_spaced.Goals as goal
 

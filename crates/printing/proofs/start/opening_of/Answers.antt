@@ -1,6 +1,5 @@
 -- The tests are the definition's, in its order, and the lines end where the scans do. Assumes nothing.
-use Rattle.std.proofs.Common.{sym, arith}
-use lib.Seq.{length-take-le}
+use Rattle.std.proofs.Common.{arith}
 use Rattle.printing.proofs.Openings.{opened-long, opened-bad, opened-two}
 use Rattle.printing.proofs.start.opening_of.Goals as goal
 

@@ -1,5 +1,5 @@
 -- The tests are the definition's, and one entry is written. Assumes nothing.
-use Rattle.std.proofs.Common.{refl, sym, ap, ◌∙◌, arith}
+use Rattle.std.proofs.Common.{sym, ap, arith}
 use borrow.Author.Tests.{le-leb, lt-leb, lt-ltb, le-ltb}
 use Rattle.arc.specs.declared.Verdict.{Verdict}
 use Rattle.tiles.specs.Corrections.{setting_of, set_of}
