@@ -73,7 +73,7 @@ scale-is s factor t e = go (is_scale s) (is_factor factor) (ltb 20000000 (s * fa
         let g : t ≡ s * factor = cc in
         let served : is_scale (s * factor) ≡ true =
         rw (le-leb 5000 (s * factor) (product-least s factor p q), le-leb (s * factor) 20000000 (ltb-false 20000000 (s * factor) r)) refl in
-        record { good-scale = p; good-factor = q; product = g; served = rw g served }
+        record { good_scale = p; good_factor = q; product = g; served = rw g served }
     go true true true p q r f = let z : ◌≡◌ {A = ℕ} 0 1 = cc in absurd (omega arith)
     go true false z p q r f = let z : ◌≡◌ {A = ℕ} 0 1 = cc in absurd (omega arith)
     go false y z p q r f = let z : ◌≡◌ {A = ℕ} 0 1 = cc in absurd (omega arith)

@@ -64,7 +64,8 @@ found-has : (rs : List Row) (zone : ℕ) (r : Row) → row_in rs zone ≡ some r
 found-has [] zone r e = let z : ◌≡◌ {A = ℕ} 0 1 = cc in absurd (omega arith)
 found-has (q ∷ rs) zone r e = go (has_zone q zone) refl e (λ k. found-has rs zone r k)
   where
-    go : (t : Bool) → has_zone q zone ≡ t → cond t (some q) (row_in rs zone) ≡ some r → (row_in rs zone ≡ some r → has_zone r zone ≡ true) → has_zone r zone ≡ true
+    go : (t : Bool) → has_zone q zone ≡ t → cond t (some q) (row_in rs zone) ≡ some r → (row_in rs zone ≡ some r → has_zone r zone ≡ true)
+        → has_zone r zone ≡ true
     go true k p f = let g : q ≡ r = cc in rw g at k
     go false k p f = f p
 

@@ -39,7 +39,7 @@ abbrev pub on_scale : {A : Type 0} → ScaleAnswer → (Refusal → A) → (ℕ 
 on_scale (ScaleAnswer.Scale t) f g = g t
 on_scale (ScaleAnswer.Refused r) f g = f r
 
--- ---- what it is held to, one claim for each stretch of scales and factors: proved in proofs/Scales.antt
+-- ---- what it is held to, one claim for each stretch of scales and factors: proved in proofs/ScaleLaws.antt
 
 -- S outside its range: 1, whatever the factor
 abbrev pub ScaleRefused : Type 0
@@ -62,8 +62,8 @@ ProductServed = (s factor : ℕ) → 5000 ≤ s → 1 ≤ factor → factor ≤ 
 
 -- what is answered is S × k, of a scale and a factor, and is a scale of 01 itself
 pub record OverviewOf (s factor t : ℕ) : Type 0 where
-  pub good-scale : is_scale s ≡ true
-  pub good-factor : is_factor factor ≡ true
+  pub good_scale : is_scale s ≡ true
+  pub good_factor : is_factor factor ≡ true
   pub product : t ≡ s * factor
   pub served : is_scale t ≡ true
 

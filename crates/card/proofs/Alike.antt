@@ -243,8 +243,8 @@ corner k l = rw (lt-ltb 0 (128 * k.nfl) (omega (arith, l.down-some)), lt-ltb 0 (
 
 pub answer-alike : AnswerAlike
 answer-alike pair series j k p q h =
-    answers series j k p q (ap (λ (n : ℤ). pos 128 *ℤ n -ℤ pos 0) h.same-n)
-    (ap₂ (λ (m : ℤ) (a : ℕ). modulo (pos 128 *ℤ m +ℤ pos 0) a) h.same-m (sym (same-spacing series j k p q).0)) h.same-extents pair
+    answers series j k p q (ap (λ (n : ℤ). pos 128 *ℤ n -ℤ pos 0) h.same_n)
+    (ap₂ (λ (m : ℤ) (a : ℕ). modulo (pos 128 *ℤ m +ℤ pos 0) a) h.same_m (sym (same-spacing series j k p q).0)) h.same_extents pair
 
 pub alike-exactly : AlikeExactly
 alike-exactly pair series j k p q =

@@ -111,13 +111,13 @@ bytes-alike series s t j k v w p q (lso, (pso, (nul, (nus, (nll, (nls, (nfl, (nf
     let g = answered-grids series x.a x.b e in
     subst₂ Copies x.card y.card
     (record {
-      same-n =
+      same_n =
           stored-unique x.b g.rows x.n y.n
           (x.n-stored.same ∙ ap (angle_of 2) pso ∙ sym y.n-stored.same ∙ ap (λ (i : ℕ). stored_angle i y.n) (sym b));
-      same-m =
+      same_m =
           stored-unique x.a g.columns x.m y.m
           (x.m-stored.same ∙ ap (angle_of 3) lso ∙ sym y.m-stored.same ∙ ap (λ (i : ℕ). stored_angle i y.m) (sym a));
-      same-extents = rw (nul, nus, nll, nls, nfl, nfc);
+      same_extents = rw (nul, nus, nll, nls, nfl, nfc);
     })
 
 -- ---- stored angles

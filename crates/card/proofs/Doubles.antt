@@ -57,9 +57,9 @@ exact lat lon clat clon o e = go (outside quarter lat) (outside half lon) (outsi
         let high' = raise-high quarter clat eu in
         subst (ExactOffset lat lon clat clon) same
         (record {
-          lat-exact =
+          lat_exact =
               exactly (lat -ℤ clat) (omega (arith, is-size (lat -ℤ clat) (raise quarter lat) (raise quarter clat) (apart quarter lat clat es eu)));
-          lon-exact =
+          lon_exact =
               exactly (into_range (lon -ℤ clon))
               (short-size (lon -ℤ clon) (raise half lon) (raise half clon) (raise-high half clon ev) (apart half lon clon et ev));
         })

@@ -13,7 +13,7 @@ use Rattle.arc.specs.Spacing.{Grid}
 use Rattle.origin.specs.Origin.{stored_angle}
 use Rattle.origin.proofs.Line.{is-inside}
 use Rattle.origin.proofs.Stored.{stored-unique}
-use Rattle.card.specs.Read.{equalℤ, tile_storing}
+use Rattle.card.specs.Read.{equal_ℤ, tile_storing}
 use Rattle.whole.specs.Lists.{first_from}
 
 is-suc : (z : ℤ) (p q : ℕ) → Is z p q → Is (suc_ℤ z) (suc p) q
@@ -73,13 +73,13 @@ module _ (f : ℤ → Bool) where
 
 -- ---- equal whole numbers
 
-equal-true : (x y : ℤ) → equalℤ x y ≡ true → x ≡ y
+equal-true : (x y : ℤ) → equal_ℤ x y ≡ true → x ≡ y
 equal-true (pos m) (pos n) e = ap pos (eqb-true m n e)
 equal-true (pos m) (negsuc n) e = let x : ◌≡◌ {A = ℕ} 0 1 = cc in absurd (omega arith)
 equal-true (negsuc m) (pos n) e = let x : ◌≡◌ {A = ℕ} 0 1 = cc in absurd (omega arith)
 equal-true (negsuc m) (negsuc n) e = ap negsuc (eqb-true m n e)
 
-true-equal : (x : ℤ) → equalℤ x x ≡ true
+true-equal : (x : ℤ) → equal_ℤ x x ≡ true
 true-equal (pos m) = eq-eqb m m refl
 true-equal (negsuc m) = eq-eqb m m refl
 
@@ -96,7 +96,7 @@ lowest t = is-neg (pos t) t 0 (is-nat t)
 module _ (x t : ℕ) (angle k : ℤ) where
   pub tile-stores : tile_storing x t angle ≡ some k → Stores x t angle k
   tile-stores e =
-      let r = first-sound (λ j. equalℤ (stored_angle x j) angle) (2 * t + 1) (neg_ℤ (pos t)) k 0 t (lowest t) e in
+      let r = first-sound (λ j. equal_ℤ (stored_angle x j) angle) (2 * t + 1) (neg_ℤ (pos t)) k 0 t (lowest t) e in
       record {
         on-grid = is-inside k (0 + r.steps) t r.at (omega (arith, r.few));
         same = equal-true (stored_angle x k) angle r.holds;
@@ -104,7 +104,7 @@ module _ (x t : ℕ) (angle k : ℤ) where
 
   pub stores-tile : Grid x → Stores x t angle k → tile_storing x t angle ≡ some k
   stores-tile g s =
-      first-complete (λ j. equalℤ (stored_angle x j) angle) k t (ap (λ (z : ℤ). equalℤ z angle) s.same ∙ true-equal angle)
+      first-complete (λ j. equal_ℤ (stored_angle x j) angle) k t (ap (λ (z : ℤ). equal_ℤ z angle) s.same ∙ true-equal angle)
       (λ i h. stored-unique x g i k (equal-true (stored_angle x i) angle h ∙ sym s.same))
       (2 * t + 1) (neg_ℤ (pos t)) 0 (raise t k) (lowest t)
       (is_same k (raise t k) t (0 + raise t k) t (is-raise t k s.on-grid) (omega arith)) (omega (arith, raise-high t k s.on-grid))

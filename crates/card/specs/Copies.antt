@@ -28,9 +28,9 @@ use Rattle.card.specs.Grid.{in_chart, extents_of, place_of, position_of, pixel_o
 -- ---- copies
 
 pub record Copies (j k : Card) : Type 0 where
-  pub same-n : j.n ≡ k.n
-  pub same-m : j.m ≡ k.m
-  pub same-extents : extents_of j ≡ extents_of k
+  pub same_n : j.n ≡ k.n
+  pub same_m : j.m ≡ k.m
+  pub same_extents : extents_of j ≡ extents_of k
 
 pub record Alike (p : Pair) (j k : Card) : Type 0 where
   pub place : (r c : ℤ) → place_of j r c ≡ place_of k r c

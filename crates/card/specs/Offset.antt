@@ -38,8 +38,8 @@ offset_parts (OffsetAnswer.Refused r) =
 
 -- both doubles hold whole hundredths, exactly
 pub record ExactOffset (lat lon clat clon : ℤ) (o : Offset) : Type 0 where
-  pub lat-exact : Exactly o.lat (lat -ℤ clat)
-  pub lon-exact : Exactly o.lon (into_range (lon -ℤ clon))
+  pub lat_exact : Exactly o.lat (lat -ℤ clat)
+  pub lon_exact : Exactly o.lon (into_range (lon -ℤ clon))
 
 -- ---- what the answer is held to: proved in proofs/Doubles.antt
 

@@ -29,14 +29,14 @@ use Rattle.card.specs.Layout.{Subfield, ARV, BRV, LSO, PSO, NUL, NUS, NLL, NLS, 
 use Rattle.card.specs.Blanks.{total_blanks, with_total}
 use Rattle.card.specs.Extents.{extents_hold}
 
-abbrev pub equalℤ : ℤ → ℤ → Bool
-equalℤ (pos m) (pos n) = eqb m n
-equalℤ (pos m) (negsuc n) = false
-equalℤ (negsuc m) (pos n) = false
-equalℤ (negsuc m) (negsuc n) = eqb m n
+abbrev pub equal_ℤ : ℤ → ℤ → Bool
+equal_ℤ (pos m) (pos n) = eqb m n
+equal_ℤ (pos m) (negsuc n) = false
+equal_ℤ (negsuc m) (pos n) = false
+equal_ℤ (negsuc m) (negsuc n) = eqb m n
 
 abbrev pub tile_storing : ℕ → ℕ → ℤ → Option ℤ
-tile_storing x t angle = first_from suc_ℤ (λ k. equalℤ (stored_angle x k) angle) (neg_ℤ (pos t)) (2 * t + 1)
+tile_storing x t angle = first_from suc_ℤ (λ k. equal_ℤ (stored_angle x k) angle) (neg_ℤ (pos t)) (2 * t + 1)
 
 -- the values of the subfields
 abbrev pub number_in : Subfield → List ℕ → ℕ

@@ -41,7 +41,7 @@ record_of k =
 pub record ReadBack (series : Series) (r : Record) (s : List ℕ) : Type 0 where
   pub card : Card
   pub read : read_of series s ≡ accepted_card card 0
-  pub of-series : card.series ≡ series
+  pub of_series : card.series ≡ series
   pub same : record_of card ≡ r
 
 -- BAD has twelve bytes, as the record's array holds it

@@ -56,7 +56,7 @@ enough k = go k.tif
 
 -- ---- what was accepted
 pub record ListTaken (k : Card) (index words : List ℕ) : Type 0 where
-  pub index-long : length index ≡ index_length k
+  pub index_long : length index ≡ index_length k
   pub words_long : length words ≡ words_length k
   pub order : in_order 0 index ≡ true
   pub left : bits_left k index words ≡ bits_of index (length words)
@@ -72,12 +72,12 @@ to_bits k index words = go (lengths_wrong k (length index) (length words)) (in_o
     go false false p q h = let z : ◌≡◌ {A = ℕ} 0 1 = cc in absurd (omega arith)
     go false true p q h =
         let w = lengths-right k (length index) (length words) p in
-        record { index-long = w.0; words_long = w.1; order = q; left = rw (p, q) }
+        record { index_long = w.0; words_long = w.1; order = q; left = rw (p, q) }
 
 pub record WordsTaken (k : Card) (words index : List ℕ) : Type 0 where
-  pub index-long : length index ≡ index_length k
+  pub index_long : length index ≡ index_length k
   pub words_long : length words ≡ words_length k
-  pub none-stray : stray_bit k words ≡ false
+  pub none_stray : stray_bit k words ≡ false
   pub left : list_left k words index ≡ list_of k words
 
 to-list : (k : Card) (words index : List ℕ) → to_list_of k words index ≡ Verdict.Accepted → WordsTaken k words index
@@ -91,7 +91,7 @@ to-list k words index = go (lengths_wrong k (length index) (length words)) (stra
     go false true p q h = let z : ◌≡◌ {A = ℕ} 0 1 = cc in absurd (omega arith)
     go false false p q h =
         let w = lengths-right k (length index) (length words) p in
-        record { index-long = w.0; words_long = w.1; none-stray = q; left = rw (p, q) }
+        record { index_long = w.0; words_long = w.1; none_stray = q; left = rw (p, q) }
 
 -- ---- the bits of a list
 module _ (k : Card) (index : List ℕ) (n : ℕ) (l : length index ≡ index_length k) (m : n ≡ words_length k) where
@@ -115,9 +115,9 @@ module _ (k : Card) (index : List ℕ) (n : ℕ) (l : length index ≡ index_len
   unfolding stray_bit
   bits_forms o =
       record {
-        index-long = l;
+        index_long = l;
         words_long = bits-long ∙ m;
-        none-stray = set-none bits (tiles k) (length bits * 64 - tiles k) (λ j p q.
+        none_stray = set-none bits (tiles k) (length bits * 64 - tiles k) (λ j p q.
             bits-agree j ∙ bit-none (get_or index j 0) (get_or-eq_default index 0 {n = j} (omega (arith, (enough k).1))));
         entries = λ t. go t (ℕ_discrete (get_or index t 0) 0);
       }
@@ -136,22 +136,22 @@ module _ (k : Card) (index : List ℕ) (n : ℕ) (l : length index ≡ index_len
 pub to-bits-forms : ToBitsForms
 to-bits-forms k index words e =
     let a = to_bits k index words e in
-    rw a.left (bits_forms k index (length words) a.index-long a.words_long a.order)
+    rw a.left (bits_forms k index (length words) a.index_long a.words_long a.order)
 
 pub to-list-forms : ToListForms
 to-list-forms k words index e =
     let a = to-list k words index e in
-    rw a.left (bits-have-list k words a.words_long a.none-stray)
+    rw a.left (bits-have-list k words a.words_long a.none_stray)
 
 -- ---- there and back
 pub bits-and-back : BitsAndBack
 unfolding to_list_of list_left
 bits-and-back k index words other e l =
     let f = to-bits-forms k index words e in
-    let w : lengths_wrong k (length other) (length (bits_left k index words)) ≡ false = right-lengths k _ _ (l ∙ f.index-long) f.words_long in (
-      rw (w, f.none-stray),
-      rw (w, f.none-stray)
-          (sym (is-listed (number_at (bits_left k index words)) (index_length k) index f.index-long (λ j q. sym (f.entries j)))),
+    let w : lengths_wrong k (length other) (length (bits_left k index words)) ≡ false = right-lengths k _ _ (l ∙ f.index_long) f.words_long in (
+      rw (w, f.none_stray),
+      rw (w, f.none_stray)
+          (sym (is-listed (number_at (bits_left k index words)) (index_length k) index f.index_long (λ j q. sym (f.entries j)))),
     )
 
 -- a tile's bit by its number
@@ -187,6 +187,6 @@ unfolding to_bits_of bits_left
 list-and-back k words index other h e l =
     let f = to-list-forms k words index e in
     let list = list_left k words index in
-    let w : lengths_wrong k (length list) (length other) ≡ false = right-lengths k _ _ f.index-long (l ∙ f.words_long) in
+    let w : lengths_wrong k (length list) (length other) ≡ false = right-lengths k _ _ f.index_long (l ∙ f.words_long) in
     let o = forms-order k list words f in
     (rw (w, o), rw (w, o, l) (forms-words k list words f h))

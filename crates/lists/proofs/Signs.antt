@@ -225,5 +225,6 @@ module _ (west lon : ℤ) (i : outside half west ≡ false) (j : outside half lo
         rw (apart-held, east-round)
         (is-fits (pos (n + 129600000 - w)) (n + 129600000 - w) 0 (is-nat (n + 129600000 - w)) (omega (arith, raise-high half lon j)) (omega arith))
 
-    pub round-held : to_z w64 (of_z w64 (to_z w64 (of_z w64 (to_z w64 (of_z w64 lon) -ℤ to_z w64 (of_z w64 west))) +ℤ pos 129600000)) ≡ lon -ℤ west +ℤ pos 129600000
+    pub round-held : to_z w64 (of_z w64 (to_z w64 (of_z w64 (to_z w64 (of_z w64 lon) -ℤ to_z w64 (of_z w64 west))) +ℤ pos 129600000))
+        ≡ lon -ℤ west +ℤ pos 129600000
     round-held = to_z-of_z w64 _ round-fits ∙ ap (λ (z : ℤ). z +ℤ pos 129600000) apart-held

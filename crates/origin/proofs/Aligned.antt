@@ -29,10 +29,10 @@ aligned a b lat lon =
     let n = ceils (lat *ℤ pos b) tile_angle (omega arith) in
     let m = floors (lon *ℤ pos a) tile_angle (omega arith) in
     record {
-      n-smallest = record { holds = rw tiles-angle n.holds; least = λ k h. n.least k (rw tiles-angle at h) };
-      m-greatest = record { holds = rw tiles-angle m.holds; most = λ k h. m.most k (rw tiles-angle at h) };
-      pso-stored = refl;
-      lso-stored = refl;
+      n_smallest = record { holds = rw tiles-angle n.holds; least = λ k h. n.least k (rw tiles-angle at h) };
+      m_greatest = record { holds = rw tiles-angle m.holds; most = λ k h. m.most k (rw tiles-angle at h) };
+      pso_stored = refl;
+      lso_stored = refl;
     }
 
 pub aligned-on-grid : AlignedOnGrid

@@ -68,10 +68,10 @@ origin_told p = record { number = p.number; place = p.at; values = p.n ∷ p.m �
 
 -- n and m as the paper states them
 pub record Aligned (a b : ℕ) (lat lon : ℤ) (o : Origin) : Type 0 where
-  pub n-smallest : Smallest (λ k. (lat *ℤ pos b) ≤ℤ (pos tile *ℤ k *ℤ pos circle)) o.n
-  pub m-greatest : Greatest (λ k. (pos tile *ℤ k *ℤ pos circle) ≤ℤ (lon *ℤ pos a)) o.m
-  pub pso-stored : o.pso ≡ stored_angle b o.n
-  pub lso-stored : o.lso ≡ stored_angle a o.m
+  pub n_smallest : Smallest (λ k. (lat *ℤ pos b) ≤ℤ (pos tile *ℤ k *ℤ pos circle)) o.n
+  pub m_greatest : Greatest (λ k. (pos tile *ℤ k *ℤ pos circle) ≤ℤ (lon *ℤ pos a)) o.m
+  pub pso_stored : o.pso ≡ stored_angle b o.n
+  pub lso_stored : o.lso ≡ stored_angle a o.m
 
 abbrev pub AlignedIs : Type 0
 AlignedIs = (a b : ℕ) (lat lon : ℤ) → Aligned a b lat lon (origin_of a b lat lon)

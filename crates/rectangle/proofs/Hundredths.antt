@@ -92,7 +92,7 @@ module _ (b zone : ℕ) (lat : ℤ) (p : Point) (e : p.numerator ≡ lat *ℤ po
   there : CoversPoint b zone p → covers b lat zone ≡ true
   unfolding covers
   there w =
-      rw (w.of-zone, eq-eqb zone (zone_on lat w.row) (w.hemisphere ∙ side w.row))
+      rw (w.of_zone, eq-eqb zone (zone_on lat w.row) (w.hemisphere ∙ side w.row))
       (⊎_elim (λ k. rw (holds w.row k)) (λ k. rw (overlapped w.row k) (or-true (holds_size w.row (nat_abs lat)))) w.lies)
 
   back : nat_abs lat ≤ quarter → covers b lat zone ≡ true → CoversPoint b zone p
@@ -105,7 +105,7 @@ module _ (b zone : ℕ) (lat : ℤ) (p : Point) (e : p.numerator ≡ lat *ℤ po
           let w = (and-eq-true_iff (eqb zone (zone_on lat r)) (holds_size r (nat_abs lat) || overlaps b r (nat_abs lat))).0 k in
           record {
             row = r;
-            of-zone = f;
+            of_zone = f;
             hemisphere = eqb-true zone (zone_on lat r) w.0 ∙ sym (side r);
             lies = either (holds_size r (nat_abs lat)) refl w.1;
           }

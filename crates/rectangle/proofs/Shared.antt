@@ -30,10 +30,10 @@ module _ {b zone : ℕ} {south north : ℤ} (w : Shared b south north zone) wher
   not-above = below-at-most _ _ w.different
 
   at_low : InRectangle south north w.low × CoversPoint b zone w.low
-  at_low = w.all-between w.low (≤ℤ_refl _) not-above
+  at_low = w.all_between w.low (≤ℤ_refl _) not-above
 
   at_high : InRectangle south north w.high × CoversPoint b zone w.high
-  at_high = w.all-between w.high not-above (≤ℤ_refl _)
+  at_high = w.all_between w.high not-above (≤ℤ_refl _)
 
 module _ (b : ℕ) (i : 0 < b) where
   -- (3 w + t) / 3 B
@@ -150,7 +150,7 @@ module _ (b : ℕ) (i : 0 < b) where
           low = third c.0 1;
           high = third c.0 2;
           different = thirds-apart c.0;
-          all-between = λ p f g. (
+          all_between = λ p f g. (
             let k = thirds-between edges.south_end edges.north_end c.0 c.2 c.4 p f g in (south-in south p k.0, north-in north p k.1),
             (stretches b i zone r t p).0 (thirds-between zone-ends.south_end zone-ends.north_end c.0 c.1 c.3 p f g),
           );
@@ -178,7 +178,7 @@ sharing b i south north zone = go (table_row zone) refl
     go (some r) t = (points b i south north zone r t, apart b i south north zone r t)
     go none t = (
       (λ e. absurd (false≢true e)),
-      (λ w. let e = (at_low w).1.of-zone in let z : ◌≡◌ {A = ℕ} 0 1 = cc in absurd (omega arith)),
+      (λ w. let e = (at_low w).1.of_zone in let z : ◌≡◌ {A = ℕ} 0 1 = cc in absurd (omega arith)),
     )
 
 -- a zone of the table is one of the eighteen that the list goes through
@@ -200,5 +200,5 @@ rectangle-listed s g south north zone =
     let i : 0 < b = omega (arith, (scale-rows s g).least) in (
       (λ e. (sharing b i south north zone).0
           ((and-eq-true_iff (shares b south north zone) (occurs zone (up_from 1 18))).0 (sym (occurs-those (shares b south north) zone (up_from 1 18)) ∙ e)).0),
-      (λ w. let c = (at_low w).1 in listed b south north zone c.row c.of-zone ((sharing b i south north zone).1 w)),
+      (λ w. let c = (at_low w).1 in listed b south north zone c.row c.of_zone ((sharing b i south north zone).1 w)),
     )

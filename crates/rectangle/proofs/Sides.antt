@@ -12,7 +12,8 @@ use Rattle.whole.proofs.Signed.{Is, is-nat, is-neg, is_mul, is_lt, lt-is, is-dif
 use Rattle.arc.specs.Zones.{circle, quarter, is_polar, Row, from, to, row_at}
 use Rattle.arc.proofs.Table.{southern-at, row-north, row-south, from-to, to-most}
 use Rattle.zones.specs.Steps.{reaches, Rows}
-use Rattle.rectangle.specs.Stretch.{poleward_end, Stretch, northern_stretch, southern_stretch, zone_stretch, rectangle_stretch, shares_height, shares_in, shares}
+use Rattle.rectangle.specs.Stretch.{poleward_end, Stretch, northern_stretch, southern_stretch, zone_stretch, rectangle_stretch, shares_height}
+use Rattle.rectangle.specs.Stretch.{shares_in, shares}
 use Rattle.rectangle.specs.Steps.{shares_row, Sides}
 use Rattle.rectangle.proofs.Ends.{Crossed, crossed, shared}
 
@@ -180,7 +181,7 @@ module _ (b zone S N : ℕ) (g : Sides b zone S N) where
 
   pub in-north : zone ≤ 9 → asked zone ≡ shares_row b (row_at (zone - 1)) (S - quarter) (N - quarter)
   in-north h =
-      let e : zone ≡ 1 + (zone - 1) = omega (arith, g.some-zone) in
+      let e : zone ≡ 1 + (zone - 1) = omega (arith, g.some_zone) in
       ap asked e
       ∙ on-north b (zone - 1) (omega arith) g.rows S quarter N quarter (omega (arith, g.order)) (omega (arith, g.pole))
       (pos S -ℤ pos quarter) (pos N -ℤ pos quarter) (is-difference S quarter) (is-difference N quarter)
@@ -189,5 +190,5 @@ module _ (b zone S N : ℕ) (g : Sides b zone S N) where
   in-south h =
       let e : zone ≡ 10 + (zone - 10) = omega arith in
       ap asked e
-      ∙ on-south b (zone - 10) (omega (arith, g.last-zone)) g.rows quarter N quarter S (omega (arith, g.order)) (omega arith)
+      ∙ on-south b (zone - 10) (omega (arith, g.last_zone)) g.rows quarter N quarter S (omega (arith, g.order)) (omega arith)
       (pos S -ℤ pos quarter) (pos N -ℤ pos quarter) (is-difference S quarter) (is-difference N quarter)

@@ -80,7 +80,7 @@ module _ (b j : ℕ) (i : 0 < b) (h : j < 9) where
 
   -- a row of the zone is this row
   own_row : (zone : ℕ) → table_row zone ≡ some r → (p : Point) (w : CoversPoint b zone p) → w.row ≡ r
-  own_row zone e p w = let f = w.of-zone in cc
+  own_row zone e p w = let f = w.of_zone in cc
 
   -- a point north of the Equator or on it, and one south of it
   module _ (n d : ℕ) (s : 0 < d) where
@@ -112,7 +112,7 @@ module _ (b j : ℕ) (i : 0 < b) (h : j < 9) where
     up-north w =
         record {
           row = r;
-          of-zone = row-north j h;
+          of_zone = row-north j h;
           hemisphere = sym (rw (le-ltb n 0 (omega arith)) (northern-at j h));
           lies =
               lies up (omega (arith, lt-is (pos S *ℤ pos d) (pos n *ℤ pos b) (S * d) (0 * d) (n * b) (0 * b) (end_is S) up_is w.0))
@@ -131,7 +131,7 @@ module _ (b j : ℕ) (i : 0 < b) (h : j < 9) where
     down-south w =
         record {
           row = r;
-          of-zone = row-south j h;
+          of_zone = row-south j h;
           hemisphere = sym (southern-at j h);
           lies =
               lies down (omega (arith, lt-is (negsuc n *ℤ pos b) (neg_ℤ (pos S) *ℤ pos d) (0 * b) (suc n * b) (0 * d) (S * d) down_is (mirror-is S) w.1))

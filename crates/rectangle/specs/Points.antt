@@ -55,7 +55,7 @@ OverlapsPoint b r p =
 -- a point of its hemisphere, the numerator having its sign, that lies in it or in its overlap
 pub record CoversPoint (b zone : ℕ) (p : Point) : Type 0 where
   pub row : Row
-  pub of-zone : table_row zone ≡ some row
+  pub of_zone : table_row zone ≡ some row
   pub hemisphere : zone ≡ zone_on p.numerator row
   pub lies : HoldsPoint row p ⊎ OverlapsPoint b row p
 
@@ -72,7 +72,7 @@ pub record Shared (b : ℕ) (south north : ℤ) (zone : ℕ) : Type 0 where
   pub low : Point
   pub high : Point
   pub different : Below low high
-  pub all-between : (p : Point) → AtMost low p → AtMost p high → InRectangle south north p × CoversPoint b zone p
+  pub all_between : (p : Point) → AtMost low p → AtMost p high → InRectangle south north p × CoversPoint b zone p
 
 -- ---- the claims
 

@@ -12,7 +12,7 @@ shares_row b r low high = ltb (from r) high && reaches b r low
 -- a zone, and a rectangle whose edges are counted from the South Pole
 pub record Sides (b zone south north : ℕ) : Type 0 where
   pub rows : Rows b
-  pub some-zone : 1 ≤ zone
-  pub last-zone : zone ≤ 18
+  pub some_zone : 1 ≤ zone
+  pub last_zone : zone ≤ 18
   pub order : south < north
   pub pole : north ≤ half

@@ -65,31 +65,31 @@ module _
     good : Good a b r
     good =
         record {
-          nfl-in = rw (le-leb 1 r.nfl f.nfl-least, le-leb r.nfl 999 f.nfl-most);
-          nfc-in = rw (le-leb 1 r.nfc f.nfc-least, le-leb r.nfc 999 f.nfc-most);
-          name-laid = f.bad-laid;
-          on-grid = rw (f.at_n, f.at-m) on-grid;
-          extents-hold = f.extents-hold;
+          nfl-in = rw (le-leb 1 r.nfl f.nfl_least, le-leb r.nfl 999 f.nfl_most);
+          nfc-in = rw (le-leb 1 r.nfc f.nfc_least, le-leb r.nfc 999 f.nfc_most);
+          name-laid = f.bad_laid;
+          on-grid = rw (f.at_n, f.at_m) on-grid;
+          in_extents = f.in_extents;
         }
 
     reads : ReadBack series r (card_text a b r)
-    reads = read_back a b r grids good f.bad-twelve series s n.no-pole
+    reads = read_back a b r grids good f.bad_twelve series s n.no-pole
 
     lso-same : bytes_of LSO (card_text a b r) ≡ angle_text 3 o.lso
-    lso-same = lso-text a b r grids good f.bad-twelve ∙ ap (angle_text 3) (ap (stored_angle a) f.at-m ∙ sym angles.lso-stored)
+    lso-same = lso-text a b r grids good f.bad_twelve ∙ ap (angle_text 3) (ap (stored_angle a) f.at_m ∙ sym angles.lso_stored)
 
     pso-same : bytes_of PSO (card_text a b r) ≡ angle_text 2 o.pso
-    pso-same = pso-text a b r grids good f.bad-twelve ∙ ap (angle_text 2) (ap (stored_angle b) f.at_n ∙ sym angles.pso-stored)
+    pso-same = pso-text a b r grids good f.bad_twelve ∙ ap (angle_text 2) (ap (stored_angle b) f.at_n ∙ sym angles.pso_stored)
 
     carried : (out : List ℕ) → 98 ≤ length out → Carried series o r out (take 98 (out_of series r out))
     carried out h =
         let w : Writes series r out a b = record { spacing = written_from series l ∙ s; no-pole = n.no-pole; room = h; is-good = good } in
-        rw (text_out series r out a b w (long a b r grids good f.bad-twelve))
+        rw (text_out series r out a b w (long a b r grids good f.bad_twelve))
         (record {
           written = is-written series r out a b w;
           back = reads;
-          same-n = ap (λ (x : Record). x.n) reads.same ∙ f.at_n;
-          same-m = ap (λ (x : Record). x.m) reads.same ∙ f.at-m;
+          same_n = ap (λ (x : Record). x.n) reads.same ∙ f.at_n;
+          same_m = ap (λ (x : Record). x.m) reads.same ∙ f.at_m;
           lso = lso-same;
           pso = pso-same;
         })

@@ -133,7 +133,7 @@ module _ (a b : ℕ) (r : Record) (g : Grids a b) (ok : Good a b r) (twelve : le
 
     extents-back : extents_hold k.a k.b k.n k.nul k.nus k.nll k.nls k.nfl k.nfc ≡ true
     unfolding card_of
-    extents-back = ap (extents a b) same ∙ ok.extents-hold
+    extents-back = ap (extents a b) same ∙ ok.in_extents
 
     -- as 01 reads it, and so with no blanks
     is_read : spacing_of series ≡ SpacingAnswer.Constants a b → is_polar series.zone ≡ false → read_of series card ≡ accepted_card k 0
@@ -162,7 +162,7 @@ module _ (a b : ℕ) (r : Record) (g : Grids a b) (ok : Good a b r) (twelve : le
 
     pub read_back : spacing_of series ≡ SpacingAnswer.Constants a b → is_polar series.zone ≡ false → ReadBack series r card
     unfolding card_of
-    read_back e p = record { card = k; read = is_read e p; of-series = refl; same = same }
+    read_back e p = record { card = k; read = is_read e p; of_series = refl; same = same }
 
     -- the card is the record's
     pub read-with : spacing_of series ≡ SpacingAnswer.Constants a b → is_polar series.zone ≡ false

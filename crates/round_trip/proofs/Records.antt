@@ -57,7 +57,7 @@ pub record Good (a b : ℕ) (r : Record) : Type 0 where
   pub nfc-in : leb 1 r.nfc && leb r.nfc 999 ≡ true
   pub name-laid : name_laid r.bad ≡ true
   pub on-grid : on_grid a b r.n r.m ≡ true
-  pub extents-hold : extents a b r ≡ true
+  pub in_extents : extents a b r ≡ true
 
 module _ (a b : ℕ) (r : Record) where
   pub good : first (record_tests a b r) ≡ Verdict.Accepted → Good a b r
@@ -73,12 +73,12 @@ module _ (a b : ℕ) (r : Record) where
         nfc-in = t2.0;
         name-laid = t3.0;
         on-grid = t4.0;
-        extents-hold = t5.0;
+        in_extents = t5.0;
       }
 
   pub accepts : Good a b r → first (record_tests a b r) ≡ Verdict.Accepted
   unfolding record_tests
-  accepts g = rw (g.nfl-in, g.nfc-in, g.name-laid, g.on-grid, g.extents-hold)
+  accepts g = rw (g.nfl-in, g.nfc-in, g.name-laid, g.on-grid, g.in_extents)
 
   pub n-on : Good a b r → outside (b / 512) r.n ≡ false
   n-on g = not-true (outside (b / 512) r.n) ((and-eq-true_iff (not (outside (b / 512) r.n)) (not (outside (a / 256) r.m))).0 g.on-grid).0
@@ -97,7 +97,7 @@ sizes a b r g =
     record {
       nfl-in = between 1 r.nfl 999 g.nfl-in;
       nfc-in = between 1 r.nfc 999 g.nfc-in;
-      edges = extends a b r.n r.nul r.nus r.nll r.nls r.nfl r.nfc g.extents-hold;
+      edges = extends a b r.n r.nul r.nus r.nll r.nls r.nfl r.nfc g.in_extents;
     }
 
 -- ---- the questions

@@ -21,5 +21,5 @@ town-not-written series r out p q = record { refused = rw (town-refused series p
 pub held-not-written : HeldNotWritten
 held-not-written series s k blanks out e q =
     let d = read-to Fill.Blanks series s k blanks e in
-    let least = scale-least series.scale (answered-from series d.a d.b d.spacing).of.good-scale in
+    let least = scale-least series.scale (answered-from series d.a d.b d.spacing).of.good_scale in
     town-not-written series (record_of k) out least q

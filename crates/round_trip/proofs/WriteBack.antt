@@ -120,7 +120,7 @@ module _ (series : Series) (s : List ℕ) (k : Card) (n : ℕ) (d : ReadTo Fill.
         nfc-in = (passed 10 (omega arith)).1;
         name-laid = (passed 18 (omega arith)).0;
         on-grid = rw (d.n-stored.on-grid, d.m-stored.on-grid);
-        extents-hold = d.extents;
+        in_extents = d.extents;
       }
 
   grids : Grids d.a d.b

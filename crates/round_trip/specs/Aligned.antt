@@ -20,21 +20,21 @@ use Rattle.card.specs.RoundTrips.{ReadBack}
 
 pub record Fits (a b : ℕ) (o : Origin) (r : Record) : Type 0 where
   pub at_n : r.n ≡ o.n
-  pub at-m : r.m ≡ o.m
-  pub nfl-least : 1 ≤ r.nfl
-  pub nfl-most : r.nfl ≤ 999
-  pub nfc-least : 1 ≤ r.nfc
-  pub nfc-most : r.nfc ≤ 999
-  pub bad-laid : name_laid r.bad ≡ true
-  pub bad-twelve : length r.bad ≡ 12
-  pub extents-hold : extents_hold a b r.n r.nul r.nus r.nll r.nls r.nfl r.nfc ≡ true
+  pub at_m : r.m ≡ o.m
+  pub nfl_least : 1 ≤ r.nfl
+  pub nfl_most : r.nfl ≤ 999
+  pub nfc_least : 1 ≤ r.nfc
+  pub nfc_most : r.nfc ≤ 999
+  pub bad_laid : name_laid r.bad ≡ true
+  pub bad_twelve : length r.bad ≡ 12
+  pub in_extents : extents_hold a b r.n r.nul r.nus r.nll r.nls r.nfl r.nfc ≡ true
 
 -- s being what is written into out
 pub record Carried (series : Series) (o : Origin) (r : Record) (out s : List ℕ) : Type 0 where
   pub written : write_of series r out ≡ Verdict.Accepted
   pub back : ReadBack series r s
-  pub same-n : back.card.n ≡ o.n
-  pub same-m : back.card.m ≡ o.m
+  pub same_n : back.card.n ≡ o.n
+  pub same_m : back.card.m ≡ o.m
   pub lso : bytes_of LSO s ≡ angle_text 3 o.lso
   pub pso : bytes_of PSO s ≡ angle_text 2 o.pso
 

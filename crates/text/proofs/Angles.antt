@@ -1,6 +1,8 @@
 -- An angle's text is laid out and valid, and it is read as the angle; the text of an angle that was read is its bytes. Degrees,
 -- minutes, seconds and hundredths are the quotients and remainders of the size, and they give it back. Assumes nothing.
-use Rattle.std.proofs.Common.{◌≡◌, ℕ, zero, suc, ◌+◌, ◌*◌, ◌/◌, ◌%◌, ◌^◌, ◌<◌, ◌≤◌, Bool, true, false, cond, not, ◌&&◌, ◌||◌, eqb, List, length, get_or, ℤ, pos, negsuc, neg_ℤ, nat_abs, sym, refl, ap, ◌∙◌, arith, length-append, ltb-true, le-ltb, lt-ltb, ne_eqb, eqb-true, le-leb, leb-true}
+use Rattle.std.proofs.Common.{◌≡◌, ℕ, zero, suc, ◌+◌, ◌*◌, ◌/◌, ◌%◌, ◌^◌, ◌<◌, ◌≤◌, Bool, true, false, cond, not, ◌&&◌, ◌||◌, eqb, List, length}
+use Rattle.std.proofs.Common.{get_or, ℤ, pos, negsuc, neg_ℤ, nat_abs, sym, refl, ap, ◌∙◌, arith, length-append, ltb-true, le-ltb, lt-ltb, ne_eqb}
+use Rattle.std.proofs.Common.{eqb-true, le-leb, leb-true}
 use mathlib.Core.Bool.{false≢true, and-eq-true_iff}
 use lib.Signed.{lt_z}
 use Rattle.text.specs.Text.{is_sign, minus, number, angle_laid, minutes, seconds, angle_size, angle_of, angle_valid, digits, angle_text}

@@ -1,6 +1,7 @@
 -- Blanks before the digits of a number: they count nothing, digits have none before them, and a number of so many digits leaves
 -- so much room for them. Assumes nothing.
-use Rattle.std.proofs.Common.{◌≡◌, ℕ, zero, suc, ◌+◌, ◌-◌, ◌^◌, ◌<◌, ◌≤◌, Bool, true, false, cond, eqb, ltb, List, [], ◌∷◌, length, drop, refl, arith, length-drop, ltb-false, ltb-true, lt-ltb, ne_eqb, eqb-true}
+use Rattle.std.proofs.Common.{◌≡◌, ℕ, zero, suc, ◌+◌, ◌-◌, ◌^◌, ◌<◌, ◌≤◌, Bool, true, false, cond, eqb, ltb, List, [], ◌∷◌, length, drop, refl, arith}
+use Rattle.std.proofs.Common.{length-drop, ltb-false, ltb-true, lt-ltb, ne_eqb, eqb-true}
 use mathlib.Core.Bool.{and-eq-true_iff}
 use native.Mathlib.Nat.{pow-le-pow_right}
 use Rattle.text.specs.Text.{all, is_digit, onward, number, blanks, filled}

@@ -1,6 +1,9 @@
 -- The digits of a number and the number of digits, at any width: one digit more is a division by ten with its remainder. Then
 -- the same with leading zeros off. Assumes nothing.
-use Rattle.std.proofs.Common.{◌≡◌, ℕ, zero, suc, ◌+◌, ◌-◌, ◌*◌, ◌/◌, ◌%◌, ◌^◌, ◌<◌, ◌≤◌, Bool, true, false, cond, eqb, ltb, leb, List, [], ◌∷◌, length, get_or, refl, ap, ◌∙◌, le_of_suc-le-suc, not-suc-le-zero, mul-le-mul_right, mod-lt, mod-eq_of_lt, mul_assoc, div-lt_iff_lt-mul, add-mul, mul-le-mul_left, pow-suc, le-div_iff_mul-le, zero-add, zero-mul, mul-one, add-one, arith, ltb-false, ltb-true, ne_eqb, le-leb, leb-false, leb-true}
+use Rattle.std.proofs.Common.{◌≡◌, ℕ, zero, suc, ◌+◌, ◌-◌, ◌*◌, ◌/◌, ◌%◌, ◌^◌, ◌<◌, ◌≤◌, Bool, true, false, cond, eqb, ltb, leb, List, [], ◌∷◌}
+use Rattle.std.proofs.Common.{length, get_or, refl, ap, ◌∙◌, le_of_suc-le-suc, not-suc-le-zero, mul-le-mul_right, mod-lt, mod-eq_of_lt, mul_assoc}
+use Rattle.std.proofs.Common.{div-lt_iff_lt-mul, add-mul, mul-le-mul_left, pow-suc, le-div_iff_mul-le, zero-add, zero-mul, mul-one, add-one, arith}
+use Rattle.std.proofs.Common.{ltb-false, ltb-true, ne_eqb, le-leb, leb-false, leb-true}
 use mathlib.Core.Bool.{and-eq-true_iff}
 use native.Mathlib.Nat.{pow-succ', mod-one, one-le-pow}
 use native.Mathlib.Nat.{pow-le-pow_right, div-eq_of_lt, div-eq_of_lt-le, add-sub_cancel_left, mul-add-mod_self_right}

@@ -1,6 +1,7 @@
 -- The bytes of an angle, taken apart: a sign, degrees, minutes and seconds, a dot and hundredths. Each run is found at its
 -- offset, and bytes that are laid out are such runs. Assumes nothing.
-use Rattle.std.proofs.Common.{◌≡◌, ℕ, ◌+◌, ◌*◌, true, List, [], ◌∷◌, ◌++◌, length, get_or, drop, refl, ap, ◌∙◌, append_assoc, append-nil, arith, length-append, drop_of_length-le, eq-eqb, eqb-true}
+use Rattle.std.proofs.Common.{◌≡◌, ℕ, ◌+◌, ◌*◌, true, List, [], ◌∷◌, ◌++◌, length, get_or, drop, refl, ap, ◌∙◌, append_assoc, append-nil, arith}
+use Rattle.std.proofs.Common.{length-append, drop_of_length-le, eq-eqb, eqb-true}
 use mathlib.Core.Bool.{and-eq-true_iff}
 use lib.Seq.{get_or_at}
 use Rattle.text.specs.Text.{all, part, is_digit, is_sign, number, angle_laid, degrees, minutes, seconds, hundredths, angle_size, digits}

@@ -1,6 +1,8 @@
 -- A text put into a buffer at an offset: texts put one after the other are one text, and a loop that stores a text from its last
 -- byte to its first has put it. Assumes nothing.
-use Rattle.std.proofs.Common.{◌≡◌, ℕ, suc, ◌+◌, ◌-◌, ◌<◌, ◌≤◌, Bool, true, false, cond, not, leb, List, [], ◌∷◌, ◌++◌, length, get_or, take, drop, set, sym, refl, ap, ◌∙◌, append_assoc, add-zero, add_assoc, zero-add, add-one, arith, length-append, length-drop, take-append-drop, length-take, length-take-le, drop-cons, take-suc, drop-drop, take_at, le-leb, leb-false, leb-true}
+use Rattle.std.proofs.Common.{◌≡◌, ℕ, suc, ◌+◌, ◌-◌, ◌<◌, ◌≤◌, Bool, true, false, cond, not, leb, List, [], ◌∷◌, ◌++◌, length, get_or, take, drop}
+use Rattle.std.proofs.Common.{set, sym, refl, ap, ◌∙◌, append_assoc, add-zero, add_assoc, zero-add, add-one, arith, length-append, length-drop}
+use Rattle.std.proofs.Common.{take-append-drop, length-take, length-take-le, drop-cons, take-suc, drop-drop, take_at, le-leb, leb-false, leb-true}
 use lib.Seq.{set_at, set_split, append_snoc, drop-append-add, drop-length}
 use borrow.Author.Tests.{lt-leb, not-true, not-false}
 use Rattle.whole.specs.Lists.{over}

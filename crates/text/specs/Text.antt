@@ -14,7 +14,8 @@
 --     digits w v         the w digits of v, zero-filled
 --     decimal n          a number with no leading zeros
 --     angle_text d z     ±DDDMMSS.SS or ±DDMMSS.SS; zero carries a plus
-use Rattle.std.specs.Prelude.{ℕ, zero, suc, ◌+◌, ◌-◌, ◌*◌, ◌/◌, ◌%◌, ◌^◌, Bool, true, cond, not, ◌&&◌, ◌||◌, List, [], ◌∷◌, ◌++◌, length, take, drop, ℤ, pos, neg_ℤ, ◌==◌, int_lt, nat_le, nat_lt, slice_index, unsigned_abs}
+use Rattle.std.specs.Prelude.{ℕ, zero, suc, ◌+◌, ◌-◌, ◌*◌, ◌/◌, ◌%◌, ◌^◌, Bool, true, cond, not, ◌&&◌, ◌||◌, List, [], ◌∷◌, ◌++◌, length, take, drop}
+use Rattle.std.specs.Prelude.{ℤ, pos, neg_ℤ, ◌==◌, int_lt, nat_le, nat_lt, slice_index, unsigned_abs}
 use Prim.Native.Char.{code}
 use Prim.Native.String.{String, [] as []ᵗ, ◌∷◌ as ◌∷ᵗ◌}
 

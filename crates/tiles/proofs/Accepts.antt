@@ -15,7 +15,7 @@ use Rattle.tiles.specs.declared.Said.{Said}
 use Rattle.tiles.specs.Index.{tiles, index_wrong, said_of}
 use Rattle.whole.specs.Lists.{occurs}
 use Rattle.tiles.specs.Check.{bad_at, first_bad, judged, check_of, EachPlaced, NoneAbove, OnceAccepted}
-use Rattle.tiles.proofs.Entry.{index-long, said-above, said_in, entry_in, stored-in}
+use Rattle.tiles.proofs.Entry.{index_long, said-above, said_in, entry_in, stored-in}
 use Rattle.tiles.proofs.First.{none_from}
 use Rattle.tiles.proofs.Counted.{occurs-at, place, each-named}
 use Rattle.tiles.proofs.Pass.{good_none, good_new}
@@ -24,7 +24,7 @@ use Rattle.tiles.proofs.Pass.{good_none, good_new}
 module _ (k : Card) (index : List ℕ) (count : ℕ) (w : index_wrong k index count ≡ false) (y : k.tif ≡ true)
     (a : NoneAbove k (said_of k index count)) (e : EachPlaced k (said_of k index count) count) where
   long : length index ≡ tiles k
-  long = index-long k index count w y
+  long = index_long k index count w y
 
   entry-most : (i : ℕ) → i < length index → get_or index i 0 ≤ count
   entry-most i h = go (ℕ_discrete (get_or index i 0) 0) (dec_lt count (get_or index i 0))

@@ -38,9 +38,9 @@ none-past k words e o t h = go k.tif e h (dec_le (length words) (t / 64))
 pub bits-have-list : BitsHaveList
 bits-have-list k words e o =
     record {
-      index-long = listed-length (number_at words) (index_length k);
+      index_long = listed-length (number_at words) (index_length k);
       words_long = e;
-      none-stray = o;
+      none_stray = o;
       entries = λ t. go t (dec_le (index_length k) t);
     }
   where
@@ -58,11 +58,11 @@ module _ (k : Card) (index words : List ℕ) (f : Forms k index words) where
 
   wrong-same : (count : ℕ) → words_wrong k words count ≡ index_wrong k index count
   unfolding words_wrong index_wrong
-  wrong-same count = rw (eq-eqb (length words) (words_length k) f.words_long, eq-eqb (length index) (index_length k) f.index-long)
+  wrong-same count = rw (eq-eqb (length words) (words_length k) f.words_long, eq-eqb (length index) (index_length k) f.index_long)
 
 pub number-as-list : NumberAsList
 unfolding bits_number_of number_of
-number-as-list k index words f count store r c = rw (wrong-same k index words f count, f.none-stray, says_same k index words f count)
+number-as-list k index words f count store r c = rw (wrong-same k index words f count, f.none_stray, says_same k index words f count)
 
 pub part-as-list : PartAsList
 unfolding bits_part_of part_of
@@ -76,12 +76,12 @@ bands-as-list k index words f count store r c =
 
 pub window-as-list : WindowAsList
 unfolding bits_window_of window_of
-window-as-list k index words f count top left height width = rw (wrong-same k index words f count, f.none-stray, says_same k index words f count)
+window-as-list k index words f count top left height width = rw (wrong-same k index words f count, f.none_stray, says_same k index words f count)
 
 pub source-as-list : SourceAsList
 unfolding bits_source_of source_of
 source-as-list k index words f count store corrections corrected second r c =
-    rw (wrong-same k index words f count, f.none-stray, says_same k index words f count)
+    rw (wrong-same k index words f count, f.none_stray, says_same k index words f count)
 
 pub either-part-as-list : EitherPartAsList
 unfolding bits_either_part_of either_part_of
@@ -98,4 +98,4 @@ either-bands-as-list k index words f count store corrections corrected second r 
 pub corrected-window-as-list : CorrectedWindowAsList
 unfolding corrected_bits_window_of corrected_window_of
 corrected-window-as-list k index words f count corrections corrected top left height width =
-    rw (wrong-same k index words f count, f.none-stray, says_same k index words f count)
+    rw (wrong-same k index words f count, f.none_stray, says_same k index words f count)

@@ -134,7 +134,8 @@ one-said : (k : Card) (index other : List ℕ) (count : ℕ) (corrections : List
 unfolding said_of
 one-said k index other count corrections corrected t f = go (ℕ_discrete (get_or corrections t 0) 0)
   where
-    go : Dec (get_or corrections t 0 ≡ 0) → said_with corrections corrected (said_of k index count) t ≡ said_with corrections corrected (said_of k other count) t
+    go : Dec (get_or corrections t 0 ≡ 0) → said_with corrections corrected (said_of k index count) t
+        ≡ said_with corrections corrected (said_of k other count) t
     go (yes z) =
         with_none corrections t corrected (said_of k index count) z
         ∙ ap (λ (e : ℕ). cond k.tif (said count e) (Said.Stored (t + 1))) (f z)

@@ -40,8 +40,8 @@ module _ (k : Card) (index : List ℕ) (count : ℕ) (e : index_wrong k index co
   unfolding index_wrong
   lengths = neither (not (eqb (length index) (index_length k))) (count_wrong k count) e
 
-  pub index-long : k.tif ≡ true → length index ≡ tiles k
-  index-long y = eqb-true (length index) (tiles k) (not-false _ (rw y at lengths.0))
+  pub index_long : k.tif ≡ true → length index ≡ tiles k
+  index_long y = eqb-true (length index) (tiles k) (not-false _ (rw y at lengths.0))
 
   pub count_most : count ≤ tiles k
   count_most = count-few k count lengths.1

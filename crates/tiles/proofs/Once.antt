@@ -18,7 +18,7 @@ use Rattle.tiles.specs.declared.Said.{Said}
 use Rattle.tiles.specs.Index.{tiles, index_wrong, said_of}
 use Rattle.whole.specs.Lists.{occurs}
 use Rattle.tiles.specs.Check.{bad_at, first_bad, all_named, judged, check_of, EachPlaced, NoneAbove, EachOnce, UpToCount}
-use Rattle.tiles.proofs.Entry.{neither, index-long, count-all, said_all, entry_in, stored-in}
+use Rattle.tiles.proofs.Entry.{neither, index_long, count-all, said_all, entry_in, stored-in}
 use Rattle.tiles.proofs.First.{none_of}
 use Rattle.tiles.proofs.Counted.{occurs-at, place, named-each}
 use Rattle.tiles.proofs.Pass.{bad-again}
@@ -80,7 +80,7 @@ module _ (k : Card) (index : List ℕ) (count : ℕ) (w : Checked k index count)
   one_place true y n p q =
       let g = w.passes y in
       let r = place index n (named-each index count n g.1 p q) in
-      let l : length index ≡ tiles k = index-long k index count w.right y in
+      let l : length index ≡ tiles k = index_long k index count w.right y in
       record {
         at = r.at;
         inside = omega (arith, r.inside);
@@ -100,7 +100,7 @@ module _ (k : Card) (index : List ℕ) (count : ℕ) (w : Checked k index count)
   none_above : (y : Bool) → k.tif ≡ y → NoneAbove k (said_of k index count)
   none_above true y t h a =
       let e = get_or index t 0 in
-      let l : length index ≡ tiles k = index-long k index count w.right y in
+      let l : length index ≡ tiles k = index_long k index count w.right y in
       let g = none_of (bad_at count index) 0 (length index) (w.passes y).0 t (omega arith) (omega arith) in
       let b = ltb-false count e (neither (ltb count e) (not (eqb e 0) && occurs e (take t index)) g).0 in
       let c = entry_in k index count t Said.Above y a in

@@ -17,9 +17,9 @@ list_of k words = numbers_to words (index_length k)
 
 -- both are of the right length, no bit is set past the last tile, and each tile's number by the bits is its entry, both 0 past the last tile
 pub record Forms (k : Card) (index words : List ℕ) : Type 0 where
-  pub index-long : length index ≡ index_length k
+  pub index_long : length index ≡ index_length k
   pub words_long : length words ≡ words_length k
-  pub none-stray : stray_bit k words ≡ false
+  pub none_stray : stray_bit k words ≡ false
   pub entries : (t : ℕ) → number_at words t ≡ get_or index t 0
 
 -- bits of the right length with none past the last tile have a list

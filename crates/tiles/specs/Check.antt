@@ -5,7 +5,8 @@
 --     check_of ..             what `index_check` answers
 --     marked count entries marks    the marks by these entries: mark k − 1 is 1 where k is among them
 --     marks_of ..             what the marks then hold
-use Rattle.std.specs.Prelude.{◌≡◌, ℕ, zero, suc, ◌+◌, ◌≤◌, ◌<◌, List, [], ◌∷◌, ◌++◌, Bool, true, false, cond, not, ◌&&◌, ◌||◌, ltb, eqb, length, get_or, take, drop, replicate}
+use Rattle.std.specs.Prelude.{◌≡◌, ℕ, zero, suc, ◌+◌, ◌≤◌, ◌<◌, List, [], ◌∷◌, ◌++◌, Bool, true, false, cond, not, ◌&&◌, ◌||◌, ltb, eqb, length}
+use Rattle.std.specs.Prelude.{get_or, take, drop, replicate}
 use Rattle.std.proofs.Math.Option.{Option, some, none}
 use Rattle.whole.specs.Lists.{occurs, each, first_from, one_more}
 use Rattle.arc.specs.declared.Verdict.{Verdict}

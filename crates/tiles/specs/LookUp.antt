@@ -4,7 +4,8 @@
 --     number_of ..            what `stored_number` answers
 --     part_of ..              the bytes that `tile` hands back, none in a refusal
 --     bands_of ..             what `bands` answers: red, green, blue
-use Rattle.std.specs.Prelude.{◌≡◌, ℕ, ◌+◌, ◌*◌, ◌-◌, ◌%◌, ◌≤◌, ◌<◌, List, [], ◌∷◌, ◌++◌, Bool, cond, not, ◌||◌, eqb, length, get_or, take, drop, ℤ, pos, nat_abs}
+use Rattle.std.specs.Prelude.{◌≡◌, ℕ, ◌+◌, ◌*◌, ◌-◌, ◌%◌, ◌≤◌, ◌<◌, List, [], ◌∷◌, ◌++◌, Bool, cond, not, ◌||◌, eqb, length, get_or, take, drop, ℤ}
+use Rattle.std.specs.Prelude.{pos, nat_abs}
 use Rattle.arc.specs.declared.Refusal.{Refusal}
 use Rattle.arc.specs.Refusals.{refusal, refusal_at, Report, answered, refused_with, on_verdict}
 use Rattle.card.specs.declared.Card.{Card}

@@ -51,10 +51,10 @@ zone-rule lat h =
       rw ((outsides quarter lat).1 h) (ap ZoneAnswer.Zone (ap (zone_on lat) p.is)),
       record {
         at = p.at;
-        of-nine = p.in_list;
+        of_nine = p.in_list;
         holds = there (nat_abs lat) h;
         alone = alone (nat_abs lat);
         of_row = w.0;
-        southern-below = w.1;
+        southern_below = w.1;
       },
     )

@@ -18,11 +18,11 @@ Holds r size = (r.equatorward * 360000 ≤ size) × ((size < r.poleward * 360000
 
 pub record Found (lat : ℤ) (zone : ℕ) : Type 0 where
   pub at : ℕ
-  pub of-nine : at < 9
+  pub of_nine : at < 9
   pub holds : Holds (printed_at at) (nat_abs lat)
   pub alone : (j : ℕ) → j < 9 → Holds (printed_at j) (nat_abs lat) → j ≡ at
   pub of_row : (zone ≡ (printed_at at).northern) ⊎ (zone ≡ (printed_at at).southern)
-  pub southern-below : (zone ≡ (printed_at at).southern) ↔ (lat <ℤ pos 0)
+  pub southern_below : (zone ≡ (printed_at at).southern) ↔ (lat <ℤ pos 0)
 
 abbrev pub ZoneRule : Type 0
 ZoneRule = (lat : ℤ) → nat_abs lat ≤ 32400000 → (zone : ℕ) × (basic_zone_of lat ≡ ZoneAnswer.Zone zone) × Found lat zone

@@ -87,4 +87,5 @@ returns c =
 pub set_list_spec : {M : Type 1} → statement M
 set_list_spec =
     tie.close
-    (tie.spec invariant-loop decreases-loop loop-holds bit-requires cast-n add-n entry-requires mul-index slice-write-index add-t loop-less loop-again same_length returns)
+    (tie.spec invariant-loop decreases-loop loop-holds bit-requires cast-n add-n entry-requires mul-index slice-write-index add-t loop-less loop-again
+    same_length returns)

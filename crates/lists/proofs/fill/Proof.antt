@@ -46,7 +46,10 @@ clear-requires c κs = (room c.before.before.before).1
 
 fill-charted-requires : tie.Need-fill_charted-i-requires invariant-loop decreases-loop
 fill-charted-requires c κs =
-    let s = c in (s.requires.0, (even s.before.before.before.before.before.before.before, ((room s.before.before.before.before.before.before.before).0, (refl, omega arith))))
+    let s = c in (
+      s.requires.0,
+      (even s.before.before.before.before.before.before.before, ((room s.before.before.before.before.before.before.before).0, (refl, omega arith))),
+    )
 
 loop-holds : tie.Need-loop-i-init invariant-loop decreases-loop
 loop-holds c = λ out num h t. t
@@ -77,8 +80,13 @@ long c =
 fill-asked-requires : tie.Need-fill_asked-i-requires invariant-loop decreases-loop
 fill-asked-requires c κs =
     let l = c in
-    let s = start l.before.before.before in
-    (s.requires.0.known, (rw ((long l.before.before.before).0, (long l.before.before.before).1) (fit s), ((filled l.before.before.before).even, c.loop-i-test.true)))
+    let s = start l.before.before.before in (
+      s.requires.0.known,
+      (
+        rw ((long l.before.before.before).0, (long l.before.before.before).1) (fit s),
+        ((filled l.before.before.before).even, c.loop-i-test.true),
+      ),
+    )
 
 fill-charted-requires-2 : tie.Need-fill_charted-i-requires-in-loop-i invariant-loop decreases-loop
 fill-charted-requires-2 c κs =

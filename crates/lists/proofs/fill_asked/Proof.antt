@@ -15,7 +15,8 @@ use Rattle.lists.proofs.fill_asked.Statement.{statement}
 use Rattle.lists.proofs.fill_asked.Tie as tie
 
 abbrev invariant-loop : tie.invariant-loop-i
-invariant-loop pair k asked list values₀ numbers₀ from n i₀ values numbers i = AskedEntries (report_at pair asked k list) n from i values₀ values numbers₀ numbers
+invariant-loop pair k asked list values₀ numbers₀ from n i₀ values numbers i =
+    AskedEntries (report_at pair asked k list) n from i values₀ values numbers₀ numbers
 
 abbrev decreases-loop : tie.decreases-loop-i
 decreases-loop pair k asked list values₀ numbers₀ from n i₀ values numbers i = n - i
@@ -51,14 +52,28 @@ put-values-requires c κs =
     let t = c in
     let r = t.loop-i.invariant in
     let s = t in
-    omega (arith, t.loop-i-test.true, r.even, r.kept, even s.before.before.before.before.before.before.before.before.before.before, room s.before.before.before.before.before.before.before.before.before.before)
+    omega (
+      arith,
+      t.loop-i-test.true,
+      r.even,
+      r.kept,
+      even s.before.before.before.before.before.before.before.before.before.before,
+      room s.before.before.before.before.before.before.before.before.before.before,
+    )
 
 put-number-requires : tie.Need-put_number-requires invariant-loop decreases-loop
 put-number-requires c κs =
     let t = c in
     let r = t.loop-i.invariant in
     let s = t in
-    omega (arith, t.loop-i-test.true, r.even, r.kept, even s.before.before.before.before.before.before.before.before.before.before.before.before.before, room s.before.before.before.before.before.before.before.before.before.before.before.before.before)
+    omega (
+      arith,
+      t.loop-i-test.true,
+      r.even,
+      r.kept,
+      even s.before.before.before.before.before.before.before.before.before.before.before.before.before,
+      room s.before.before.before.before.before.before.before.before.before.before.before.before.before,
+    )
 
 -- the turn, once the card was asked
 abbrev turn : tie.After-put_number invariant-loop decreases-loop → tie.In-loop-i invariant-loop decreases-loop
@@ -125,5 +140,6 @@ returns-2 c = (c.loop-i.invariant, omega (arith, c.loop-i-test.false, c.requires
 pub fill_asked_spec : {M : Type 1} → statement M
 fill_asked_spec =
     tie.close
-    (tie.spec invariant-loop decreases-loop loop-holds entry-at-requires answer-entry-requires put-values-requires put-number-requires add-i same_length same-length-2
+    (tie.spec invariant-loop decreases-loop loop-holds entry-at-requires answer-entry-requires put-values-requires put-number-requires add-i same_length
+    same-length-2
     returns loop-less loop-again same-length-3 same-length-4 returns-2)

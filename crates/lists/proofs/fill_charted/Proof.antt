@@ -74,7 +74,8 @@ loop-again c =
     let s = t in
     let b = c in
     let f = c.in-At.known_told-1-own.given in
-    let told : reports s.before.before.before.before.before.before.before.before.before.before.before (entries l.i) ≡ answered (c.in-At.first ∷ c.in-At.second ∷ []) =
+    let told : reports s.before.before.before.before.before.before.before.before.before.before.before (entries l.i)
+    ≡ answered (c.in-At.first ∷ c.in-At.second ∷ []) =
     sym
     (pair-asked (asked_report s.args.e.pair s.args.asked s.args.e.card) {u = b.entry_at-x.result.first} {v = b.entry_at-x.result.second}
     (record { sfits = c.struct_told-1.given.0.1 })
@@ -83,7 +84,9 @@ loop-again c =
     (b.entry_at-x.ensures ∙ entry-from s.args.list.now l.i l.invariant.even))
     ∙ c.on_chart.ensures.at c.in-At.first c.in-At.second c.in-At.is in
     rw c.put_values.ensures
-    (charted-next (reports s.before.before.before.before.before.before.before.before.before.before.before) (two s.before.before.before.before.before.before.before.before.before.before.before) (length s.args.list.now) s.requires.1.0 l.invariant t.loop-i-test.true c.in-At.first c.in-At.second
+    (charted-next (reports s.before.before.before.before.before.before.before.before.before.before.before)
+    (two s.before.before.before.before.before.before.before.before.before.before.before)
+    (length s.args.list.now) s.requires.1.0 l.invariant t.loop-i-test.true c.in-At.first c.in-At.second
     (record { sfits = f.0.1 }) (record { sfits = f.1.0.1 }) (ap (λ (r : Report). r.values) told) (ap (λ (r : Report). r.number) told))
 
 same-length-2 : tie.Need-shape_of-values invariant-loop decreases-loop
@@ -95,5 +98,6 @@ returns-2 c = c.loop-i.invariant
 pub fill_charted_spec : {M : Type 1} → statement M
 fill_charted_spec =
     tie.close
-    (tie.spec invariant-loop decreases-loop west-of-requires loop-holds entry-at-requires on-chart-requires (λ c. search rules) put-values-requires (λ c. search rules)
+    (tie.spec invariant-loop decreases-loop west-of-requires loop-holds entry-at-requires on-chart-requires (λ c. search rules) put-values-requires
+    (λ c. search rules)
     same_length returns add-i loop-less loop-again same-length-2 returns-2)

@@ -3,7 +3,6 @@ use Rattle.std.proofs.Common.{◌≡◌, ℕ, ◌*◌, ◌≤◌, ◌<◌, ◌^�
 use Rattle.whole.proofs.Signed.{is-difference}
 use Rattle.whole.proofs.Machine.{told}
 use Rattle.arc.specs.Zones.{circle, half, quarter}
-use Rattle.arc.specs.Spacing.{Grid}
 use Rattle.origin.specs.declared.Origin.{Origin}
 use Rattle.origin.specs.Origin.{origin_of}
 use Rattle.origin.specs.Steps.{stored_from}
@@ -22,13 +21,21 @@ pub overflow_cast-pso : goal.overflow_cast-pso
 overflow_cast-pso c =
     let g = c.requires.b_on_grid in
     let rows = latitudes c.args.b g in
-    omega (arith, stored_fits rows c.stored_at-pso.ensures (omega (arith, spanned rows c.args.north c.requires.north_in_range)) (omega (arith, g.most)) (omega arith))
+    omega (
+      arith,
+      stored_fits rows c.stored_at-pso.ensures (omega (arith, spanned rows c.args.north c.requires.north_in_range)) (omega (arith, g.most))
+          (omega arith),
+    )
 
 pub overflow_cast-lso : goal.overflow_cast-lso
 overflow_cast-lso c =
     let g = c.requires.a_on_grid in
     let columns = longitudes c.args.a g in
-    omega (arith, stored_fits columns c.stored_at-lso.ensures (omega (arith, spanned columns c.args.east c.requires.east_in_range)) (omega (arith, g.most)) (omega arith))
+    omega (
+      arith,
+      stored_fits columns c.stored_at-lso.ensures (omega (arith, spanned columns c.args.east c.requires.east_in_range)) (omega (arith, g.most))
+          (omega arith),
+    )
 
 pub returns : goal.returns
 unfolding origin_of

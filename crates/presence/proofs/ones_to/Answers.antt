@@ -1,5 +1,5 @@
 -- Whole words first, then the masked one. Assumes nothing.
-use Rattle.std.proofs.Common.{◌≡◌, ℕ, List, ◌+◌, ◌-◌, ◌*◌, ◌/◌, ◌%◌, ◌^◌, ◌≤◌, get_or, bit_and, ap, ◌∙◌, sym, arith}
+use Rattle.std.proofs.Common.{◌≡◌, ℕ, List, ◌+◌, ◌-◌, ◌*◌, ◌/◌, ◌%◌, ◌^◌, get_or, bit_and, ap, ◌∙◌, sym, arith}
 use lib.Count.{ones, ones-le}
 use Rattle.presence.specs.Presence.{counted}
 use Rattle.presence.proofs.Ones.{whole_word, last_word}

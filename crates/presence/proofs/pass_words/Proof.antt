@@ -65,4 +65,5 @@ returns-3 c = let v = c.loop-i.invariant in record { inside = v.1; number = v.2;
 pub pass_words_spec : {M : Type 1} → statement M
 pass_words_spec =
     tie.close
-    (tie.spec invariant-loop decreases-loop loop-holds mul-more shared-slice-read-more cast-more add-more add-i loop-less loop-again returns returns-2 returns-3)
+    (tie.spec invariant-loop decreases-loop loop-holds mul-more shared-slice-read-more cast-more add-more add-i loop-less loop-again returns returns-2
+    returns-3)

@@ -2,7 +2,7 @@
 use mathlib.Core.Path.{sym, ◌∙◌}
 use native.Mathlib.Omega.{arith}
 use borrow.Author.Tests.{not-true, not-false}
-use Rattle.tiles.proofs.Entry.{tiles-small, index-long, said_in, said_all}
+use Rattle.tiles.proofs.Entry.{tiles-small, index_long, said_in, said_all}
 use Rattle.tiles.proofs.index_says.Statement.{statement}
 use Rattle.tiles.proofs.index_says.Tie as tie
 
@@ -14,7 +14,7 @@ returns c = sym (said_all _ _ _ _ (not-true _ c.if-not-k.true))
 
 entry-says-requires : tie.Need-entry_says-requires
 entry-says-requires c κs =
-    omega (arith, index-long _ _ _ c.requires.1.0 (not-false _ c.if-not-k.false))
+    omega (arith, index_long _ _ _ c.requires.1.0 (not-false _ c.if-not-k.false))
 
 returns-2 : tie.Need-returns
 returns-2 c = c.entry_says.ensures ∙ sym (said_in _ _ _ _ (not-false _ c.if-not-k.false))

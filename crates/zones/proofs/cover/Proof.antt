@@ -51,5 +51,6 @@ returns-3 c = rw (sym c.b_constant.ensures ∙ c.in-Refused.is) c.no_cover-in-Re
 pub cover_spec : {M : Type 1} → statement M
 cover_spec =
     tie.close
-    (tie.spec (λ c κs. search rules) (λ c. search rules) (λ c κs. search rules) (λ c. search rules) (λ c. (first-is c).0) cover-from-requires (λ c. search rules)
+    (tie.spec (λ c κs. search rules) (λ c. search rules) (λ c κs. search rules) (λ c. search rules) (λ c. (first-is c).0) cover-from-requires
+    (λ c. search rules)
     (λ c κs. search rules) (λ c κs. search rules) (λ c. search rules) (λ c κs. search rules) returns returns-2 returns-3)

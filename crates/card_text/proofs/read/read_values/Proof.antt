@@ -87,7 +87,8 @@ answer c q =
 returns : tie.Need-returns-then-not-values-a
 returns c =
     let s = c in
-    rw (values s.before.before.before.before, not-true (spaced s.before.before.before.before) c.if-not-values-a.true-raw) (c.refused_with.ensures ∙ ap refused_card c.refused.ensures)
+    rw (values s.before.before.before.before, not-true (spaced s.before.before.before.before) c.if-not-values-a.true-raw)
+    (c.refused_with.ensures ∙ ap refused_card c.refused.ensures)
 
 tile-of-requires : tie.Need-tile_of-requires
 tile-of-requires c κs = let s = c in (s.requires.1.0, omega (arith, pso-kept s.requires.0 s.requires.1.0 s.requires.1.1))
@@ -128,8 +129,10 @@ returns-4 c =
 card-of-requires : tie.Need-card_of-requires
 card-of-requires c κs =
     let east = c in
-    let s = start (northward east.before.before.before.before.before) in
-    (omega (arith, rows (northward east.before.before.before.before.before), s.requires.1.0.most), omega (arith, columns east.before.before.before.before.before, s.requires.0.most))
+    let s = start (northward east.before.before.before.before.before) in (
+      omega (arith, rows (northward east.before.before.before.before.before), s.requires.1.0.most),
+      omega (arith, columns east.before.before.before.before.before, s.requires.0.most),
+    )
 
 blanks-in-requires : tie.Need-blanks_in-requires
 blanks-in-requires c κs = (start (northward (eastward c.before.before))).requires.1.1.long

@@ -39,14 +39,17 @@ parts-fits v h = is-fits (pos v -ℤ pos (quarter * coarse)) v (quarter * coarse
 sub-whole-parts-2 : tie.Need-overflow_sub-x-2
 sub-whole-parts-2 c =
     let s = c in
-    rw (to_z_pos w64 (parts s.before.before.before) (omega (arith, parts_low s.before.before.before))) (parts-fits (parts s.before.before.before) (parts_low s.before.before.before))
+    rw (to_z_pos w64 (parts s.before.before.before) (omega (arith, parts_low s.before.before.before)))
+    (parts-fits (parts s.before.before.before) (parts_low s.before.before.before))
 
 returns : tie.Need-returns
 returns c =
     let s = c in
     let low = parts_low s.before.before.before.before in
-    let held : to_z w64 (of_z w64 (to_z w64 (parts s.before.before.before.before) -ℤ pos (quarter * coarse))) ≡ pos (parts s.before.before.before.before) -ℤ pos (quarter * coarse) =
-    rw (to_z_pos w64 (parts s.before.before.before.before) (omega arith)) (to_z-of_z w64 (pos (parts s.before.before.before.before) -ℤ pos (quarter * coarse)) (parts-fits (parts s.before.before.before.before) low)) in
+    let held : to_z w64 (of_z w64 (to_z w64 (parts s.before.before.before.before) -ℤ pos (quarter * coarse)))
+    ≡ pos (parts s.before.before.before.before) -ℤ pos (quarter * coarse) =
+    rw (to_z_pos w64 (parts s.before.before.before.before) (omega arith))
+    (to_z-of_z w64 (pos (parts s.before.before.before.before) -ℤ pos (quarter * coarse)) (parts-fits (parts s.before.before.before.before) low)) in
     result-is c.whole_parts.type_inv
     (c.whole_parts.ensures
     ∙ ap (λ (z : ℤ). floor_div z coarse) held

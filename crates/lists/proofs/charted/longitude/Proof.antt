@@ -31,7 +31,8 @@ cast-whole-parts : tie.Need-overflow_cast-x
 cast-whole-parts c = omega (arith, from_low c.before.before)
 
 sub-whole-parts : tie.Need-overflow_sub-x
-sub-whole-parts c = let s = c in from-fits (from s.before.before) (more s.before.before) (from_low s.before.before) (more-low s.before.before) (total-low s.before.before)
+sub-whole-parts c =
+    from-fits (from c.before.before) (more c.before.before) (from_low c.before.before) (more-low c.before.before) (total-low c.before.before)
 
 mul-whole-parts : tie.Need-overflow_mul-column
 mul-whole-parts c = record { fits = omega (arith, more-low c.before.before.before) }
@@ -40,31 +41,39 @@ cast-whole-parts-2 : tie.Need-overflow_cast-column
 cast-whole-parts-2 c = omega (arith, more-low c.before.before.before)
 
 add-whole-parts : tie.Need-overflow_add-x
-add-whole-parts c = let s = c in sum_fits (from s.before.before.before) (more s.before.before.before) (from_low s.before.before.before) (more-low s.before.before.before) (total-low s.before.before.before)
+add-whole-parts c =
+    sum_fits (from c.before.before.before) (more c.before.before.before) (from_low c.before.before.before) (more-low c.before.before.before)
+    (total-low c.before.before.before)
 
 -- the floor
 whole : (c : tie.After-whole_parts-t)
     → c.whole_parts-t.result ≡ pos ((from c.before.before.before.before + more c.before.before.before.before) / coarse) -ℤ pos circle
-whole c = let s = c in c.whole_parts-t.ensures ∙ sum-floor (from s.before.before.before.before) (more s.before.before.before.before) (from_low s.before.before.before.before) (more-low s.before.before.before.before) (total-low s.before.before.before.before)
+whole c = let s = c in c.whole_parts-t.ensures
+    ∙ sum-floor (from s.before.before.before.before) (more s.before.before.before.before) (from_low s.before.before.before.before)
+    (more-low s.before.before.before.before) (total-low s.before.before.before.before)
 
 add-result : tie.Need-overflow_add-result
 add-result c =
-    let s = c in up_fits _ ((from s.before.before.before.before.before + more s.before.before.before.before.before) / coarse) (whole c.before) (total-low s.before.before.before.before.before)
+    let s = c in up_fits _ ((from s.before.before.before.before.before + more s.before.before.before.before.before) / coarse) (whole c.before)
+    (total-low s.before.before.before.before.before)
 
 returns : tie.Need-returns-then-t-lt0
 returns c =
     let s = c in
-    up-held _ ((from s.before.before.before.before.before + more s.before.before.before.before.before) / coarse) (whole c.before) (total-low s.before.before.before.before.before) c.if-t-lt0.true
+    up-held _ ((from s.before.before.before.before.before + more s.before.before.before.before.before) / coarse) (whole c.before)
+    (total-low s.before.before.before.before.before) c.if-t-lt0.true
     ∙ ap (λ (n : ℕ). pos (n % circle) -ℤ pos half) (column-angle _ s.requires.0 _ s.requires.1)
 
 sub-result : tie.Need-overflow_sub-result
 sub-result c =
-    let s = c in down_fits _ ((from s.before.before.before.before.before + more s.before.before.before.before.before) / coarse) (whole c.before) (total-low s.before.before.before.before.before)
+    let s = c in down_fits _ ((from s.before.before.before.before.before + more s.before.before.before.before.before) / coarse) (whole c.before)
+    (total-low s.before.before.before.before.before)
 
 returns-2 : tie.Need-returns
 returns-2 c =
     let s = c in
-    down-held _ ((from s.before.before.before.before.before + more s.before.before.before.before.before) / coarse) (whole c.before) (total-low s.before.before.before.before.before) c.if-t-lt0.false
+    down-held _ ((from s.before.before.before.before.before + more s.before.before.before.before.before) / coarse) (whole c.before)
+    (total-low s.before.before.before.before.before) c.if-t-lt0.false
     ∙ ap (λ (n : ℕ). pos (n % circle) -ℤ pos half) (column-angle _ s.requires.0 _ s.requires.1)
 
 pub longitude_spec : {M : Type 1} → statement M

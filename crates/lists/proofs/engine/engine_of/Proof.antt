@@ -52,7 +52,13 @@ unfolding engine_of
 returns c =
     let a = c in
     let b = a in
-    rw (c.across_of-across.ensures, c.down_of-down.ensures, a.axis_of-columns.ensures, b.axis_of-rows.ensures, shift b.before.before.before.before.before.before)
+    rw (
+      c.across_of-across.ensures,
+      c.down_of-down.ensures,
+      a.axis_of-columns.ensures,
+      b.axis_of-rows.ensures,
+      shift b.before.before.before.before.before.before,
+    )
 
 pub engine_of_spec : {M : Type 1} → statement M
 engine_of_spec =

@@ -40,4 +40,5 @@ returns-2 c =
 pub put_pixel_spec : {M : Type 1} → statement M
 put_pixel_spec =
     tie.close
-    (tie.spec (λ c κs. search rules) (λ c. search rules) position-at-requires put-line-requires (λ c. search rules) (λ c κs. search rules) (λ c. search rules) returns (λ c. search rules) returns-2)
+    (tie.spec (λ c κs. search rules) (λ c. search rules) position-at-requires put-line-requires (λ c. search rules) (λ c κs. search rules)
+    (λ c. search rules) returns (λ c. search rules) returns-2)

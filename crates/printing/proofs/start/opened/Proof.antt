@@ -18,4 +18,5 @@ returns-2 c = let p = c in
 pub opened_spec : {M : Type 1} → statement M
 opened_spec =
     tie.close
-    (tie.spec (λ c. search rules) (λ c κs. search rules) (λ c. search rules) (λ c κs. search rules) (λ c κs. search rules) (λ c. search rules) returns (λ c. search rules) returns-2)
+    (tie.spec (λ c. search rules) (λ c κs. search rules) (λ c. search rules) (λ c κs. search rules) (λ c κs. search rules) (λ c. search rules) returns
+    (λ c. search rules) returns-2)

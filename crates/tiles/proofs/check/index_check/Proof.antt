@@ -54,7 +54,11 @@ returns-4 c =
     let a = h.args in
     let p = c.mark_entries.ensures in
     let n : List ℕ = before a.index.now (first_bad a.count a.index.now) in
-    rw (right h.before.before.before.before.before.before.before.before.before.before.before, le-ltb _ _ h.if-marks-count.false, not-false a.k.tif f.if-not-k.false) (
+    rw (
+      right h.before.before.before.before.before.before.before.before.before.before.before,
+      le-ltb _ _ h.if-marks-count.false,
+      not-false a.k.tif f.if-not-k.false,
+    ) (
       p.0,
       p.1 ∙ ap (λ (s : List ℕ). listed (mark_at n) a.count ++ s)
           (filled-rest 0 a.count a.marks.now f.fill-2.new.marks h.if-marks-count.false f.fill-2.ensures),

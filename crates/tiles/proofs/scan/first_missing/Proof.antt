@@ -156,5 +156,6 @@ returns-3 c = ap WindowAnswer.Refused c.bad_entry.ensures
 pub first_missing_spec : {M : Type 1} → statement M
 first_missing_spec =
     tie.close
-    (tie.spec invariant-loop decreases-loop invariant-rows decreases-rows rows-holds add_start mul-start add-start-2 loop-holds add-tile tile-says-requires (λ c. search rules)
+    (tie.spec invariant-loop decreases-loop invariant-rows decreases-rows rows-holds add_start mul-start add-start-2 loop-holds add-tile tile-says-requires
+    (λ c. search rules)
     (λ c. search rules) (λ c. search rules) bad-entry-requires add-c loop-less loop-again add_r rows-less rows-again returns returns-2 returns-3)

@@ -1,7 +1,0 @@
--- The numbers are those of the parts, which fit their widths, and the total is passed on. Assumes nothing.
-use borrow.Author.Rules.{rules}
-use Rattle.fordcask.proofs.on_card.pixel_on.Statement.{statement}
-use Rattle.fordcask.proofs.on_card.pixel_on.Tie as tie
-
-pub pixel_on_spec : {M : Type 1} → statement M
-pixel_on_spec = tie.close (tie.spec (λ c κs. search rules) (λ c. rw c.passed_with.ensures (search rules)))

@@ -1,7 +1,0 @@
--- The numbers are those of the parts, and the total is passed on. Assumes nothing.
-use borrow.Author.Rules.{rules}
-use Rattle.fordcask.proofs.on_card.window_on.Statement.{statement}
-use Rattle.fordcask.proofs.on_card.window_on.Tie as tie
-
-pub window_on_spec : {M : Type 1} → statement M
-window_on_spec = tie.close (tie.spec (λ c κs. search rules) (λ c. rw c.passed_with.ensures))
