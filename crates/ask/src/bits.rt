@@ -47,6 +47,7 @@ pub fn asked(
 }
 
 // Reading's refusals, then those of the stored number.
+#[tactic(auto, using(fordcask::proofs::KnownCards::known_cards))]
 fn number_of(
     s: Stated,
     card: &[u8],
@@ -78,6 +79,7 @@ fn number(
 }
 
 // The part of the store; none where reading refuses.
+#[tactic(auto, using(fordcask::proofs::KnownCards::known_cards))]
 fn part<'a>(
     s: Stated,
     card: &[u8],

@@ -121,6 +121,7 @@ fn extents(rt: &HostRuntime, series: Series, card: &[u8]) -> io::Result<()> {
 }
 
 // What a pixel is refused with, after reading's own refusals.
+#[tactic(auto, using(fordcask::proofs::KnownCards::known_cards))]
 fn judged(series: Series, card: &[u8], row: i64, column: i64) -> Refusal {
     let reading = card_text::read_card(series, card);
     let verdict = reading.verdict;

@@ -96,6 +96,7 @@ fn answered<'a>(
 }
 
 // Reading's refusals, then those of the number.
+#[tactic(auto, using(fordcask::proofs::KnownCards::known_cards))]
 fn number_of(
     x: Question,
     card: &[u8],
@@ -138,6 +139,7 @@ fn number(
 }
 
 // The part of either store; none where reading refuses.
+#[tactic(auto, using(fordcask::proofs::KnownCards::known_cards))]
 fn part<'a>(
     x: Question,
     card: &[u8],

@@ -49,6 +49,7 @@ pub fn asked(
 }
 
 // Reading's refusals, then those of the stored number.
+#[tactic(auto, using(fordcask::proofs::KnownCards::known_cards))]
 fn number_of(
     s: Stated,
     card: &[u8],
@@ -80,6 +81,7 @@ fn stored_number(
 }
 
 // The part of the store; none where reading refuses.
+#[tactic(auto, using(fordcask::proofs::KnownCards::known_cards))]
 fn part<'a>(
     s: Stated,
     card: &[u8],

@@ -1,4 +1,6 @@
 // Lists of pixels and of positions of a card, handed in as its bytes with scale, factor and zone (01, "Origins and the zone grid"; 02, E8).
+#![tactic(auto, using(crate::proofs::KnownCards::known_cards))]
+
 ghost use Rattle.std.specs.Prelude.{◌≡◌, length};
 ghost use Rattle.arc.specs.declared.Verdict.{Verdict};
 ghost use Rattle.arc.specs.Refusals.{refusal_of};

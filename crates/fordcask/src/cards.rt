@@ -1,4 +1,6 @@
 // Questions on a card, handed in as its bytes with scale, factor and zone (01, "Origins and the zone grid"; 02, E8).
+#![tactic(auto, using(crate::proofs::KnownCards::known_cards))]
+
 ghost use Rattle.std.specs.Prelude.{◌≡◌};
 ghost use Rattle.arc.specs.Refusals.{refusal_of, refused_with};
 ghost use Rattle.card.specs.declared.Pair.{Pair};

@@ -1,4 +1,6 @@
 // Questions on a card, its tile index as presence bits and the corrections beside it (02, E1, E7).
+#![tactic(auto, using(crate::proofs::KnownCards::known_cards))]
+
 ghost use Rattle.std.specs.Prelude.{◌≡◌};
 ghost use Rattle.card.specs.Read.{read_of, on_card, told_on_card};
 ghost use Rattle.tiles.specs.declared.SourceAnswer.{SourceAnswer};

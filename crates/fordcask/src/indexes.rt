@@ -1,4 +1,6 @@
 // Questions on a card and its tile index (01, "Tiles").
+#![tactic(auto, using(crate::proofs::KnownCards::known_cards))]
+
 ghost use Rattle.std.specs.Prelude.{◌≡◌};
 ghost use Rattle.arc.specs.declared.Verdict.{Verdict};
 ghost use Rattle.arc.specs.Refusals.{refusal_of};

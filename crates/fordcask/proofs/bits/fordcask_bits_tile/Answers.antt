@@ -1,16 +1,12 @@
--- The card of an accepted reading is known, and a stored number's tile lies in the store. Assumes nothing.
+-- A stored number's tile lies in the store. Assumes nothing.
 use Rattle.std.proofs.Common.{◌^◌, ◌<◌, length, sym, subst, ◌∙◌, arith}
 use Rattle.card.proofs.Answers.{pair-asked}
-use Rattle.card.proofs.Questions.{card-known}
 use Rattle.tiles.specs.declared.NumberAnswer.{NumberAnswer}
 use Rattle.tiles.specs.Bits.{bits_number_of}
 use Rattle.tiles.specs.Steps.{HeldIn}
 use Rattle.tiles.proofs.Held.{bits-number-in-store}
 use Rattle.fordcask.proofs.Questions.{numbered}
 use Rattle.fordcask.proofs.bits.fordcask_bits_tile.Goals as goal
-
-pub bits_number-requires : goal.bits_number-requires
-bits_number-requires c = card-known _ _ c.read_card-reading.ensures c.in-Accepted.is
 
 pub number_tile-requires : goal.number_tile-requires
 number_tile-requires c =

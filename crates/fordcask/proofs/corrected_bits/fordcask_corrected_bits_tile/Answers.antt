@@ -1,16 +1,12 @@
--- The card of an accepted reading is known, and a stored number's tile lies in the store that is named. Assumes nothing.
+-- A stored number's tile lies in the store that is named. Assumes nothing.
 use Rattle.std.proofs.Common.{◌^◌, ◌<◌, length, sym, subst, ◌∙◌, arith}
 use Rattle.card.proofs.Answers.{pair-asked}
-use Rattle.card.proofs.Questions.{card-known}
 use Rattle.tiles.specs.declared.SourceAnswer.{SourceAnswer}
 use Rattle.tiles.specs.Bits.{bits_source_of}
 use Rattle.tiles.specs.Steps.{Held}
 use Rattle.tiles.proofs.Held.{bits-source-in-store}
 use Rattle.fordcask.proofs.Questions.{from-source}
 use Rattle.fordcask.proofs.corrected_bits.fordcask_corrected_bits_tile.Goals as goal
-
-pub corrected_bits_number-requires : goal.corrected_bits_number-requires
-corrected_bits_number-requires c = card-known _ _ c.read_card-reading.ensures c.in-Accepted.is
 
 pub source_tile-requires : goal.source_tile-requires
 source_tile-requires c =

@@ -1,16 +1,12 @@
--- The card of an accepted reading is known, and a stored number's tile lies in the store. Assumes nothing.
+-- A stored number's tile lies in the store. Assumes nothing.
 use Rattle.std.proofs.Common.{◌^◌, ◌<◌, length, sym, subst, ◌∙◌, arith}
 use Rattle.card.proofs.Answers.{pair-asked}
-use Rattle.card.proofs.Questions.{card-known}
 use Rattle.tiles.specs.declared.NumberAnswer.{NumberAnswer}
 use Rattle.tiles.specs.LookUp.{number_of}
 use Rattle.tiles.specs.Steps.{HeldIn}
 use Rattle.tiles.proofs.Held.{number-in-store}
 use Rattle.fordcask.proofs.Questions.{numbered}
 use Rattle.fordcask.proofs.indexes.fordcask_tile.Goals as goal
-
-pub stored_number-requires : goal.stored_number-requires
-stored_number-requires c = card-known _ _ c.read_card-reading.ensures c.in-Accepted.is
 
 pub number_tile-requires : goal.number_tile-requires
 number_tile-requires c =
