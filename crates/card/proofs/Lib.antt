@@ -18,5 +18,6 @@ pub mod Doubles
 pub mod Applied
 pub mod Answered
 pub mod Nearest
+mod Edges
 pub mod Containing
 pub mod Questions
