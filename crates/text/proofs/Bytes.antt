@@ -5,7 +5,6 @@ use Rattle.std.proofs.Common.{refl, ap, ◌∙◌, le_of_suc-le-suc, not-suc-le-
 use Rattle.std.proofs.Common.{get_or-drop, drop-cons, get_or-take, take-suc, take-take, drop-drop, take-suc-set, take_at, take-add, drop_at}
 use mathlib.Core.Bool.{and_assoc, and-eq-true_iff}
 use Rattle.text.specs.Text.{part, all}
-use Rattle.text.specs.Buffer.{less_zero, summed}
 
 -- ---- the next byte
 
@@ -16,10 +15,6 @@ drop-next s i h = rw add-one (drop-cons s i 0 h)
 pub all-next : (f : ℕ → Bool) (ok : Bool) (s : List ℕ) (i : ℕ) → i < length s
     → ((ok && f (get_or s i 0)) && all f (drop (i + 1) s)) ≡ (ok && all f (drop i s))
 all-next f ok s i h = rw (drop-next s i h) (and_assoc ok (f (get_or s i 0)) (all f (drop (i + 1) s)))
-
--- one byte more is read
-pub summed-next : (v : ℕ) (s : List ℕ) (i : ℕ) → i < length s → summed (v * 10 + less_zero (get_or s i 0)) (drop (i + 1) s) ≡ summed v (drop i s)
-summed-next v s i h = rw (drop-next s i h)
 
 -- one byte more is copied
 pub copy-next : (r q : List ℕ) (i : ℕ) → i < length r → i < length q → take i r ≡ take i q

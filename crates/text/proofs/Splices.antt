@@ -1,11 +1,13 @@
 -- A text put into a buffer at an offset: texts put one after the other are one text, and a loop that stores a text from its last
 -- byte to its first has put it. Assumes nothing.
-use Rattle.std.proofs.Common.{◌≡◌, ℕ, suc, ◌+◌, ◌-◌, ◌<◌, ◌≤◌, Bool, true, false, cond, not, leb, List, [], ◌∷◌, ◌++◌, length, get_or, take, drop}
+use Rattle.std.proofs.Common.{◌≡◌, ℕ, suc, ◌+◌, ◌-◌, ◌/◌, ◌%◌, ◌^◌, ◌<◌, ◌≤◌, Bool, true, false, cond, not, leb, List, [], ◌∷◌, ◌++◌, length, get_or, take, drop}
 use Rattle.std.proofs.Common.{set, sym, refl, ap, ◌∙◌, append_assoc, add-zero, add_assoc, zero-add, add-one, arith, length-append, length-drop}
 use Rattle.std.proofs.Common.{take-append-drop, length-take, length-take-le, drop-cons, take-suc, drop-drop, take_at, le-leb, leb-false, leb-true}
 use lib.Seq.{set_at, set_split, append_snoc, drop-append-add, drop-length}
 use borrow.Author.Tests.{lt-leb, not-true, not-false}
+use borrow.Rule.Slice.PartMut.{put_mid}
 use Rattle.whole.specs.Lists.{over}
+use Rattle.text.specs.Text.{digits}
 use Rattle.text.specs.Buffer.{splice, has_room, put_at, end_of}
 use Rattle.text.specs.Steps.{Put}
 
@@ -111,40 +113,33 @@ module _ {x s t : List ℕ} {o r : ℕ} where
         holds = b.holds ∙ rw (a.holds, a.ends) (splice-splice o x y s (omega (arith, a.ends, a.fits)));
       }
 
--- ---- a loop: the bytes of a text from its j-th on stand at the offset
+-- ---- what the code does
 
-pub record Ending (x s : List ℕ) (o : ℕ) (t : List ℕ) (j : ℕ) : Type 0 where
-  pub fits : o + length x ≤ length s
-  pub within : j ≤ length x
-  pub so : t ≡ splice (o + j) (drop j x) s
+pub none_left : (x : List ℕ) (o : ℕ) (s : List ℕ) → length s < o + length x → put_at x o s ≡ s
+unfolding put_at
+none_left x o s h = rw (lt-leb (o + length x) (length s) h)
 
-pub ending-none : (x s : List ℕ) (o : ℕ) → o + length x ≤ length s → Ending x s o s (length x)
-ending-none x s o h = record { fits = h; within = omega arith; so = rw (drop-length x) (sym (splice-nil (o + length x) s)) }
+pub none_ends : (x : List ℕ) (o : ℕ) (s : List ℕ) → length s < o + length x → end_of x o s ≡ o
+unfolding end_of
+none_ends x o s h = rw (lt-leb (o + length x) (length s) h)
 
-module _ {x s t : List ℕ} {o j : ℕ} (p : Ending x s o t j) where
-  pub ending-length : length t ≡ length s
-  ending-length =
-      let f = p.fits in
-      let w = p.within in
-      ap length p.so ∙ length-splice (o + j) (drop j x) s (omega (arith, length-drop j x))
+pub put_ends : (x : List ℕ) (o : ℕ) (s : List ℕ) → o + length x ≤ length s → end_of x o s ≡ o + length x
+unfolding end_of
+put_ends x o s h = rw (le-leb (o + length x) (length s) h)
 
-  -- one turn
-  pub ending-next : (b : ℕ) → 0 < j → get_or x (j - 1) 0 ≡ b → Ending x s o (set t (o + (j - 1)) b) (j - 1)
-  ending-next b h e =
-      let f = p.fits in
-      let w = p.within in
-      let n : suc (j - 1) ≡ j = omega arith in
-      let m : suc (o + (j - 1)) ≡ o + j = omega arith in
-      let d : b ∷ drop j x ≡ drop (j - 1) x = sym (rw (n, e) at (drop-cons x (j - 1) 0 (omega arith))) in
-      let q : set (splice (suc (o + (j - 1))) (drop j x) s) (o + (j - 1)) b ≡ splice (o + (j - 1)) (b ∷ drop j x) s =
-      splice_front (o + (j - 1)) b (drop j x) s (omega arith) in
-      record { fits = f; within = omega arith; so = rw (p.so, ← d) (rw m at q) }
+-- a part of the buffer is written
+pub part_left : (x : List ℕ) (o k : ℕ) (s : List ℕ) → o + length x ≤ length s → k ≡ length x → put_mid o k s x ≡ put_at x o s
+unfolding put_at splice
+part_left x o k s h e = rw (le-leb (o + length x) (length s) h, e, drop-drop (length x) o s)
 
-  -- the last turn
-  pub ending-all : j ≡ 0 → Put x o s t (o + length x)
-  ending-all e = record { ends = refl; fits = p.fits; holds = rw (e, add-zero) at p.so }
+-- one byte is written
+pub byte_left : (o b : ℕ) (s : List ℕ) → o < length s → set s o b ≡ put_at (b ∷ []) o s
+unfolding put_at splice
+byte_left o b s h = rw (le-leb (o + 1) (length s) (omega arith), set_split s o b h, add-one)
 
--- one byte
-pub put_one : (s : List ℕ) (o b : ℕ) → o < length s → Put (b ∷ []) o s (set s o b) (o + 1)
-unfolding splice
-put_one s o b h = record { ends = refl; fits = omega arith; holds = rw add-one (set_split s o b h) }
+pub ruleset putting = (none_left, none_ends, put_ends, part_left, byte_left)
+
+-- the last k digits stand at an offset, and one more is written before them
+pub digit_before : (v k o : ℕ) (s : List ℕ) → o < length s
+    → set (splice (o + 1) (digits k v) s) o (48 + v / 10 ^ k % 10) ≡ splice o (digits (k + 1) v) s
+digit_before v k o s h = rw (add-one, add-one) (splice_front o (48 + v / 10 ^ k % 10) (digits k v) s h)
