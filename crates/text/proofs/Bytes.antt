@@ -1,6 +1,6 @@
 -- Laws of runs of bytes: the next byte of what is left, a run at its offset, a run of a run, a run in two parts, and a test of
 -- all bytes. Assumes nothing.
-use Rattle.std.proofs.Common.{◌≡◌, ℕ, zero, suc, ◌+◌, ◌*◌, ◌<◌, ◌≤◌, Bool, true, ◌&&◌, List, [], ◌∷◌, ◌++◌, length, get_or, take, drop, set, sym}
+use Rattle.std.proofs.Common.{◌≡◌, ℕ, zero, suc, ◌+◌, ◌<◌, ◌≤◌, Bool, true, ◌&&◌, List, [], ◌∷◌, ◌++◌, length, get_or, take, drop, set, sym}
 use Rattle.std.proofs.Common.{refl, ap, ◌∙◌, le_of_suc-le-suc, not-suc-le-zero, add-one, arith, length-drop, take-append-drop, length-take}
 use Rattle.std.proofs.Common.{get_or-drop, drop-cons, get_or-take, take-suc, take-take, drop-drop, take-suc-set, take_at, take-add, drop_at}
 use mathlib.Core.Bool.{and_assoc, and-eq-true_iff}

@@ -2,7 +2,7 @@
 -- the same with leading zeros off. Assumes nothing.
 use Rattle.std.proofs.Common.{◌≡◌, ℕ, zero, suc, ◌+◌, ◌-◌, ◌*◌, ◌/◌, ◌%◌, ◌^◌, ◌<◌, ◌≤◌, Bool, true, false, cond, eqb, ltb, leb, List, [], ◌∷◌}
 use Rattle.std.proofs.Common.{length, get_or, refl, ap, ◌∙◌, le_of_suc-le-suc, not-suc-le-zero, mul-le-mul_right, mod-lt, mod-eq_of_lt, mul_assoc}
-use Rattle.std.proofs.Common.{div-lt_iff_lt-mul, add-mul, mul-le-mul_left, pow-suc, le-div_iff_mul-le, zero-add, zero-mul, mul-one, add-one, arith}
+use Rattle.std.proofs.Common.{div-lt_iff_lt-mul, add-mul, pow-suc, le-div_iff_mul-le, zero-add, zero-mul, mul-one, add-one, arith}
 use Rattle.std.proofs.Common.{ltb-false, ltb-true, ne_eqb, le-leb, leb-false, leb-true, Option, Some, None, drop, drop_of_length-le}
 use mathlib.Core.Bool.{and-eq-true_iff}
 use native.Mathlib.Nat.{pow-succ', mod-one, one-le-pow}

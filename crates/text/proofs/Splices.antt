@@ -1,13 +1,14 @@
 -- A text put into a buffer at an offset: texts put one after the other are one text, and a loop that stores a text from its last
 -- byte to its first has put it. Assumes nothing.
-use Rattle.std.proofs.Common.{◌≡◌, ℕ, suc, ◌+◌, ◌-◌, ◌/◌, ◌%◌, ◌^◌, ◌<◌, ◌≤◌, Bool, true, false, cond, not, leb, List, [], ◌∷◌, ◌++◌, length, get_or, take, drop}
+use Rattle.std.proofs.Common.{◌≡◌, ℕ, suc, ◌+◌, ◌-◌, ◌/◌, div-one, ◌%◌, ◌^◌, ◌<◌, ◌≤◌, Bool, true, false, cond, not, leb, List, [], ◌∷◌, ◌++◌, length, get_or, take, drop}
 use Rattle.std.proofs.Common.{set, sym, refl, ap, ◌∙◌, append_assoc, add-zero, add_assoc, zero-add, add-one, arith, length-append, length-drop}
-use Rattle.std.proofs.Common.{take-append-drop, length-take, length-take-le, drop-cons, take-suc, drop-drop, take_at, le-leb, leb-false, leb-true}
-use lib.Seq.{set_at, set_split, append_snoc, drop-append-add, drop-length}
+use Rattle.std.proofs.Common.{take-append-drop, length-take, length-take-le, take-suc, drop-drop, take_at, le-leb, leb-false, leb-true}
+use lib.Seq.{set_at, set_split, append_snoc, drop-append-add}
 use borrow.Author.Tests.{lt-leb, not-true, not-false}
 use borrow.Rule.Slice.PartMut.{put_mid}
 use Rattle.whole.specs.Lists.{over}
 use Rattle.text.specs.Text.{digits}
+use Rattle.text.proofs.Numbers.{length_digits, place-next}
 use Rattle.text.specs.Buffer.{splice, has_room, put_at, end_of}
 use Rattle.text.specs.Steps.{Put}
 
@@ -139,7 +140,36 @@ byte_left o b s h = rw (le-leb (o + 1) (length s) (omega arith), set_split s o b
 
 pub ruleset putting = (none_left, none_ends, put_ends, part_left, byte_left)
 
--- the last k digits stand at an offset, and one more is written before them
-pub digit_before : (v k o : ℕ) (s : List ℕ) → o < length s
-    → set (splice (o + 1) (digits k v) s) o (48 + v / 10 ^ k % 10) ≡ splice o (digits (k + 1) v) s
-digit_before v k o s h = rw (add-one, add-one) (splice_front o (48 + v / 10 ^ k % 10) (digits k v) s h)
+-- ---- the last digits stand at an offset, and one more is written before them
+
+module _ (v w o : ℕ) (s : List ℕ) where
+  pub digits_none_left : length s < o + w → put_at (digits w v) o s ≡ s
+  digits_none_left h = none_left (digits w v) o s (omega (arith, length_digits w v))
+
+  pub digits_none_end : length s < o + w → end_of (digits w v) o s ≡ o
+  digits_none_end h = none_ends (digits w v) o s (omega (arith, length_digits w v))
+
+  pub digits_end : o + w ≤ length s → end_of (digits w v) o s ≡ o + w
+  digits_end h = put_ends (digits w v) o s (omega (arith, length_digits w v)) ∙ ap (λ (n : ℕ). o + n) (length_digits w v)
+
+  pub digits_left : o + w ≤ length s → splice o (digits w v) s ≡ put_at (digits w v) o s
+  unfolding put_at
+  digits_left h = rw (le-leb (o + length (digits w v)) (length s) (omega (arith, length_digits w v)))
+
+  pub digits_start : splice (o + w) (digits (w - w) v) s ≡ s
+  digits_start = let e : w - w ≡ 0 = omega arith in rw e (splice-nil (o + w) s)
+
+  pub digit_before : (j b : ℕ) → 0 < j → j ≤ w → o + w ≤ length s → b ≡ 48 + v / 10 ^ (w - j) % 10
+      → set (splice (o + j) (digits (w - j) v) s) (o + (j - 1)) b ≡ splice (o + (j - 1)) (digits (w - (j - 1)) v) s
+  digit_before j b h l f e =
+      let n : o + j ≡ suc (o + (j - 1)) = omega arith in
+      let m : w - (j - 1) ≡ suc (w - j) = omega arith in
+      rw (e, n, m) (splice_front (o + (j - 1)) (48 + v / 10 ^ (w - j) % 10) (digits (w - j) v) s (omega arith))
+
+pub place_before : (v w j : ℕ) → 0 < j → j ≤ w → v / 10 ^ (w - (j - 1)) ≡ v / 10 ^ (w - j) / 10
+place_before v w j h l = let m : w - (j - 1) ≡ w - j + 1 = omega arith in rw m (sym (place-next v (w - j)))
+
+pub place_first : (v w : ℕ) → v / 10 ^ (w - w) ≡ v
+place_first v w = let e : w - w ≡ 0 = omega arith in rw e (div-one v)
+
+pub ruleset writing = (digits_none_left, digits_none_end, digits_end, digits_left, digits_start, digit_before, place_before, place_first, length-put)

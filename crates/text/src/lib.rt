@@ -69,6 +69,7 @@ fn tenth(v: u64) -> u64
 }
 
 /// Puts the last w digits of v, with zeros before them where v has fewer.
+#[tactic(auto, using(crate::proofs::Splices::writing))]
 pub fn put_number(out: &mut [u8], o: usize, w: usize, v: u64) -> usize
     ensures answer { result ≡ end_of (digits w v) o out.old }
     ensures left { out.new ≡ put_at (digits w v) o out.old }
@@ -112,6 +113,7 @@ fn sign(z: i64) -> u8
 }
 
 /// Puts an angle, in hundredths of an arc-second, with d digits of degrees: ±DDDMMSS.SS or ±DDMMSS.SS (MIL-A-89007, 3.17.1).
+#[tactic(auto, using(crate::proofs::Angles::angles))]
 pub fn put_angle(out: &mut [u8], o: usize, d: usize, z: i64) -> usize
     ensures answer { result ≡ end_of (angle_text d z) o out.old }
     ensures left { out.new ≡ put_at (angle_text d z) o out.old }
