@@ -1,9 +1,9 @@
 -- The digits of a number and the number of digits, at any width: one digit more is a division by ten with its remainder. Then
 -- the same with leading zeros off. Assumes nothing.
-use Rattle.std.proofs.Common.{◌≡◌, ℕ, zero, suc, ◌+◌, ◌-◌, ◌*◌, ◌/◌, ◌%◌, ◌^◌, ◌<◌, ◌≤◌, Bool, true, false, cond, eqb, ltb, leb, List, [], ◌∷◌}
-use Rattle.std.proofs.Common.{length, get_or, refl, ap, ◌∙◌, le_of_suc-le-suc, not-suc-le-zero, mul-le-mul_right, mod-lt, mod-eq_of_lt, mul_assoc}
+use Rattle.std.proofs.Common.{◌≡◌, ℕ, zero, suc, ◌+◌, ◌-◌, ◌*◌, ◌/◌, ◌%◌, ◌^◌, ◌<◌, ◌≤◌, Bool, true, false, cond, eqb, leb, List, [], ◌∷◌}
+use Rattle.std.proofs.Common.{length, get_or, refl, ap, ◌∙◌, mul-le-mul_right, mod-lt, mod-eq_of_lt, mul_assoc}
 use Rattle.std.proofs.Common.{div-lt_iff_lt-mul, add-mul, pow-suc, le-div_iff_mul-le, zero-add, zero-mul, mul-one, add-one, arith}
-use Rattle.std.proofs.Common.{ltb-false, ltb-true, ne_eqb, le-leb, leb-false, leb-true, Option, Some, None, drop, drop_of_length-le}
+use Rattle.std.proofs.Common.{ne_eqb, le-leb, leb-false, leb-true, Option, Some, None, drop, drop_of_length-le}
 use mathlib.Core.Bool.{and-eq-true_iff}
 use native.Mathlib.Nat.{pow-succ', mod-one, one-le-pow}
 use native.Mathlib.Nat.{pow-le-pow_right, div-eq_of_lt, div-eq_of_lt-le, add-sub_cancel_left, mul-add-mod_self_right}
@@ -26,11 +26,6 @@ place-next v k = rw (div-div-eq-div-mul v (10 ^ k) 10, add-one, ← pow-suc 10 k
 pub length_digits : (w v : ℕ) → length (digits w v) ≡ w
 length_digits zero v = refl
 length_digits (suc w) v = ap suc (length_digits w v)
-
-pub digit_at : (w v j : ℕ) → j < w → get_or (digits w v) j 0 ≡ 48 + v / 10 ^ (w - 1 - j) % 10
-digit_at zero v j h = absurd (not-suc-le-zero h)
-digit_at (suc w) v zero h = let e : suc w - 1 - 0 ≡ w = omega arith in rw e
-digit_at (suc w) v (suc j) h = let e : suc w - 1 - suc j ≡ w - 1 - j = omega arith in rw e (digit_at w v j (le_of_suc-le-suc h))
 
 pub all_digits : (w v : ℕ) → all is_digit (digits w v) ≡ true
 all_digits zero v = refl
@@ -166,14 +161,6 @@ pub zero_width : (v : ℕ) → v ≡ 0 → decimal v ≡ digits 1 v
 zero_width v e = decimal-is 1 v (omega arith) (omega arith) (omega arith) (λ h. absurd (omega arith))
 
 pub ruleset widths = (power_width, zero_width)
-
--- a number of 64 bits has at most 20 digits
-pub few-digits : (k v : ℕ) → 10 ^ k ≤ v → v < 10 ^ 20 → k < 20
-few-digits k v h l = go (ltb k 20) refl
-  where
-    go : (t : Bool) → ltb k 20 ≡ t → k < 20
-    go true e = ltb-true k 20 e
-    go false e = let p : 10 ^ 20 ≤ 10 ^ k = pow-le-pow_right (omega arith) (ltb-false k 20 e) in absurd (omega arith)
 
 -- the digits are never more
 trim-le : (l : List ℕ) → length (trimmed l) ≤ length l

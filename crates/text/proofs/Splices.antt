@@ -1,10 +1,10 @@
 -- A text put into a buffer at an offset: texts put one after the other are one text, and a loop that stores a text from its last
 -- byte to its first has put it. Assumes nothing.
-use Rattle.std.proofs.Common.{◌≡◌, ℕ, suc, ◌+◌, ◌-◌, ◌/◌, div-one, ◌%◌, ◌^◌, ◌<◌, ◌≤◌, Bool, true, false, cond, not, leb, List, [], ◌∷◌, ◌++◌, length, get_or, take, drop}
+use Rattle.std.proofs.Common.{◌≡◌, ℕ, suc, ◌+◌, ◌-◌, ◌/◌, div-one, ◌%◌, ◌^◌, ◌<◌, ◌≤◌, Bool, true, false, cond, List, [], ◌∷◌, ◌++◌, length, get_or, take, drop}
 use Rattle.std.proofs.Common.{set, sym, refl, ap, ◌∙◌, append_assoc, add-zero, add_assoc, zero-add, add-one, arith, length-append, length-drop}
-use Rattle.std.proofs.Common.{take-append-drop, length-take, length-take-le, take-suc, drop-drop, take_at, le-leb, leb-false, leb-true}
+use Rattle.std.proofs.Common.{take-append-drop, length-take, length-take-le, take-suc, drop-drop, take_at, le-leb, leb-true}
 use lib.Seq.{set_at, set_split, append_snoc, drop-append-add}
-use borrow.Author.Tests.{lt-leb, not-true, not-false}
+use borrow.Author.Tests.{lt-leb}
 use borrow.Rule.Slice.PartMut.{put_mid}
 use Rattle.whole.specs.Lists.{over}
 use Rattle.text.specs.Text.{digits}
@@ -78,17 +78,6 @@ length-put x o s = go (has_room x o s) refl
 pub put-fits : (x : List ℕ) (o : ℕ) (s : List ℕ) → o + length x ≤ length s → put_at x o s ≡ splice o x s
 unfolding put_at
 put-fits x o s h = rw (le-leb (o + length x) (length s) h)
-
-pub put-none : (x : List ℕ) (o : ℕ) (s : List ℕ) → length s < o + length x → (o ≡ end_of x o s) × (s ≡ put_at x o s)
-unfolding put_at end_of
-put-none x o s h = rw (lt-leb (o + length x) (length s) h) (refl, refl)
-
--- a test of the room, as the code makes it
-pub no_room : {t : Bool} (m n : ℕ) → t ≡ leb m n → not t ≡ true → n < m
-no_room {t} m n e h = leb-false m n (sym e ∙ not-true t h)
-
-pub room : {t : Bool} (m n : ℕ) → t ≡ leb m n → not t ≡ false → m ≤ n
-room {t} m n e h = leb-true m n (sym e ∙ not-false t h)
 
 -- a text that was put if it fits
 abbrev pub PutIf : List ℕ → ℕ → List ℕ → List ℕ → ℕ → Type 0
