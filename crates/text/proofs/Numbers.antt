@@ -3,8 +3,8 @@
 use Rattle.std.proofs.Common.{◌≡◌, ℕ, zero, suc, ◌+◌, ◌-◌, ◌*◌, ◌/◌, ◌%◌, ◌^◌, ◌<◌, ◌≤◌, Bool, true, false, cond, eqb, leb, List, [], ◌∷◌}
 use Rattle.std.proofs.Common.{length, get_or, refl, ap, ◌∙◌, mul-le-mul_right, mod-lt, mod-eq_of_lt, mul_assoc}
 use Rattle.std.proofs.Common.{div-lt_iff_lt-mul, add-mul, pow-suc, le-div_iff_mul-le, zero-add, zero-mul, mul-one, add-one, arith}
-use Rattle.std.proofs.Common.{ne_eqb, le-leb, leb-false, leb-true, Option, Some, None, drop, drop_of_length-le}
-use mathlib.Core.Bool.{and-eq-true_iff}
+use Rattle.std.proofs.Common.{ne_eqb, le-leb, leb-false, leb-true, Option, Some, None, is_some, unwrap_or, drop, drop_of_length-le}
+use mathlib.Core.Bool.{and-eq-true_iff, false≢true}
 use native.Mathlib.Nat.{pow-succ', mod-one, one-le-pow}
 use native.Mathlib.Nat.{pow-le-pow_right, div-eq_of_lt, div-eq_of_lt-le, add-sub_cancel_left, mul-add-mod_self_right}
 use native.Mathlib.Nat.{div-div-eq-div-mul}
@@ -114,6 +114,20 @@ too_long s h = rw (lt-leb (length s) 17 h)
 
 pub pow_bound : (i : ℕ) → i ≤ 16 → 10 ^ i ≤ 10000000000000000
 pow_bound i h = pow-le-pow_right (omega arith) h
+
+-- at most w digits, as they are read
+pub record Read (w : ℕ) (s : List ℕ) (r : Option ℕ) : Type 0 where
+  pub tested : is_some r ≡ all is_digit s
+  pub read : all is_digit s ≡ true → unwrap_or r 0 ≡ number s
+  pub small : unwrap_or r 0 < 10 ^ w
+
+pub digits-read : (w : ℕ) (s : List ℕ) {r : Option ℕ} → length s ≤ w → w ≤ 17 → r ≡ digits_in s → Read w s r
+unfolding digits_in
+digits-read w s h l e = rw (e, le-leb (length s) 17 (omega arith)) (go (all is_digit s) refl)
+  where
+    go : (t : Bool) → all is_digit s ≡ t → Read w s (cond t (Some (number s)) None)
+    go true q = record { tested = rw q; read = λ _. refl; small = number-below w s h q }
+    go false q = record { tested = rw q; read = λ d. absurd (false≢true (rw q at d)); small = tens w }
 
 pub ruleset reading = (next_digit, other_byte, all_read, digits_read, too_long, pow_bound)
 
