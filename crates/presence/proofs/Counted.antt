@@ -73,6 +73,13 @@ module _ (words : List ℕ) where
         go (yes e) f = rw (le-ltb count (counted words (suc n)) (subst (λ (x : ℕ). counted words x ≤ count) e l)) (sym e)
         go (no d) f = rw (lt-ltb count (counted words (suc n)) (omega (arith, g, counted-mono (m + 1) (suc n) (omega arith)))) (f d)
 
+    -- the count passes the number at a tile, or nowhere
+    pub stops_at : (n m : ℕ) → m ≤ n → counted words m ≤ count → count < counted words (m + 1) → within words count n ≡ m
+    stops_at n m h l g = within-is n m h l (inr g)
+
+    pub never_stops : (n : ℕ) → counted words n ≤ count → within words count n ≡ n
+    never_stops n l = within-is n n (omega arith) l (inl refl)
+
     within-few : (n : ℕ) → counted words (within words count n) ≤ count
     unfolding within
     within-few zero = omega (arith, counted_none)
@@ -98,3 +105,5 @@ module _ (words : List ℕ) where
         go true e (yes i) l f =
             let z : suc n ≡ t + 1 = omega arith in
             subst (λ (x : ℕ). count < counted words x) z (ltb-true count (counted words (suc n)) e)
+
+pub ruleset numbering = (number-none, number-some, present-in)
