@@ -80,4 +80,6 @@ ones_of_words words (suc i) f h =
     let m : (i + 1) * 64 ≡ suc i * 64 = rw add-one in
     rw (← e, ← m, sum_by_more ones words i 0 (omega arith), ones_of_words words i f (omega arith)) (whole_word words i (f i))
 
+pub ruleset counting = (ones_of_words, last_word, counted-le)
+
 pub ruleset passing = (whole_word, counted_none, counted_step, counted-le, stops_at, never_stops)

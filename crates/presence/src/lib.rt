@@ -1,7 +1,7 @@
 //! Presence bits: one bit a tile, 64 to a word, the first tile lowest. Every public function answers for every list of words.
 #![tactic(auto)]
 
-ghost use Rattle.std.specs.Prelude.{◌≡◌, ◌+◌, ◌-◌, ◌/◌, ◌%◌, ◌^◌, ◌<◌, length};
+ghost use Rattle.std.specs.Prelude.{◌≡◌, ◌+◌, ◌-◌, ◌/◌, ◌%◌, ◌^◌, ◌<◌, ◌≤◌, length, count_ones, sum_by};
 ghost use Rattle.presence.specs.Presence.{present, counted, number_at, any_set_from, within};
 
 /// A tile's bit, 1 where it is stored; 0 past the words.
@@ -14,16 +14,24 @@ pub fn bit(words: &[u64], tile: u64) -> u64
     }
 }
 
+/// The count of ones in whole words.
+fn ones_in(words: &[u64]) -> u64
+    requires { length words.now ≤ 2 ^ 26 }
+    ensures { result ≡ sum_by count_ones words.now }
+{
+    words.iter().map(|word| u64::from(word.count_ones())).sum()
+}
+
 /// The count of ones up to and including a tile's bit: over the whole words before, and over its word under a mask.
+#[tactic(auto, using(crate::proofs::Ones::counting))]
 fn ones_to(words: &[u64], tile: u64) -> u64
     requires tile_in_range { tile < 2 ^ 32 }
     requires word_within { tile / 64 < length words.now }
     ensures { result ≡ counted words.now (tile + 1) }
 {
     let whole = (tile / 64) as usize;
-    let before: u64 = words[..whole].iter().map(|word| u64::from(word.count_ones())).sum();
     let mask = u64::MAX >> (63 - tile % 64);
-    before + u64::from((words[whole] & mask).count_ones())
+    ones_in(&words[..whole]) + u64::from((words[whole] & mask).count_ones())
 }
 
 /// The stored number of a tile, 0 where it is not stored.
