@@ -8,7 +8,6 @@ ghost use Rattle.card_text.specs.StepsFields.{shifted, DigitsOf, field_of, unrea
 use crate::digits;
 use arc::{Circle, Refusal, Verdict};
 use card::Fill;
-use text::Digits;
 
 // Any number of at most eight digits.
 const ANY: u64 = 99_999_999;
@@ -97,11 +96,12 @@ fn number_at(fill: Fill, s: &[u8], o: usize, w: usize, low: u64, high: u64, befo
         return unread(r);
     }
     let n = digits::number_of(fill, digits::bytes_at(s, o, w));
-    field_of(o, n.ok, (low <= n.value) & (n.value <= high), n.value)
+    let value = n.unwrap_or(0);
+    field_of(o, n.is_some(), (low <= value) & (value <= high), value)
 }
 
 // ±DDDMMSS.SS or ±DDMMSS.SS, its degrees being read: 43 is +, 45 is −, 46 is the dot.
-fn angle_at(s: &[u8], o: usize, w: usize, d: Digits, limit: u64, before: Field) -> Field
+fn angle_at(s: &[u8], o: usize, w: usize, d: Option<u64>, limit: u64, before: Field) -> Field
     requires within { o + (w + 8) ≤ length s.now }
     requires width { w ≤ 3 }
     requires limit_in_range { limit ≤ 64800000 }
@@ -118,9 +118,14 @@ fn angle_at(s: &[u8], o: usize, w: usize, d: Digits, limit: u64, before: Field) 
     let t = digits::digits_at(p, w + 3, 2);
     let dot = p[w + 5];
     let h = digits::digits_at(p, w + 6, 2);
-    let size = d.value * 360_000 + m.value * 6_000 + t.value * 100 + h.value;
-    let laid = ((sign == 43) | (sign == 45)) & (d.ok & m.ok & t.ok) & (dot == 46) & h.ok;
-    let valid = (m.value < 60) & (t.value < 60) & (size <= limit) & !((sign == 45) & (size == 0));
+    let minutes = m.unwrap_or(0);
+    let seconds = t.unwrap_or(0);
+    let size = d.unwrap_or(0) * 360_000 + minutes * 6_000 + seconds * 100 + h.unwrap_or(0);
+    let laid = ((sign == 43) | (sign == 45))
+        & (d.is_some() & m.is_some() & t.is_some())
+        & (dot == 46)
+        & h.is_some();
+    let valid = (minutes < 60) & (seconds < 60) & (size <= limit) & !((sign == 45) & (size == 0));
     field_of(o, laid, valid, shifted_by(limit, sign == 45, size))
 }
 
