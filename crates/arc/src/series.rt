@@ -9,7 +9,8 @@ use crate::zone::{
 };
 use crate::{Pixels, Refusal, Scale};
 
-/// What the caller states beside a card: the scale S of 1:S, the factor of an overview, 1 for a chart, and the zone, 1 to 18.
+/// What the caller states beside a card: the scale S of 1:S, the factor of an overview, 1 for a chart, and the zone, 1 to 18. C lays it out so.
+#[repr(C)]
 #[derive(Clone, Copy, Debug, PartialEq, Eq)]
 pub struct Series {
     pub scale: u64,

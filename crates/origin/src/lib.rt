@@ -5,7 +5,7 @@ ghost use Rattle.std.specs.Prelude.{◌≡◌, ◌≤◌, pos, ◌-ℤ◌};
 ghost use Rattle.origin.specs.Origin.{origin_of, align_in, align_of};
 ghost use Rattle.origin.specs.Steps.{stored_from};
 
-use arc::{Circle, Pixels, Refusal, Series, Spacing, Tile};
+use arc::{Circle, Refusal, Series, Spacing, Tile};
 
 pub mod laws;
 
@@ -22,13 +22,13 @@ pub struct Origin {
 /// The angle stored for a count of tiles, both counted from the South Pole or from 180° west, in hundredths of an arc-second. 0 for more
 /// tiles than the circle has hundredths, which no grid has.
 #[tactic(auto, using(crate::proofs::Axis::stored))]
-pub fn stored_at(tiles: u64, pixels: Pixels) -> u64
+pub fn stored_at(tiles: u64, pixels: u64) -> u64
     ensures { result ≡ stored_from pixels tiles }
 {
     if Circle::H < tiles {
         return 0;
     }
-    whole::nearest(tiles * Tile::ANGLE, pixels.count())
+    whole::nearest(tiles * Tile::ANGLE, pixels)
 }
 
 /// The origin of a point north of the South Pole and east of 180° west by these angles.
@@ -41,8 +41,8 @@ fn origin_at(spacing: Spacing, north: u64, east: u64) -> Origin
     let b = spacing.b.count();
     let rows = (north * b).div_ceil(Tile::ANGLE);
     let columns = east * a / Tile::ANGLE;
-    let pso = stored_at(rows, spacing.b);
-    let lso = stored_at(columns, spacing.a);
+    let pso = stored_at(rows, b);
+    let lso = stored_at(columns, a);
     Origin {
         n: whole::difference(rows as u32, (b / 512) as u32),
         m: whole::difference(columns as u32, (a / 256) as u32),

@@ -17,14 +17,14 @@ overflow_cast-pso c =
     let g = c.count-b.ensures.on_grid in
     let rows = latitudes _ g in
     let n = c.div_ceil-rows.ensures ∙ as_ceiling (c.args.north * c.count-b.result) in
-    let e = rw (sym c.count-b.ensures.value) at c.stored_at-pso.ensures in
+    let e = c.stored_at-pso.ensures in
     omega (arith, stored_fits rows e (omega (arith, n, row-high rows c.args.north c.requires.north_in_range)) (omega (arith, g.most)) (omega arith))
 
 pub overflow_cast-lso : goal.overflow_cast-lso
 overflow_cast-lso c =
     let g = c.count-a.ensures.on_grid in
     let columns = longitudes _ g in
-    let e = rw (sym c.count-a.ensures.value) at c.stored_at-lso.ensures in
+    let e = c.stored_at-lso.ensures in
     omega (arith, stored_fits columns e (column-high columns c.args.east c.requires.east_in_range) (omega (arith, g.most)) (omega arith))
 
 pub returns : goal.returns
@@ -39,8 +39,8 @@ returns c =
     let n = subst (λ (k : ℕ). Is (row_tiles c.count-b.result (pos c.args.north -ℤ pos quarter)) k (c.count-b.result / 512)) (sym f)
     (row_is rows (pos c.args.north -ℤ pos quarter) c.args.north (is-difference c.args.north quarter)) in
     let m = column-is columns (pos c.args.east -ℤ pos half) c.args.east (is-difference c.args.east half) in
-    let pso = from-near _ c.div_ceil-rows.result (rw (sym b.value) at c.stored_at-pso.ensures) (few b.on_grid (omega (arith, high))) in
-    let lso = from-near _ (c.args.east * c.count-a.result / 16588800000) (rw (sym a.value) at c.stored_at-lso.ensures)
+    let pso = from-near _ c.div_ceil-rows.result c.stored_at-pso.ensures (few b.on_grid (omega (arith, high))) in
+    let lso = from-near _ (c.args.east * c.count-a.result / 16588800000) c.stored_at-lso.ensures
     (few a.on_grid (column-high columns c.args.east c.requires.east_in_range)) in
     rw (sym a.value, sym b.value)
     (same
