@@ -1,51 +1,65 @@
--- The library for C: what each block of numbers tells. Definitions, and what they are held to.
---     cover_parts, rectangle_parts    number, place, and the zones: the first `length` slots, the others 0
---     card_parts              number, place, what the card holds, and the total of its blanks; all 0 in a refusal
---     record_from               the record to be written; TIF is Y where its number is not 0
---     verdict_parts           number, place, and the total of blanks of the card
---     place_block, .., window_block    number, place and values of a block, the total of blanks of the card last
---     tile_parts              number, place, the stored number, where its bytes stand in the store, and the total of blanks of the card
---     held_tile, corrected_tile    the same with the store that holds the tile, 0 for the base store or 1 for the corrections store (02, E1)
-use Rattle.std.specs.Prelude.{◌≡◌, ℕ, ◌-◌, ◌*◌, List, [], ◌∷◌, cond, not, eqb, take, drop, ℤ, pos}
-use Rattle.arc.specs.declared.Refusal.{Refusal}
-use Rattle.arc.specs.Refusals.{Report, refusal_of}
-use Rattle.zones.specs.declared.CoverAnswer.{CoverAnswer}
-use Rattle.rectangle.specs.declared.RectangleAnswer.{RectangleAnswer}
-use Rattle.card.specs.declared.Card.{Card}
+-- The library for C: what is asked of a card as it was read, and the block of each answer. A block has the number and the place of a refusal, both 0 in an
+-- answer, the values of an answer, all 0 in a refusal, and the total of blanks of the card, 0 in a refusal. Definitions, and what they are held to.
+--     told total x            an answer with the total of the card's blanks
+--     asked x f               the question f of a card as it was read: reading's refusal first, then the question's own answer
+--     asked_over x y row column   an overview's pixel for a chart's, each card as it was read
+--     on_reading x same f     what a buffer holds then: as it was where reading refused
+--     card_block              what a card tells
+--     record_from             the record to be written; TIF is Y where its number is not 0
+--     refusal_block, verdict_block   whether a card was written; whether a question is answered whose answer is left in buffers
+--     place_block .. window_block    the block of each question
+--     tile_block              the stored number, and where its bytes stand in the store
+--     corrected_tile_block    the same with the store that holds the tile, 0 for the base store or 1 for the corrections store
+use Rattle.std.specs.Prelude.{◌≡◌, ℕ, ◌-◌, ◌*◌, List, cond, not, eqb, take, drop, replicate, ℤ, pos, Result, Ok, Err, Option, Some, None}
+use Rattle.whole.specs.Results.{◌>>=◌}
+use Rattle.arc.specs.declared.refusal.Refusal.{Refusal}
+use Rattle.arc.specs.Refusals.{number_of, place_of}
+use Rattle.card_text.specs.declared.Fields.{Fields}
+use Rattle.card_text.specs.declared.Record.{Record}
 use Rattle.card.specs.declared.Reading.{Reading}
-use Rattle.card.specs.declared.Record.{Record}
-use Rattle.card.specs.Blanks.{passed}
-use Rattle.tiles.specs.declared.NumberAnswer.{NumberAnswer}
-use Rattle.tiles.specs.declared.SourceAnswer.{SourceAnswer}
-use Rattle.tiles.specs.LookUp.{tile_bytes, number_of, part_of}
-use Rattle.tiles.specs.Corrections.{source_of, either_part_of}
-use Rattle.fordcask.specs.declared.parts.CoverParts.{CoverParts}
-use Rattle.fordcask.specs.declared.parts.RectangleParts.{RectangleParts}
+use Rattle.card.specs.declared.grid.Place.{Place}
+use Rattle.card.specs.declared.grid.Position.{Position}
+use Rattle.card.specs.declared.grid.Pixel.{Pixel}
+use Rattle.card.specs.Overview.{overview_pixel_of}
+use Rattle.fordcask.specs.declared.read.OnCard.{OnCard}
+use Rattle.fordcask.specs.declared.read.OnCards.{OnCards}
 use Rattle.fordcask.specs.declared.parts.CardParts.{CardParts}
 use Rattle.fordcask.specs.declared.parts.RecordParts.{RecordParts}
+use Rattle.fordcask.specs.declared.parts.RefusalParts.{RefusalParts}
 use Rattle.fordcask.specs.declared.parts.VerdictParts.{VerdictParts}
 use Rattle.fordcask.specs.declared.parts.PlaceOnCard.{PlaceOnCard}
 use Rattle.fordcask.specs.declared.parts.PositionOnCard.{PositionOnCard}
 use Rattle.fordcask.specs.declared.parts.PixelOnCard.{PixelOnCard}
 use Rattle.fordcask.specs.declared.parts.OverviewOnCards.{OverviewOnCards}
-use Rattle.fordcask.specs.declared.parts.BandsOnCard.{BandsOnCard}
-use Rattle.fordcask.specs.declared.parts.WindowOnCard.{WindowOnCard}
-use Rattle.fordcask.specs.declared.parts.TileParts.{TileParts}
-use Rattle.fordcask.specs.declared.parts.CorrectedTile.{CorrectedTile}
 
-abbrev pub cover_parts : CoverAnswer → CoverParts
-cover_parts c =
-    record { number = (refusal_of c.verdict).number; at = (refusal_of c.verdict).at; length = c.length; zones = c.zones }
+abbrev pub told : {A : Type 0} → ℕ → Result A Refusal → Result (OnCard A) Refusal
+told total x = do
+  v ← x
+  Ok (record { answer = v; blanks = total })
 
-abbrev pub rectangle_parts : RectangleAnswer → RectangleParts
-rectangle_parts c =
-    record { number = (refusal_of c.verdict).number; at = (refusal_of c.verdict).at; length = c.length; zones = c.zones }
+abbrev pub asked : {A : Type 0} → Result Reading Refusal → (Fields → Result A Refusal) → Result (OnCard A) Refusal
+asked x f = do
+  r ← x
+  told r.blanks (f r.card)
 
-abbrev pub card_parts : Reading → CardParts
-card_parts x =
+abbrev pub asked_over : Result Reading Refusal → Result Reading Refusal → ℤ → ℤ → Result (OnCards Pixel) Refusal
+asked_over x y row column = do
+  chart ← x
+  overview ← y
+  p ← overview_pixel_of chart.card overview.card row column
+  Ok (record { answer = p; blanks = chart.blanks; overview_blanks = overview.blanks })
+
+abbrev pub on_reading : {A : Type 0} → Result Reading Refusal → A → (Fields → A) → A
+on_reading (Ok r) same f = f r.card
+on_reading (Err e) same f = same
+
+-- ---- blocks
+
+abbrev pub card_block : Result Reading Refusal → CardParts
+card_block (Ok x) =
     record {
-      number = (refusal_of x.verdict).number;
-      at = (refusal_of x.verdict).at;
+      number = 0;
+      at = 0;
       a = x.card.a;
       b = x.card.b;
       n = x.card.n;
@@ -59,6 +73,24 @@ card_parts x =
       bad = x.card.bad;
       tif = cond x.card.tif 1 0;
       blanks = x.blanks;
+    }
+card_block (Err e) =
+    record {
+      number = number_of e;
+      at = place_of e;
+      a = 0;
+      b = 0;
+      n = pos 0;
+      m = pos 0;
+      nul = 0;
+      nus = 0;
+      nll = 0;
+      nls = 0;
+      nfl = 0;
+      nfc = 0;
+      bad = replicate 12 0;
+      tif = 0;
+      blanks = 0;
     }
 
 abbrev pub record_from : RecordParts → Record
@@ -76,56 +108,35 @@ record_from r =
       tif = not (eqb r.tif 0);
     }
 
--- ---- on a card as it was read: the total of its blanks is the last number (02, E2)
+abbrev pub refusal_block : Result Unit Refusal → RefusalParts
+refusal_block (Ok x) = record { number = 0; at = 0 }
+refusal_block (Err e) = record { number = number_of e; at = place_of e }
 
-abbrev pub verdict_parts : ℕ → Refusal → VerdictParts
-verdict_parts total e = record { number = e.number; at = e.at; blanks = passed total e.number }
+abbrev pub verdict_block : Result (OnCard Unit) Refusal → VerdictParts
+verdict_block (Ok x) = record { number = 0; at = 0; blanks = x.blanks }
+verdict_block (Err e) = record { number = number_of e; at = place_of e; blanks = 0 }
 
-abbrev pub place_block : PlaceOnCard → Report
-place_block p = record { number = p.number; place = p.at; values = p.row ∷ p.column ∷ pos p.blanks ∷ [] }
+abbrev pub place_block : Result (OnCard Place) Refusal → PlaceOnCard
+place_block (Ok x) = record { number = 0; at = 0; row = x.answer.row; column = x.answer.column; blanks = x.blanks }
+place_block (Err e) = record { number = number_of e; at = place_of e; row = pos 0; column = pos 0; blanks = 0 }
 
-abbrev pub position_block : PositionOnCard → Report
-position_block p = record { number = p.number; place = p.at; values = p.lat ∷ p.lon ∷ pos p.blanks ∷ [] }
+abbrev pub position_block : Result (OnCard Position) Refusal → PositionOnCard
+position_block (Ok x) = record { number = 0; at = 0; lat = x.answer.lat; lon = x.answer.lon; blanks = x.blanks }
+position_block (Err e) = record { number = number_of e; at = place_of e; lat = pos 0; lon = pos 0; blanks = 0 }
 
-abbrev pub pixel_block : PixelOnCard → Report
-pixel_block p = record { number = p.number; place = p.at; values = p.row ∷ p.column ∷ pos p.blanks ∷ [] }
+abbrev pub pixel_block : Result (OnCard Pixel) Refusal → PixelOnCard
+pixel_block (Ok x) = record { number = 0; at = 0; row = x.answer.row; column = x.answer.column; blanks = x.blanks }
+pixel_block (Err e) = record { number = number_of e; at = place_of e; row = pos 0; column = pos 0; blanks = 0 }
 
--- the chart's card and the overview's are read: two totals (02, E4)
-abbrev pub overview_block : OverviewOnCards → Report
-overview_block p =
-    record { number = p.number; place = p.at; values = p.row ∷ p.column ∷ pos p.blanks ∷ pos p.overview_blanks ∷ [] }
-
-abbrev pub bands_block : BandsOnCard → Report
-bands_block p = record { number = p.number; place = p.at; values = pos p.red ∷ pos p.green ∷ pos p.blue ∷ pos p.blanks ∷ [] }
-
-abbrev pub window_block : WindowOnCard → Report
-window_block p = record { number = p.number; place = p.at; values = pos p.missing ∷ pos p.tile ∷ pos p.blanks ∷ [] }
-
-abbrev pub tile_parts : ℕ → NumberAnswer → TileParts
-tile_parts total (NumberAnswer.Stored n) =
-    record { number = 0; at = 0; stored = n; offset = (n - 1) * tile_bytes; length = tile_bytes; blanks = total }
-tile_parts total (NumberAnswer.Refused e) =
-    record { number = e.number; at = e.at; stored = 0; offset = 0; length = 0; blanks = passed total e.number }
-
-abbrev pub held_tile : ℕ → ℕ → ℕ → CorrectedTile
-held_tile source n total =
-    record { number = 0; at = 0; source = source; stored = n; offset = (n - 1) * tile_bytes; length = tile_bytes; blanks = total }
-
-abbrev pub corrected_tile : ℕ → SourceAnswer → CorrectedTile
-corrected_tile total (SourceAnswer.Base n) = held_tile 0 n total
-corrected_tile total (SourceAnswer.Corrections n) = held_tile 1 n total
-corrected_tile total (SourceAnswer.Refused e) =
-    record { number = e.number; at = e.at; source = 0; stored = 0; offset = 0; length = 0; blanks = passed total e.number }
-
--- ---- the bytes so named are the part of the store that look-up hands back, none in a refusal: proved in proofs/Questions.antt
-abbrev pub TileIsPart : Type 0
-TileIsPart =
-    (k : Card) (index : List ℕ) (count : ℕ) (store : List ℕ) (r c : ℤ) (total : ℕ) → let t = tile_parts total (number_of k index count store r c) in
-    take t.length (drop t.offset store) ≡ part_of k index count store r c
-
--- and of whichever store is named
-abbrev pub CorrectedTileIsPart : Type 0
-CorrectedTileIsPart =
-    (k : Card) (index : List ℕ) (count : ℕ) (store corrections : List ℕ) (corrected : ℕ) (second : List ℕ) (r c : ℤ) (total : ℕ)
-    → let t = corrected_tile total (source_of k index count store corrections corrected second r c) in
-    take t.length (drop t.offset (cond (eqb t.source 0) store second)) ≡ either_part_of k index count store corrections corrected second r c
+-- the chart's card and the overview's are read: two totals
+abbrev pub overview_block : Result (OnCards Pixel) Refusal → OverviewOnCards
+overview_block (Ok x) =
+    record {
+      number = 0;
+      at = 0;
+      row = x.answer.row;
+      column = x.answer.column;
+      blanks = x.blanks;
+      overview_blanks = x.overview_blanks;
+    }
+overview_block (Err e) = record { number = number_of e; at = place_of e; row = pos 0; column = pos 0; blanks = 0; overview_blanks = 0 }

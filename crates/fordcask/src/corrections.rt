@@ -1,24 +1,18 @@
-// Questions on a card, its tile index and the corrections beside it (02, E1).
-#![tactic(auto, using(crate::proofs::KnownCards::known_cards))]
-
+// Questions on a card, its tile index and the corrections beside it.
 ghost use Rattle.std.specs.Prelude.{◌≡◌};
-ghost use Rattle.arc.specs.declared.Verdict.{Verdict};
-ghost use Rattle.arc.specs.Refusals.{refusal_of};
-ghost use Rattle.card.specs.Read.{read_of, on_card, told_on_card};
-ghost use Rattle.tiles.specs.declared.SourceAnswer.{SourceAnswer};
-ghost use Rattle.tiles.specs.declared.BandsAnswer.{BandsAnswer};
-ghost use Rattle.tiles.specs.declared.WindowAnswer.{WindowAnswer};
-ghost use Rattle.tiles.specs.LookUp.{bands_report};
-ghost use Rattle.tiles.specs.Window.{window_report};
+ghost use Rattle.card.specs.Read.{card_read};
 ghost use Rattle.tiles.specs.Corrections.{source_of, either_bands_of, corrected_window_of, setting_of, set_of};
-ghost use Rattle.fordcask.specs.Entry.{verdict_parts, bands_block, window_block, corrected_tile};
+ghost use Rattle.fordcask.specs.Entry.{asked, on_reading, verdict_block};
+ghost use Rattle.fordcask.specs.Tiles.{bands_block, window_block, corrected_tile_block};
 
 use crate::parts::{BandsOnCard, CorrectedTile, VerdictParts, WindowOnCard};
-use crate::{looked_up, on_card};
-use arc::{Series, Verdict};
-use tiles::{BandsAnswer, SourceAnswer, WindowAnswer};
+use crate::read::{OnCard, on_card};
+use crate::told_tiles::corrected_tile_block;
+use arc::Series;
+use card::{Card, Reading};
+use tiles::{ByList, Corrected, Stores, Window};
 
-// The store that holds a pixel's tile, its number there and its bytes. Refuses reading's numbers, then 6, 6, 12, 13, 15 of a correction, 14, 15.
+/// The store that holds a pixel's tile, its number there and its bytes. Refuses reading's numbers, then 6, 6, 12, 13, 15 of a correction, 14, 15.
 pub fn fordcask_corrected_tile(
     series: Series,
     card: &[u8],
@@ -31,32 +25,31 @@ pub fn fordcask_corrected_tile(
     row: i64,
     column: i64,
 ) -> CorrectedTile
-    ensures { result ≡ corrected_tile (read_of series card.now).blanks (on_card (read_of series card.now) SourceAnswer.Refused
+    ensures { result ≡ corrected_tile_block (asked (card_read series card.now)
         (λ k. source_of k index.now count store.now corrections.now corrected second.now row column)) }
 {
-    let reading = card_text::read_card(series, card);
-    let verdict = reading.verdict;
-    let k = reading.card;
-    match verdict {
-        Verdict::Accepted => looked_up::source_tile(
-            tiles::corrected_number(
-                k,
-                index,
-                count,
-                store,
-                corrections,
-                corrected,
-                second,
-                row,
-                column,
-            ),
-            reading.blanks,
-        ),
-        Verdict::Refused(e) => looked_up::source_tile(SourceAnswer::Refused(e), reading.blanks),
-    }
+    corrected_tile_block(on_card(series, card, |k| {
+        tiles::look_up(
+            k,
+            &Corrected {
+                base: ByList {
+                    entries: index,
+                    count,
+                },
+                entries: corrections,
+                count: corrected,
+            },
+            Stores {
+                base: store,
+                corrections: second,
+            },
+            row,
+            column,
+        )
+    }))
 }
 
-// The band values of a pixel, corrected first. Refuses reading's numbers, then 6, 6, 12, 13, 15 of a correction, 14, 15.
+/// The band values of a pixel, corrected first. Refuses reading's numbers, then 6, 6, 12, 13, 15 of a correction, 14, 15.
 pub fn fordcask_corrected_bands(
     series: Series,
     card: &[u8],
@@ -69,36 +62,32 @@ pub fn fordcask_corrected_bands(
     row: i64,
     column: i64,
 ) -> BandsOnCard
-    ensures { bands_block result ≡ told_on_card bands_report (read_of series card.now) BandsAnswer.Refused
-        (λ k. either_bands_of k index.now count store.now corrections.now corrected second.now row column) }
+    ensures { result ≡ bands_block (asked (card_read series card.now)
+        (λ k. either_bands_of k index.now count store.now corrections.now corrected second.now row column)) }
 {
-    let reading = card_text::read_card(series, card);
-    let verdict = reading.verdict;
-    let k = reading.card;
-    match verdict {
-        Verdict::Accepted => on_card::bands_on(
-            tiles::corrected_bands(
-                k,
-                index,
-                count,
-                store,
-                corrections,
-                corrected,
-                second,
-                row,
-                column,
-            )
-            .into_parts(),
-            reading.blanks,
-        ),
-        Verdict::Refused(e) => on_card::bands_on(
-            BandsAnswer::Refused(e).into_parts(),
-            reading.blanks,
-        ),
-    }
+    on_card(series, card, |k| {
+        tiles::band_values(
+            k,
+            &Corrected {
+                base: ByList {
+                    entries: index,
+                    count,
+                },
+                entries: corrections,
+                count: corrected,
+            },
+            Stores {
+                base: store,
+                corrections: second,
+            },
+            row,
+            column,
+        )
+    })
+    .into()
 }
 
-// The first tile of a window, in reading order, that is neither corrected nor stored. Refuses reading's numbers, then 6, 6, 12, 15.
+/// The first tile of a window, in reading order, that is neither corrected nor stored. Refuses reading's numbers, then 6, 6, 12, 15.
 pub fn fordcask_corrected_window(
     series: Series,
     card: &[u8],
@@ -111,36 +100,32 @@ pub fn fordcask_corrected_window(
     height: u64,
     width: u64,
 ) -> WindowOnCard
-    ensures { window_block result ≡ told_on_card window_report (read_of series card.now) WindowAnswer.Refused
-        (λ k. corrected_window_of k index.now count corrections.now corrected top left height width) }
+    ensures { result ≡ window_block (asked (card_read series card.now)
+        (λ k. corrected_window_of k index.now count corrections.now corrected top left height width)) }
 {
-    let reading = card_text::read_card(series, card);
-    let verdict = reading.verdict;
-    let k = reading.card;
-    match verdict {
-        Verdict::Accepted => on_card::window_on(
-            tiles::corrected_window(
-                k,
-                index,
-                count,
-                corrections,
-                corrected,
+    on_card(series, card, |k| {
+        tiles::first_missing(
+            k,
+            &Corrected {
+                base: ByList {
+                    entries: index,
+                    count,
+                },
+                entries: corrections,
+                count: corrected,
+            },
+            Window {
                 top,
                 left,
                 height,
                 width,
-            )
-            .into_parts(),
-            reading.blanks,
-        ),
-        Verdict::Refused(e) => on_card::window_on(
-            WindowAnswer::Refused(e).into_parts(),
-            reading.blanks,
-        ),
-    }
+            },
+        )
+    })
+    .into()
 }
 
-// Sets a tile's entry in the corrections, 0 to take one back. Refuses reading's numbers, then 6, 12, 15; then the list stays.
+/// Sets a tile's entry in the corrections, 0 to take one back. Refuses reading's numbers, then 6, 12, 15; in a refusal the list stays.
 pub fn fordcask_set_correction(
     series: Series,
     card: &[u8],
@@ -149,19 +134,17 @@ pub fn fordcask_set_correction(
     tile: u64,
     number: u64,
 ) -> VerdictParts
-    ensures answer { result ≡ verdict_parts (read_of series card.now).blanks (refusal_of (on_card (read_of series card.now) Verdict.Refused
-        (λ k. setting_of k corrections.old corrected tile number))) }
-    ensures left { corrections.new ≡ on_card (read_of series card.now) (λ e. corrections.old)
-        (λ k. set_of k corrections.old corrected tile number) }
+    ensures answer { result ≡ verdict_block (asked (card_read series card.now) (λ k. setting_of k corrections.old corrected tile number)) }
+    ensures left { corrections.new ≡ on_reading (card_read series card.now) corrections.old (λ k. set_of k corrections.old corrected tile number) }
 {
-    let reading = card_text::read_card(series, card);
-    let verdict = reading.verdict;
-    let k = reading.card;
-    match verdict {
-        Verdict::Accepted => on_card::verdict_on(
-            tiles::set_correction(k, corrections, corrected, tile, number).refusal(),
-            reading.blanks,
-        ),
-        Verdict::Refused(e) => on_card::verdict_on(e, reading.blanks),
-    }
+    let answer = match Card::read(series, card) {
+        Ok(Reading { card, blanks }) => {
+            tiles::set_correction(card, corrections, corrected, tile, number).map(|answer| OnCard {
+                answer,
+                blanks,
+            })
+        }
+        Err(e) => Err(e),
+    };
+    answer.into()
 }

@@ -1,24 +1,20 @@
-// Questions on a card and its tile index (01, "Tiles").
-#![tactic(auto, using(crate::proofs::KnownCards::known_cards))]
-
+// Questions on a card and its tile index.
 ghost use Rattle.std.specs.Prelude.{◌≡◌};
-ghost use Rattle.arc.specs.declared.Verdict.{Verdict};
-ghost use Rattle.arc.specs.Refusals.{refusal_of};
-ghost use Rattle.card.specs.Read.{read_of, on_card, told_on_card};
-ghost use Rattle.tiles.specs.declared.NumberAnswer.{NumberAnswer};
-ghost use Rattle.tiles.specs.declared.BandsAnswer.{BandsAnswer};
-ghost use Rattle.tiles.specs.declared.WindowAnswer.{WindowAnswer};
+ghost use Rattle.card.specs.Read.{card_read};
 ghost use Rattle.tiles.specs.Check.{check_of, marks_of};
-ghost use Rattle.tiles.specs.LookUp.{number_of, bands_of, bands_report};
-ghost use Rattle.tiles.specs.Window.{window_of, window_report};
-ghost use Rattle.fordcask.specs.Entry.{verdict_parts, bands_block, window_block, tile_parts};
+ghost use Rattle.tiles.specs.LookUp.{number_of, bands_of};
+ghost use Rattle.tiles.specs.Window.{window_of};
+ghost use Rattle.fordcask.specs.Entry.{asked, on_reading, verdict_block};
+ghost use Rattle.fordcask.specs.Tiles.{bands_block, window_block, tile_block};
 
 use crate::parts::{BandsOnCard, TileParts, VerdictParts, WindowOnCard};
-use crate::{looked_up, on_card};
-use arc::{Series, Verdict};
-use tiles::{BandsAnswer, NumberAnswer, WindowAnswer};
+use crate::read::{OnCard, on_card};
+use crate::told_tiles::tile_block;
+use arc::Series;
+use card::{Card, Reading};
+use tiles::{ByList, Stores, Window};
 
-// Whether each number 1 to count occurs exactly once. Refuses reading's numbers, then 6, 15; on those and 6 the marks stay.
+/// Whether each number 1 to count occurs exactly once. Refuses reading's numbers, then 6, 15; on those and 6 the marks stay.
 pub fn fordcask_index_check(
     series: Series,
     card: &[u8],
@@ -26,24 +22,19 @@ pub fn fordcask_index_check(
     count: u64,
     marks: &mut [u8],
 ) -> VerdictParts
-    ensures answer { result ≡ verdict_parts (read_of series card.now).blanks (refusal_of (on_card (read_of series card.now) Verdict.Refused
-        (λ k. check_of k index.now count marks.old))) }
-    ensures left { marks.new ≡ on_card (read_of series card.now) (λ e. marks.old)
-        (λ k. marks_of k index.now count marks.old) }
+    ensures answer { result ≡ verdict_block (asked (card_read series card.now) (λ k. check_of k index.now count marks.old)) }
+    ensures left { marks.new ≡ on_reading (card_read series card.now) marks.old (λ k. marks_of k index.now count marks.old) }
 {
-    let reading = card_text::read_card(series, card);
-    let verdict = reading.verdict;
-    let k = reading.card;
-    match verdict {
-        Verdict::Accepted => on_card::verdict_on(
-            tiles::index_check(k, index, count, marks).refusal(),
-            reading.blanks,
-        ),
-        Verdict::Refused(e) => on_card::verdict_on(e, reading.blanks),
-    }
+    let answer = match Card::read(series, card) {
+        Ok(Reading { card, blanks }) => {
+            tiles::index_check(card, index, count, marks).map(|answer| OnCard { answer, blanks })
+        }
+        Err(e) => Err(e),
+    };
+    answer.into()
 }
 
-// The stored number of a pixel's tile, and where its bytes stand in the store. Refuses reading's numbers, then 6, 12, 13, 14, 15.
+/// The stored number of a pixel's tile, and where its bytes stand in the store. Refuses reading's numbers, then 6, 12, 13, 14, 15.
 pub fn fordcask_tile(
     series: Series,
     card: &[u8],
@@ -53,22 +44,27 @@ pub fn fordcask_tile(
     row: i64,
     column: i64,
 ) -> TileParts
-    ensures { result ≡ tile_parts (read_of series card.now).blanks (on_card (read_of series card.now) NumberAnswer.Refused
+    ensures { result ≡ tile_block (asked (card_read series card.now)
         (λ k. number_of k index.now count store.now row column)) }
 {
-    let reading = card_text::read_card(series, card);
-    let verdict = reading.verdict;
-    let k = reading.card;
-    match verdict {
-        Verdict::Accepted => looked_up::number_tile(
-            tiles::stored_number(k, index, count, store, row, column),
-            reading.blanks,
-        ),
-        Verdict::Refused(e) => looked_up::number_tile(NumberAnswer::Refused(e), reading.blanks),
-    }
+    tile_block(on_card(series, card, |k| {
+        tiles::look_up(
+            k,
+            &ByList {
+                entries: index,
+                count,
+            },
+            Stores {
+                base: store,
+                corrections: &[],
+            },
+            row,
+            column,
+        )
+    }))
 }
 
-// The band values of a pixel. Refuses reading's numbers, then 6, 12, 13, 14, 15.
+/// The band values of a pixel. Refuses reading's numbers, then 6, 12, 13, 14, 15.
 pub fn fordcask_bands(
     series: Series,
     card: &[u8],
@@ -78,25 +74,28 @@ pub fn fordcask_bands(
     row: i64,
     column: i64,
 ) -> BandsOnCard
-    ensures { bands_block result ≡ told_on_card bands_report (read_of series card.now) BandsAnswer.Refused
-        (λ k. bands_of k index.now count store.now row column) }
+    ensures { result ≡ bands_block (asked (card_read series card.now)
+        (λ k. bands_of k index.now count store.now row column)) }
 {
-    let reading = card_text::read_card(series, card);
-    let verdict = reading.verdict;
-    let k = reading.card;
-    match verdict {
-        Verdict::Accepted => on_card::bands_on(
-            tiles::bands(k, index, count, store, row, column).into_parts(),
-            reading.blanks,
-        ),
-        Verdict::Refused(e) => on_card::bands_on(
-            BandsAnswer::Refused(e).into_parts(),
-            reading.blanks,
-        ),
-    }
+    on_card(series, card, |k| {
+        tiles::band_values(
+            k,
+            &ByList {
+                entries: index,
+                count,
+            },
+            Stores {
+                base: store,
+                corrections: &[],
+            },
+            row,
+            column,
+        )
+    })
+    .into()
 }
 
-// The first tile of a window, in reading order, that is not stored. Refuses reading's numbers, then 6, 12, 15.
+/// The first tile of a window, in reading order, that is not stored. Refuses reading's numbers, then 6, 12, 15.
 pub fn fordcask_window(
     series: Series,
     card: &[u8],
@@ -107,20 +106,23 @@ pub fn fordcask_window(
     height: u64,
     width: u64,
 ) -> WindowOnCard
-    ensures { window_block result ≡ told_on_card window_report (read_of series card.now) WindowAnswer.Refused
-        (λ k. window_of k index.now count top left height width) }
+    ensures { result ≡ window_block (asked (card_read series card.now)
+        (λ k. window_of k index.now count top left height width)) }
 {
-    let reading = card_text::read_card(series, card);
-    let verdict = reading.verdict;
-    let k = reading.card;
-    match verdict {
-        Verdict::Accepted => on_card::window_on(
-            tiles::window(k, index, count, top, left, height, width).into_parts(),
-            reading.blanks,
-        ),
-        Verdict::Refused(e) => on_card::window_on(
-            WindowAnswer::Refused(e).into_parts(),
-            reading.blanks,
-        ),
-    }
+    on_card(series, card, |k| {
+        tiles::first_missing(
+            k,
+            &ByList {
+                entries: index,
+                count,
+            },
+            Window {
+                top,
+                left,
+                height,
+                width,
+            },
+        )
+    })
+    .into()
 }

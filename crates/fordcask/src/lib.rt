@@ -1,4 +1,4 @@
-// The library for C: numbers and slices in, a block of numbers out. crates/fordcask_c exports these functions (bindings/c/fordcask.h).
+//! The library for C: numbers and slices in, a block of numbers out. The crate fordcask_c exports these functions (bindings/c/fordcask.h).
 #![tactic(auto)]
 
 mod bits;
@@ -7,10 +7,13 @@ mod cards;
 mod corrected_bits;
 mod corrections;
 mod indexes;
-mod looked_up;
-mod on_card;
+pub mod laws;
 mod parts;
 mod plain;
+mod read;
+mod told_card;
+mod told_plain;
+mod told_tiles;
 
 pub use bits::{
     fordcask_bits_bands, fordcask_bits_tile, fordcask_bits_window, fordcask_to_bits,
@@ -33,8 +36,9 @@ pub use corrections::{
 };
 pub use indexes::{fordcask_bands, fordcask_index_check, fordcask_tile, fordcask_window};
 pub use parts::{
-    BandsOnCard, CardParts, CorrectedTile, CoverParts, OverviewOnCards, PixelOnCard, PlaceOnCard,
-    PositionOnCard, RecordParts, RectangleParts, TileParts, VerdictParts, WindowOnCard,
+    BandsOnCard, CardParts, CorrectedTile, CoverParts, OffsetParts, OriginParts, OverviewOnCards,
+    PixelOnCard, PlaceOnCard, PositionOnCard, RecordParts, RectangleParts, RefusalParts,
+    SpacingParts, TileParts, VerdictParts, WindowOnCard, ZoneParts,
 };
 pub use plain::{
     fordcask_align, fordcask_basic_zone, fordcask_cover, fordcask_offset, fordcask_rectangle,

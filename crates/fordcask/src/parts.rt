@@ -1,6 +1,56 @@
-// Blocks of numbers, laid out as C has them (bindings/c/fordcask.h).
+// Blocks of numbers, laid out as C has them (bindings/c/fordcask.h). `number` and `at` are the refusal's number and place, both 0 in an answer; the values
+// of an answer are 0 in a refusal, and so is the total of blanks of the card, which stands last.
 
-// Number, place, and the zones that cover a latitude: the first `length` slots, the others 0.
+/// Number and place, of a question whose answer is left in a buffer and that reads no card.
+#[repr(C)]
+#[derive(Clone, Copy)]
+pub struct RefusalParts {
+    pub number: u32,
+    pub at: u64,
+}
+
+/// Number, place, A and B.
+#[repr(C)]
+#[derive(Clone, Copy)]
+pub struct SpacingParts {
+    pub number: u32,
+    pub at: u64,
+    pub a: u64,
+    pub b: u64,
+}
+
+/// Number, place and a zone.
+#[repr(C)]
+#[derive(Clone, Copy)]
+pub struct ZoneParts {
+    pub number: u32,
+    pub at: u64,
+    pub zone: u64,
+}
+
+/// Number, place, n and m in tiles, and the two stored angles.
+#[repr(C)]
+#[derive(Clone, Copy)]
+pub struct OriginParts {
+    pub number: u32,
+    pub at: u64,
+    pub n: i64,
+    pub m: i64,
+    pub pso: i64,
+    pub lso: i64,
+}
+
+/// Number, place and the offset, in doubles.
+#[repr(C)]
+#[derive(Clone, Copy)]
+pub struct OffsetParts {
+    pub number: u32,
+    pub at: u64,
+    pub lat: f64,
+    pub lon: f64,
+}
+
+/// Number, place, and the zones that cover a latitude: the first `length` slots, the others 0.
 #[repr(C)]
 #[derive(Clone, Copy)]
 pub struct CoverParts {
@@ -10,7 +60,7 @@ pub struct CoverParts {
     pub zones: [u64; 6],
 }
 
-// Number, place, and the zones of a rectangle: the first `length` slots, the others 0.
+/// Number, place, and the zones of a rectangle: the first `length` slots, the others 0.
 #[repr(C)]
 #[derive(Clone, Copy)]
 pub struct RectangleParts {
@@ -20,7 +70,7 @@ pub struct RectangleParts {
     pub zones: [u64; 18],
 }
 
-// Number, place, what a card holds, and the total of its blanks; TIF is 1 for Y.
+/// Number, place, what a card holds, and the total of its blanks; TIF is 1 for Y.
 #[repr(C)]
 #[derive(Clone, Copy)]
 pub struct CardParts {
@@ -41,7 +91,7 @@ pub struct CardParts {
     pub blanks: u64,
 }
 
-// What is written on a card; TIF is N for 0, else Y.
+/// What is written on a card; TIF is N for 0, else Y.
 #[repr(C)]
 #[derive(Clone, Copy)]
 pub struct RecordParts {
@@ -57,7 +107,7 @@ pub struct RecordParts {
     pub tif: u8,
 }
 
-// Number, place, and the total of blanks of the card, of a question whose answer is left in buffers.
+/// Number, place, and the total of blanks of the card, of a question whose answer is left in buffers.
 #[repr(C)]
 #[derive(Clone, Copy)]
 pub struct VerdictParts {
@@ -66,7 +116,7 @@ pub struct VerdictParts {
     pub blanks: u64,
 }
 
-// Number, the refusal's place, the place of the zone grid, and the total of blanks of the card.
+/// Number, the refusal's place, the place of the zone grid, and the total of blanks of the card.
 #[repr(C)]
 #[derive(Clone, Copy)]
 pub struct PlaceOnCard {
@@ -77,7 +127,7 @@ pub struct PlaceOnCard {
     pub blanks: u64,
 }
 
-// Number, place, latitude and longitude, and the total of blanks of the card.
+/// Number, place, latitude and longitude, and the total of blanks of the card.
 #[repr(C)]
 #[derive(Clone, Copy)]
 pub struct PositionOnCard {
@@ -88,7 +138,7 @@ pub struct PositionOnCard {
     pub blanks: u64,
 }
 
-// Number, place, row and column, and the total of blanks of the card.
+/// Number, place, row and column, and the total of blanks of the card.
 #[repr(C)]
 #[derive(Clone, Copy)]
 pub struct PixelOnCard {
@@ -99,7 +149,7 @@ pub struct PixelOnCard {
     pub blanks: u64,
 }
 
-// Number, place, row and column of an overview's pixel, and the totals of blanks of the chart's card and of the overview's.
+/// Number, place, row and column of an overview's pixel, and the totals of blanks of the chart's card and of the overview's.
 #[repr(C)]
 #[derive(Clone, Copy)]
 pub struct OverviewOnCards {
@@ -111,7 +161,7 @@ pub struct OverviewOnCards {
     pub overview_blanks: u64,
 }
 
-// Number, place, the three band values, and the total of blanks of the card.
+/// Number, place, the three band values, and the total of blanks of the card.
 #[repr(C)]
 #[derive(Clone, Copy)]
 pub struct BandsOnCard {
@@ -123,7 +173,7 @@ pub struct BandsOnCard {
     pub blanks: u64,
 }
 
-// Number, place, 1 where a tile is missing, that tile, and the total of blanks of the card.
+/// Number, place, 1 where a tile is missing, that tile, and the total of blanks of the card.
 #[repr(C)]
 #[derive(Clone, Copy)]
 pub struct WindowOnCard {
@@ -134,7 +184,7 @@ pub struct WindowOnCard {
     pub blanks: u64,
 }
 
-// Number, place, the stored number of a tile, where its bytes stand in the store, and the total of blanks of the card.
+/// Number, place, the stored number of a tile, where its bytes stand in the store, and the total of blanks of the card.
 #[repr(C)]
 #[derive(Clone, Copy)]
 pub struct TileParts {
@@ -146,7 +196,7 @@ pub struct TileParts {
     pub blanks: u64,
 }
 
-// Number, place, 0 for the base store or 1 for the corrections store, a tile's number and bytes there, and the total of blanks of the card.
+/// Number, place, 0 for the base store or 1 for the corrections store, a tile's number and bytes there, and the total of blanks of the card.
 #[repr(C)]
 #[derive(Clone, Copy)]
 pub struct CorrectedTile {

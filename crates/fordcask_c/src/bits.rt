@@ -1,21 +1,15 @@
-// Questions on a card and its tile index as presence bits (02, E7).
+// Questions on a card and its tile index as presence bits.
 ghost use Rattle.std.specs.Prelude.{◌≡◌};
-ghost use Rattle.arc.specs.declared.Verdict.{Verdict};
-ghost use Rattle.arc.specs.Refusals.{refusal_of};
-ghost use Rattle.card.specs.Read.{read_of, on_card, told_on_card};
-ghost use Rattle.tiles.specs.declared.NumberAnswer.{NumberAnswer};
-ghost use Rattle.tiles.specs.declared.BandsAnswer.{BandsAnswer};
-ghost use Rattle.tiles.specs.declared.WindowAnswer.{WindowAnswer};
-ghost use Rattle.tiles.specs.LookUp.{bands_report};
-ghost use Rattle.tiles.specs.Window.{window_report};
+ghost use Rattle.card.specs.Read.{card_read};
 ghost use Rattle.tiles.specs.Bits.{bits_number_of, bits_bands_of, bits_window_of};
 ghost use Rattle.convert.specs.Convert.{to_bits_of, bits_left, to_list_of, list_left};
-ghost use Rattle.fordcask.specs.Entry.{verdict_parts, bands_block, window_block, tile_parts};
+ghost use Rattle.fordcask.specs.Entry.{asked, on_reading, verdict_block};
+ghost use Rattle.fordcask.specs.Tiles.{bands_block, window_block, tile_block};
 
 use arc::Series;
 use fordcask::{BandsOnCard, TileParts, VerdictParts, WindowOnCard};
 
-// Writes the presence bits of an index in reading order. Refuses reading's numbers, then 6, 20; in a refusal the words stay.
+/// Writes the presence bits of an index in reading order. Refuses reading's numbers, then 6, 20; in a refusal the words stay.
 #[unsafe(no_mangle)]
 pub extern "C" fn fordcask_to_bits(
     series: Series,
@@ -23,15 +17,13 @@ pub extern "C" fn fordcask_to_bits(
     index: &[u32],
     words: &mut [u64],
 ) -> VerdictParts
-    ensures answer { result ≡ verdict_parts (read_of series card.now).blanks (refusal_of (on_card (read_of series card.now) Verdict.Refused
-        (λ k. to_bits_of k index.now words.old))) }
-    ensures left { words.new ≡ on_card (read_of series card.now) (λ e. words.old)
-        (λ k. bits_left k index.now words.old) }
+    ensures answer { result ≡ verdict_block (asked (card_read series card.now) (λ k. to_bits_of k index.now words.old)) }
+    ensures left { words.new ≡ on_reading (card_read series card.now) words.old (λ k. bits_left k index.now words.old) }
 {
     fordcask::fordcask_to_bits(series, card, index, words)
 }
 
-// Writes the index of presence bits. Refuses reading's numbers, then 6, 21; in a refusal the index stays.
+/// Writes the index of presence bits. Refuses reading's numbers, then 6, 21; in a refusal the index stays.
 #[unsafe(no_mangle)]
 pub extern "C" fn fordcask_to_list(
     series: Series,
@@ -39,15 +31,13 @@ pub extern "C" fn fordcask_to_list(
     words: &[u64],
     index: &mut [u32],
 ) -> VerdictParts
-    ensures answer { result ≡ verdict_parts (read_of series card.now).blanks (refusal_of (on_card (read_of series card.now) Verdict.Refused
-        (λ k. to_list_of k words.now index.old))) }
-    ensures left { index.new ≡ on_card (read_of series card.now) (λ e. index.old)
-        (λ k. list_left k words.now index.old) }
+    ensures answer { result ≡ verdict_block (asked (card_read series card.now) (λ k. to_list_of k words.now index.old)) }
+    ensures left { index.new ≡ on_reading (card_read series card.now) index.old (λ k. list_left k words.now index.old) }
 {
     fordcask::fordcask_to_list(series, card, words, index)
 }
 
-// The stored number of a pixel's tile, by presence bits, and where its bytes stand in the store. Refuses reading's numbers, then 6, 21, 12, 13, 14, 15.
+/// The stored number of a pixel's tile, by presence bits, and where its bytes stand in the store. Refuses reading's numbers, then 6, 21, 12, 13, 14, 15.
 #[unsafe(no_mangle)]
 pub extern "C" fn fordcask_bits_tile(
     series: Series,
@@ -58,13 +48,13 @@ pub extern "C" fn fordcask_bits_tile(
     row: i64,
     column: i64,
 ) -> TileParts
-    ensures { result ≡ tile_parts (read_of series card.now).blanks (on_card (read_of series card.now) NumberAnswer.Refused
+    ensures { result ≡ tile_block (asked (card_read series card.now)
         (λ k. bits_number_of k words.now count store.now row column)) }
 {
     fordcask::fordcask_bits_tile(series, card, words, count, store, row, column)
 }
 
-// The band values of a pixel, by presence bits. Refuses reading's numbers, then 6, 21, 12, 13, 14, 15.
+/// The band values of a pixel, by presence bits. Refuses reading's numbers, then 6, 21, 12, 13, 14, 15.
 #[unsafe(no_mangle)]
 pub extern "C" fn fordcask_bits_bands(
     series: Series,
@@ -75,13 +65,13 @@ pub extern "C" fn fordcask_bits_bands(
     row: i64,
     column: i64,
 ) -> BandsOnCard
-    ensures { bands_block result ≡ told_on_card bands_report (read_of series card.now) BandsAnswer.Refused
-        (λ k. bits_bands_of k words.now count store.now row column) }
+    ensures { result ≡ bands_block (asked (card_read series card.now)
+        (λ k. bits_bands_of k words.now count store.now row column)) }
 {
     fordcask::fordcask_bits_bands(series, card, words, count, store, row, column)
 }
 
-// The first tile of a window, in reading order, that is not stored, by presence bits. Refuses reading's numbers, then 6, 21, 12, 15.
+/// The first tile of a window, in reading order, that is not stored, by presence bits. Refuses reading's numbers, then 6, 21, 12, 15.
 #[unsafe(no_mangle)]
 pub extern "C" fn fordcask_bits_window(
     series: Series,
@@ -93,8 +83,8 @@ pub extern "C" fn fordcask_bits_window(
     height: u64,
     width: u64,
 ) -> WindowOnCard
-    ensures { window_block result ≡ told_on_card window_report (read_of series card.now) WindowAnswer.Refused
-        (λ k. bits_window_of k words.now count top left height width) }
+    ensures { result ≡ window_block (asked (card_read series card.now)
+        (λ k. bits_window_of k words.now count top left height width)) }
 {
     fordcask::fordcask_bits_window(series, card, words, count, top, left, height, width)
 }

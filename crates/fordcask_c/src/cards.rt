@@ -1,55 +1,54 @@
-// Questions on a card, handed in as its bytes with scale, factor and zone (01, "Origins and the zone grid"; 02, E8).
+// Questions on a card, handed in as its bytes with scale, factor and zone.
 ghost use Rattle.std.specs.Prelude.{◌≡◌};
-ghost use Rattle.arc.specs.Refusals.{refusal_of, refused_with};
+ghost use Rattle.card_text.specs.Write.{write_of, out_of};
 ghost use Rattle.card.specs.declared.Pair.{Pair};
-ghost use Rattle.card.specs.declared.PlaceAnswer.{PlaceAnswer};
-ghost use Rattle.card.specs.declared.PositionAnswer.{PositionAnswer};
-ghost use Rattle.card.specs.declared.PixelAnswer.{PixelAnswer};
-ghost use Rattle.card.specs.Read.{read_of, read_strict, on_card, told_on_card};
-ghost use Rattle.card.specs.Blanks.{with_total};
-ghost use Rattle.card.specs.Write.{write_of, out_of};
-ghost use Rattle.card.specs.Grid.{place_of, place_report, position_of, position_report, pixel_of, pixel_report};
-ghost use Rattle.card.specs.Overview.{overview_pixel_of};
-ghost use Rattle.fordcask.specs.Entry.{card_parts, record_from, place_block, position_block, pixel_block, overview_block};
+ghost use Rattle.card.specs.Read.{card_read, card_read_strict};
+ghost use Rattle.card.specs.Grid.{place_of, position_of, pixel_of};
+ghost use Rattle.fordcask.specs.Entry.{asked, asked_over, card_block, record_from, refusal_block, place_block, position_block, pixel_block, overview_block};
 
-use arc::{Refusal, Series};
-use fordcask::{CardParts, OverviewOnCards, PixelOnCard, PlaceOnCard, PositionOnCard, RecordParts};
+use arc::Series;
+use fordcask::{
+    CardParts, OverviewOnCards, PixelOnCard, PlaceOnCard, PositionOnCard, RecordParts, RefusalParts,
+};
 
-// Reads a card, in which blanks may stand before a number's digits (02, E2). Refuses 1, 17, 1, 2, 3, 6, the subfields' 7 and 8, 9, 10, 11.
+/// Reads a card, in which blanks may stand before a number's digits. Refuses 1, 17, 1, 2, 3, 6, the subfields' 7 and 8, 9, 10, 11.
 #[unsafe(no_mangle)]
 pub extern "C" fn fordcask_read_card(series: Series, card: &[u8]) -> CardParts
-    ensures { result ≡ card_parts (read_of series card.now) }
+    ensures { result ≡ card_block (card_read series card.now) }
 {
     fordcask::fordcask_read_card(series, card)
 }
 
-// Reads a card as 01 has it: no blank may stand before a number's digits. Refuses as `fordcask_read_card`.
+/// Reads a card none of whose numbers may start with a blank. Refuses as `fordcask_read_card`.
 #[unsafe(no_mangle)]
 pub extern "C" fn fordcask_read_strict(series: Series, card: &[u8]) -> CardParts
-    ensures { result ≡ card_parts (read_strict series card.now) }
+    ensures { result ≡ card_block (card_read_strict series card.now) }
 {
     fordcask::fordcask_read_strict(series, card)
 }
 
-// Writes a card. Refuses 1, 24, 17, 1, 2, 3, 6, NFL, NFC (8), BAD (7), 10, 11; on a refusal the output stays.
+/// Writes a card. Refuses 1, 24, 17, 1, 2, 3, 6, NFL, NFC (8), BAD (7), 10, 11; on a refusal the output stays.
 #[unsafe(no_mangle)]
-pub extern "C" fn fordcask_write_card(series: Series, r: RecordParts, out: &mut [u8]) -> Refusal
-    ensures answer { result ≡ refusal_of (write_of series (record_from r) out.old) }
+pub extern "C" fn fordcask_write_card(
+    series: Series,
+    r: RecordParts,
+    out: &mut [u8],
+) -> RefusalParts
+    ensures answer { result ≡ refusal_block (write_of series (record_from r) out.old) }
     ensures left { out.new ≡ out_of series (record_from r) out.old }
 {
     fordcask::fordcask_write_card(series, r, out)
 }
 
-// The place of a pixel. Refuses reading's numbers, then 12.
+/// The place of a pixel. Refuses reading's numbers, then 12.
 #[unsafe(no_mangle)]
 pub extern "C" fn fordcask_place(series: Series, card: &[u8], row: i64, column: i64) -> PlaceOnCard
-    ensures { place_block result
-        ≡ told_on_card place_report (read_of series card.now) PlaceAnswer.Refused (λ k. place_of k row column) }
+    ensures { result ≡ place_block (asked (card_read series card.now) (λ k. place_of k row column)) }
 {
     fordcask::fordcask_place(series, card, row, column)
 }
 
-// The position of a pixel's centre (02, E8). Refuses reading's numbers, then 12, 13.
+/// The position of a pixel's centre. Refuses reading's numbers, then 12, 13.
 #[unsafe(no_mangle)]
 pub extern "C" fn fordcask_position(
     series: Series,
@@ -57,13 +56,12 @@ pub extern "C" fn fordcask_position(
     row: i64,
     column: i64,
 ) -> PositionOnCard
-    ensures { position_block result
-        ≡ told_on_card position_report (read_of series card.now) PositionAnswer.Refused (λ k. position_of Pair.Centre k row column) }
+    ensures { result ≡ position_block (asked (card_read series card.now) (λ k. position_of Pair.Centre k row column)) }
 {
     fordcask::fordcask_position(series, card, row, column)
 }
 
-// The position of a pixel's corner (02, E8). Refuses reading's numbers, then 12, 13.
+/// The position of a pixel's corner. Refuses reading's numbers, then 12, 13.
 #[unsafe(no_mangle)]
 pub extern "C" fn fordcask_corner_position(
     series: Series,
@@ -71,22 +69,20 @@ pub extern "C" fn fordcask_corner_position(
     row: i64,
     column: i64,
 ) -> PositionOnCard
-    ensures { position_block result
-        ≡ told_on_card position_report (read_of series card.now) PositionAnswer.Refused (λ k. position_of Pair.Corner k row column) }
+    ensures { result ≡ position_block (asked (card_read series card.now) (λ k. position_of Pair.Corner k row column)) }
 {
     fordcask::fordcask_corner_position(series, card, row, column)
 }
 
-// The pixel that contains a position (02, E8). Refuses reading's numbers, then 4, 5, 12, 13.
+/// The pixel that contains a position. Refuses reading's numbers, then 4, 5, 12, 13.
 #[unsafe(no_mangle)]
 pub extern "C" fn fordcask_pixel(series: Series, card: &[u8], lat: i64, lon: i64) -> PixelOnCard
-    ensures { pixel_block result
-        ≡ told_on_card pixel_report (read_of series card.now) PixelAnswer.Refused (λ k. pixel_of Pair.Centre k lat lon) }
+    ensures { result ≡ pixel_block (asked (card_read series card.now) (λ k. pixel_of Pair.Centre k lat lon)) }
 {
     fordcask::fordcask_pixel(series, card, lat, lon)
 }
 
-// The pixel whose corner is nearest to a position (02, E8). Refuses reading's numbers, then 4, 5, 12, 13.
+/// The pixel whose corner is nearest to a position. Refuses reading's numbers, then 4, 5, 12, 13.
 #[unsafe(no_mangle)]
 pub extern "C" fn fordcask_corner_pixel(
     series: Series,
@@ -94,13 +90,12 @@ pub extern "C" fn fordcask_corner_pixel(
     lat: i64,
     lon: i64,
 ) -> PixelOnCard
-    ensures { pixel_block result
-        ≡ told_on_card pixel_report (read_of series card.now) PixelAnswer.Refused (λ k. pixel_of Pair.Corner k lat lon) }
+    ensures { result ≡ pixel_block (asked (card_read series card.now) (λ k. pixel_of Pair.Corner k lat lon)) }
 {
     fordcask::fordcask_corner_pixel(series, card, lat, lon)
 }
 
-// The overview pixel of a chart's pixel, in the corner pair (02, E4, E8). Refuses reading's numbers, then 12, 13, of the chart first each time.
+/// The overview pixel of a chart's pixel, in the corner pair. Refuses reading's numbers, then 12, 13, of the chart first each time.
 #[unsafe(no_mangle)]
 pub extern "C" fn fordcask_overview_pixel(
     series: Series,
@@ -110,11 +105,7 @@ pub extern "C" fn fordcask_overview_pixel(
     row: i64,
     column: i64,
 ) -> OverviewOnCards
-    ensures { overview_block result
-        ≡ on_card (read_of series card.now) (λ e. refused_with e 4)
-        (λ chart. with_total (read_of overview_series overview_card.now).blanks (with_total (read_of series card.now).blanks
-        (pixel_report (on_card (read_of overview_series overview_card.now) PixelAnswer.Refused
-        (λ k. overview_pixel_of chart k row column))))) }
+    ensures { result ≡ overview_block (asked_over (card_read series card.now) (card_read overview_series overview_card.now) row column) }
 {
     fordcask::fordcask_overview_pixel(series, card, overview_series, overview_card, row, column)
 }

@@ -1,18 +1,14 @@
-// Questions on a card, its tile index as presence bits and the corrections beside it (02, E1, E7).
+// Questions on a card, its tile index as presence bits and the corrections beside it.
 ghost use Rattle.std.specs.Prelude.{◌≡◌};
-ghost use Rattle.card.specs.Read.{read_of, on_card, told_on_card};
-ghost use Rattle.tiles.specs.declared.SourceAnswer.{SourceAnswer};
-ghost use Rattle.tiles.specs.declared.BandsAnswer.{BandsAnswer};
-ghost use Rattle.tiles.specs.declared.WindowAnswer.{WindowAnswer};
-ghost use Rattle.tiles.specs.LookUp.{bands_report};
-ghost use Rattle.tiles.specs.Window.{window_report};
+ghost use Rattle.card.specs.Read.{card_read};
 ghost use Rattle.tiles.specs.Bits.{bits_source_of, bits_either_bands_of, corrected_bits_window_of};
-ghost use Rattle.fordcask.specs.Entry.{bands_block, window_block, corrected_tile};
+ghost use Rattle.fordcask.specs.Entry.{asked};
+ghost use Rattle.fordcask.specs.Tiles.{bands_block, window_block, corrected_tile_block};
 
 use arc::Series;
 use fordcask::{BandsOnCard, CorrectedTile, WindowOnCard};
 
-// The store that holds a pixel's tile, its number there and its bytes. Refuses reading's numbers, then 6, 6, 21, 12, 13, 15 of a correction, 14, 15.
+/// The store that holds a pixel's tile, its number there and its bytes. Refuses reading's numbers, then 6, 6, 21, 12, 13, 15 of a correction, 14, 15.
 #[unsafe(no_mangle)]
 pub extern "C" fn fordcask_corrected_bits_tile(
     series: Series,
@@ -26,7 +22,7 @@ pub extern "C" fn fordcask_corrected_bits_tile(
     row: i64,
     column: i64,
 ) -> CorrectedTile
-    ensures { result ≡ corrected_tile (read_of series card.now).blanks (on_card (read_of series card.now) SourceAnswer.Refused
+    ensures { result ≡ corrected_tile_block (asked (card_read series card.now)
         (λ k. bits_source_of k words.now count store.now corrections.now corrected second.now row column)) }
 {
     fordcask::fordcask_corrected_bits_tile(
@@ -43,7 +39,7 @@ pub extern "C" fn fordcask_corrected_bits_tile(
     )
 }
 
-// The band values of a pixel, corrected first. Refuses reading's numbers, then 6, 6, 21, 12, 13, 15 of a correction, 14, 15.
+/// The band values of a pixel, corrected first. Refuses reading's numbers, then 6, 6, 21, 12, 13, 15 of a correction, 14, 15.
 #[unsafe(no_mangle)]
 pub extern "C" fn fordcask_corrected_bits_bands(
     series: Series,
@@ -57,8 +53,8 @@ pub extern "C" fn fordcask_corrected_bits_bands(
     row: i64,
     column: i64,
 ) -> BandsOnCard
-    ensures { bands_block result ≡ told_on_card bands_report (read_of series card.now) BandsAnswer.Refused
-        (λ k. bits_either_bands_of k words.now count store.now corrections.now corrected second.now row column) }
+    ensures { result ≡ bands_block (asked (card_read series card.now)
+        (λ k. bits_either_bands_of k words.now count store.now corrections.now corrected second.now row column)) }
 {
     fordcask::fordcask_corrected_bits_bands(
         series,
@@ -74,7 +70,7 @@ pub extern "C" fn fordcask_corrected_bits_bands(
     )
 }
 
-// The first tile of a window, in reading order, that is neither corrected nor stored. Refuses reading's numbers, then 6, 6, 21, 12, 15.
+/// The first tile of a window, in reading order, that is neither corrected nor stored. Refuses reading's numbers, then 6, 6, 21, 12, 15.
 #[unsafe(no_mangle)]
 pub extern "C" fn fordcask_corrected_bits_window(
     series: Series,
@@ -88,8 +84,8 @@ pub extern "C" fn fordcask_corrected_bits_window(
     height: u64,
     width: u64,
 ) -> WindowOnCard
-    ensures { window_block result ≡ told_on_card window_report (read_of series card.now) WindowAnswer.Refused
-        (λ k. corrected_bits_window_of k words.now count corrections.now corrected top left height width) }
+    ensures { result ≡ window_block (asked (card_read series card.now)
+        (λ k. corrected_bits_window_of k words.now count corrections.now corrected top left height width)) }
 {
     fordcask::fordcask_corrected_bits_window(
         series,

@@ -1,20 +1,14 @@
-// Questions on a card, its tile index and the corrections beside it (02, E1).
+// Questions on a card, its tile index and the corrections beside it.
 ghost use Rattle.std.specs.Prelude.{◌≡◌};
-ghost use Rattle.arc.specs.declared.Verdict.{Verdict};
-ghost use Rattle.arc.specs.Refusals.{refusal_of};
-ghost use Rattle.card.specs.Read.{read_of, on_card, told_on_card};
-ghost use Rattle.tiles.specs.declared.SourceAnswer.{SourceAnswer};
-ghost use Rattle.tiles.specs.declared.BandsAnswer.{BandsAnswer};
-ghost use Rattle.tiles.specs.declared.WindowAnswer.{WindowAnswer};
-ghost use Rattle.tiles.specs.LookUp.{bands_report};
-ghost use Rattle.tiles.specs.Window.{window_report};
+ghost use Rattle.card.specs.Read.{card_read};
 ghost use Rattle.tiles.specs.Corrections.{source_of, either_bands_of, corrected_window_of, setting_of, set_of};
-ghost use Rattle.fordcask.specs.Entry.{verdict_parts, bands_block, window_block, corrected_tile};
+ghost use Rattle.fordcask.specs.Entry.{asked, on_reading, verdict_block};
+ghost use Rattle.fordcask.specs.Tiles.{bands_block, window_block, corrected_tile_block};
 
 use arc::Series;
 use fordcask::{BandsOnCard, CorrectedTile, VerdictParts, WindowOnCard};
 
-// The store that holds a pixel's tile, its number there and its bytes. Refuses reading's numbers, then 6, 6, 12, 13, 15 of a correction, 14, 15.
+/// The store that holds a pixel's tile, its number there and its bytes. Refuses reading's numbers, then 6, 6, 12, 13, 15 of a correction, 14, 15.
 #[unsafe(no_mangle)]
 pub extern "C" fn fordcask_corrected_tile(
     series: Series,
@@ -28,7 +22,7 @@ pub extern "C" fn fordcask_corrected_tile(
     row: i64,
     column: i64,
 ) -> CorrectedTile
-    ensures { result ≡ corrected_tile (read_of series card.now).blanks (on_card (read_of series card.now) SourceAnswer.Refused
+    ensures { result ≡ corrected_tile_block (asked (card_read series card.now)
         (λ k. source_of k index.now count store.now corrections.now corrected second.now row column)) }
 {
     fordcask::fordcask_corrected_tile(
@@ -45,7 +39,7 @@ pub extern "C" fn fordcask_corrected_tile(
     )
 }
 
-// The band values of a pixel, corrected first. Refuses reading's numbers, then 6, 6, 12, 13, 15 of a correction, 14, 15.
+/// The band values of a pixel, corrected first. Refuses reading's numbers, then 6, 6, 12, 13, 15 of a correction, 14, 15.
 #[unsafe(no_mangle)]
 pub extern "C" fn fordcask_corrected_bands(
     series: Series,
@@ -59,8 +53,8 @@ pub extern "C" fn fordcask_corrected_bands(
     row: i64,
     column: i64,
 ) -> BandsOnCard
-    ensures { bands_block result ≡ told_on_card bands_report (read_of series card.now) BandsAnswer.Refused
-        (λ k. either_bands_of k index.now count store.now corrections.now corrected second.now row column) }
+    ensures { result ≡ bands_block (asked (card_read series card.now)
+        (λ k. either_bands_of k index.now count store.now corrections.now corrected second.now row column)) }
 {
     fordcask::fordcask_corrected_bands(
         series,
@@ -76,7 +70,7 @@ pub extern "C" fn fordcask_corrected_bands(
     )
 }
 
-// The first tile of a window, in reading order, that is neither corrected nor stored. Refuses reading's numbers, then 6, 6, 12, 15.
+/// The first tile of a window, in reading order, that is neither corrected nor stored. Refuses reading's numbers, then 6, 6, 12, 15.
 #[unsafe(no_mangle)]
 pub extern "C" fn fordcask_corrected_window(
     series: Series,
@@ -90,8 +84,8 @@ pub extern "C" fn fordcask_corrected_window(
     height: u64,
     width: u64,
 ) -> WindowOnCard
-    ensures { window_block result ≡ told_on_card window_report (read_of series card.now) WindowAnswer.Refused
-        (λ k. corrected_window_of k index.now count corrections.now corrected top left height width) }
+    ensures { result ≡ window_block (asked (card_read series card.now)
+        (λ k. corrected_window_of k index.now count corrections.now corrected top left height width)) }
 {
     fordcask::fordcask_corrected_window(
         series,
@@ -107,7 +101,7 @@ pub extern "C" fn fordcask_corrected_window(
     )
 }
 
-// Sets a tile's entry in the corrections, 0 to take one back. Refuses reading's numbers, then 6, 12, 15; then the list stays.
+/// Sets a tile's entry in the corrections, 0 to take one back. Refuses reading's numbers, then 6, 12, 15; in a refusal the list stays.
 #[unsafe(no_mangle)]
 pub extern "C" fn fordcask_set_correction(
     series: Series,
@@ -117,10 +111,8 @@ pub extern "C" fn fordcask_set_correction(
     tile: u64,
     number: u64,
 ) -> VerdictParts
-    ensures answer { result ≡ verdict_parts (read_of series card.now).blanks (refusal_of (on_card (read_of series card.now) Verdict.Refused
-        (λ k. setting_of k corrections.old corrected tile number))) }
-    ensures left { corrections.new ≡ on_card (read_of series card.now) (λ e. corrections.old)
-        (λ k. set_of k corrections.old corrected tile number) }
+    ensures answer { result ≡ verdict_block (asked (card_read series card.now) (λ k. setting_of k corrections.old corrected tile number)) }
+    ensures left { corrections.new ≡ on_reading (card_read series card.now) corrections.old (λ k. set_of k corrections.old corrected tile number) }
 {
     fordcask::fordcask_set_correction(series, card, corrections, corrected, tile, number)
 }

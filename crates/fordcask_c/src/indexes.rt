@@ -1,20 +1,16 @@
-// Questions on a card and its tile index (01, "Tiles").
+// Questions on a card and its tile index.
 ghost use Rattle.std.specs.Prelude.{◌≡◌};
-ghost use Rattle.arc.specs.declared.Verdict.{Verdict};
-ghost use Rattle.arc.specs.Refusals.{refusal_of};
-ghost use Rattle.card.specs.Read.{read_of, on_card, told_on_card};
-ghost use Rattle.tiles.specs.declared.NumberAnswer.{NumberAnswer};
-ghost use Rattle.tiles.specs.declared.BandsAnswer.{BandsAnswer};
-ghost use Rattle.tiles.specs.declared.WindowAnswer.{WindowAnswer};
+ghost use Rattle.card.specs.Read.{card_read};
 ghost use Rattle.tiles.specs.Check.{check_of, marks_of};
-ghost use Rattle.tiles.specs.LookUp.{number_of, bands_of, bands_report};
-ghost use Rattle.tiles.specs.Window.{window_of, window_report};
-ghost use Rattle.fordcask.specs.Entry.{verdict_parts, bands_block, window_block, tile_parts};
+ghost use Rattle.tiles.specs.LookUp.{number_of, bands_of};
+ghost use Rattle.tiles.specs.Window.{window_of};
+ghost use Rattle.fordcask.specs.Entry.{asked, on_reading, verdict_block};
+ghost use Rattle.fordcask.specs.Tiles.{bands_block, window_block, tile_block};
 
 use arc::Series;
 use fordcask::{BandsOnCard, TileParts, VerdictParts, WindowOnCard};
 
-// Whether each number 1 to count occurs exactly once. Refuses reading's numbers, then 6, 15; on those and 6 the marks stay.
+/// Whether each number 1 to count occurs exactly once. Refuses reading's numbers, then 6, 15; on those and 6 the marks stay.
 #[unsafe(no_mangle)]
 pub extern "C" fn fordcask_index_check(
     series: Series,
@@ -23,15 +19,13 @@ pub extern "C" fn fordcask_index_check(
     count: u64,
     marks: &mut [u8],
 ) -> VerdictParts
-    ensures answer { result ≡ verdict_parts (read_of series card.now).blanks (refusal_of (on_card (read_of series card.now) Verdict.Refused
-        (λ k. check_of k index.now count marks.old))) }
-    ensures left { marks.new ≡ on_card (read_of series card.now) (λ e. marks.old)
-        (λ k. marks_of k index.now count marks.old) }
+    ensures answer { result ≡ verdict_block (asked (card_read series card.now) (λ k. check_of k index.now count marks.old)) }
+    ensures left { marks.new ≡ on_reading (card_read series card.now) marks.old (λ k. marks_of k index.now count marks.old) }
 {
     fordcask::fordcask_index_check(series, card, index, count, marks)
 }
 
-// The stored number of a pixel's tile, and where its bytes stand in the store. Refuses reading's numbers, then 6, 12, 13, 14, 15.
+/// The stored number of a pixel's tile, and where its bytes stand in the store. Refuses reading's numbers, then 6, 12, 13, 14, 15.
 #[unsafe(no_mangle)]
 pub extern "C" fn fordcask_tile(
     series: Series,
@@ -42,13 +36,13 @@ pub extern "C" fn fordcask_tile(
     row: i64,
     column: i64,
 ) -> TileParts
-    ensures { result ≡ tile_parts (read_of series card.now).blanks (on_card (read_of series card.now) NumberAnswer.Refused
+    ensures { result ≡ tile_block (asked (card_read series card.now)
         (λ k. number_of k index.now count store.now row column)) }
 {
     fordcask::fordcask_tile(series, card, index, count, store, row, column)
 }
 
-// The band values of a pixel. Refuses reading's numbers, then 6, 12, 13, 14, 15.
+/// The band values of a pixel. Refuses reading's numbers, then 6, 12, 13, 14, 15.
 #[unsafe(no_mangle)]
 pub extern "C" fn fordcask_bands(
     series: Series,
@@ -59,13 +53,13 @@ pub extern "C" fn fordcask_bands(
     row: i64,
     column: i64,
 ) -> BandsOnCard
-    ensures { bands_block result ≡ told_on_card bands_report (read_of series card.now) BandsAnswer.Refused
-        (λ k. bands_of k index.now count store.now row column) }
+    ensures { result ≡ bands_block (asked (card_read series card.now)
+        (λ k. bands_of k index.now count store.now row column)) }
 {
     fordcask::fordcask_bands(series, card, index, count, store, row, column)
 }
 
-// The first tile of a window, in reading order, that is not stored. Refuses reading's numbers, then 6, 12, 15.
+/// The first tile of a window, in reading order, that is not stored. Refuses reading's numbers, then 6, 12, 15.
 #[unsafe(no_mangle)]
 pub extern "C" fn fordcask_window(
     series: Series,
@@ -77,8 +71,8 @@ pub extern "C" fn fordcask_window(
     height: u64,
     width: u64,
 ) -> WindowOnCard
-    ensures { window_block result ≡ told_on_card window_report (read_of series card.now) WindowAnswer.Refused
-        (λ k. window_of k index.now count top left height width) }
+    ensures { result ≡ window_block (asked (card_read series card.now)
+        (λ k. window_of k index.now count top left height width)) }
 {
     fordcask::fordcask_window(series, card, index, count, top, left, height, width)
 }

@@ -1,4 +1,4 @@
-// The static library for C: each function of the library fordcask under its own name (bindings/c/fordcask.h).
+//! The static library for C: each function of the library fordcask under its own name (bindings/c/fordcask.h).
 #![tactic(auto)]
 
 mod bits;

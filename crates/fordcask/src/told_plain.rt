@@ -1,0 +1,147 @@
+// The blocks of questions on numbers alone.
+ghost use Rattle.std.specs.Prelude.{◌≡◌};
+ghost use Rattle.whole.specs.Lists.{padded};
+ghost use Rattle.fordcask.specs.Plain.{spacing_block, zone_block, cover_block, rectangle_block, origin_block, offset_block};
+
+use crate::parts::{CoverParts, OffsetParts, OriginParts, RectangleParts, SpacingParts, ZoneParts};
+use arc::{Refusal, Spacing};
+use arrayvec::ArrayVec;
+use card::Offset;
+use origin::Origin;
+
+impl From<Result<Spacing, Refusal>> for SpacingParts {
+    ghost from_gives = { λ answer block. block ≡ spacing_block answer };
+
+    fn from(answer: Result<Spacing, Refusal>) -> Self {
+        match answer {
+            Ok(Spacing { a, b }) => SpacingParts {
+                number: 0,
+                at: 0,
+                a: a.count(),
+                b: b.count(),
+            },
+            Err(e) => SpacingParts {
+                number: e.number(),
+                at: e.place(),
+                a: 0,
+                b: 0,
+            },
+        }
+    }
+}
+
+impl From<Result<u64, Refusal>> for ZoneParts {
+    ghost from_gives = { λ answer block. block ≡ zone_block answer };
+
+    fn from(answer: Result<u64, Refusal>) -> Self {
+        match answer {
+            Ok(zone) => ZoneParts {
+                number: 0,
+                at: 0,
+                zone,
+            },
+            Err(e) => ZoneParts {
+                number: e.number(),
+                at: e.place(),
+                zone: 0,
+            },
+        }
+    }
+}
+
+/// The zones in their slots, the others 0.
+fn slots<const N: usize>(zones: &ArrayVec<u64, N>) -> [u64; N]
+    ensures { result ≡ padded N zones.now.items }
+{
+    let mut slots = [0; N];
+    slots[..zones.len()].copy_from_slice(zones);
+    slots
+}
+
+impl From<Result<ArrayVec<u64, 6>, Refusal>> for CoverParts {
+    ghost from_gives = { λ answer block. block ≡ cover_block answer };
+
+    fn from(answer: Result<ArrayVec<u64, 6>, Refusal>) -> Self {
+        match answer {
+            Ok(zones) => CoverParts {
+                number: 0,
+                at: 0,
+                length: zones.len() as u64,
+                zones: slots(&zones),
+            },
+            Err(e) => CoverParts {
+                number: e.number(),
+                at: e.place(),
+                length: 0,
+                zones: [0; 6],
+            },
+        }
+    }
+}
+
+impl From<Result<ArrayVec<u64, 18>, Refusal>> for RectangleParts {
+    ghost from_gives = { λ answer block. block ≡ rectangle_block answer };
+
+    fn from(answer: Result<ArrayVec<u64, 18>, Refusal>) -> Self {
+        match answer {
+            Ok(zones) => RectangleParts {
+                number: 0,
+                at: 0,
+                length: zones.len() as u64,
+                zones: slots(&zones),
+            },
+            Err(e) => RectangleParts {
+                number: e.number(),
+                at: e.place(),
+                length: 0,
+                zones: [0; 18],
+            },
+        }
+    }
+}
+
+impl From<Result<Origin, Refusal>> for OriginParts {
+    ghost from_gives = { λ answer block. block ≡ origin_block answer };
+
+    fn from(answer: Result<Origin, Refusal>) -> Self {
+        match answer {
+            Ok(o) => OriginParts {
+                number: 0,
+                at: 0,
+                n: o.n,
+                m: o.m,
+                pso: o.pso,
+                lso: o.lso,
+            },
+            Err(e) => OriginParts {
+                number: e.number(),
+                at: e.place(),
+                n: 0,
+                m: 0,
+                pso: 0,
+                lso: 0,
+            },
+        }
+    }
+}
+
+impl From<Result<Offset, Refusal>> for OffsetParts {
+    ghost from_gives = { λ answer block. block ≡ offset_block answer };
+
+    fn from(answer: Result<Offset, Refusal>) -> Self {
+        match answer {
+            Ok(o) => OffsetParts {
+                number: 0,
+                at: 0,
+                lat: o.lat,
+                lon: o.lon,
+            },
+            Err(e) => OffsetParts {
+                number: e.number(),
+                at: e.place(),
+                lat: 0.0,
+                lon: 0.0,
+            },
+        }
+    }
+}
