@@ -1,9 +1,3 @@
-pub mod Walked
-pub mod Spans
-pub mod Found
-pub mod Acceptance
-pub mod Laid
-pub mod Strict
 pub mod Line
 pub mod Pairs
 pub mod Axes

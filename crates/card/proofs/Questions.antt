@@ -6,9 +6,9 @@ use Rattle.arc.specs.declared.Series.{Series}
 use Rattle.arc.specs.declared.Refusal.{Refusal}
 use Rattle.arc.specs.declared.Verdict.{Verdict}
 use Rattle.arc.specs.Refusals.{on_verdict}
-use Rattle.card.specs.declared.Card.{Card}
-use Rattle.card.specs.declared.Reading.{Reading}
-use Rattle.card.specs.Read.{read_of, Known, on_card}
+use Rattle.card_text.specs.declared.Fields.{Fields}
+use Rattle.card_text.specs.declared.Reading.{Reading}
+use Rattle.card_text.specs.Read.{read_of, Known, on_card}
 
 -- x is what reading answered
 module _ (series : Series) (bytes : List ℕ) {x : Reading} (e : x ≡ read_of series bytes) where
@@ -24,10 +24,10 @@ module _ (series : Series) (bytes : List ℕ) {x : Reading} (e : x ≡ read_of s
             };
       }
 
-  pub card-answers : {A : Type 0} (f : Refusal → A) (g : Card → A) → x.verdict ≡ Verdict.Accepted
+  pub card-answers : {A : Type 0} (f : Refusal → A) (g : Fields → A) → x.verdict ≡ Verdict.Accepted
       → g x.card ≡ on_card (read_of series bytes) f g
   card-answers f g v = sym (ap (λ (w : Verdict). on_verdict w f (g x.card)) v) ∙ ap (λ (y : Reading). on_card y f g) e
 
-  pub card-refuses : {A : Type 0} (f : Refusal → A) (g : Card → A) {r : Refusal} → x.verdict ≡ Verdict.Refused r
+  pub card-refuses : {A : Type 0} (f : Refusal → A) (g : Fields → A) {r : Refusal} → x.verdict ≡ Verdict.Refused r
       → f r ≡ on_card (read_of series bytes) f g
   card-refuses f g v = sym (ap (λ (w : Verdict). on_verdict w f (g x.card)) v) ∙ ap (λ (y : Reading). on_card y f g) e

@@ -15,10 +15,7 @@ use Rattle.arc.specs.Refusals.{refusal}
 use Rattle.arc.specs.Zones.{half, quarter}
 use Rattle.card.specs.declared.range.Ranged.{Ranged}
 use Rattle.card.specs.Steps.{ranged_of}
-
-pub raise-is : (t : ℕ) (z : ℤ) (n : ℕ) → Is z n t → raise t z ≡ n
-raise-is t (pos m) n e = e
-raise-is t (negsuc m) n e = omega arith
+use Rattle.card_text.proofs.Values.{raise-is}
 
 pub inside-raise : {k : ℕ} {z : ℤ} {n : ℕ} → Inside k z n → raise k z ≡ n
 inside-raise {k} {z} {n} i = raise-is k z n (inside_is i)

@@ -1,7 +1,7 @@
 // Places of the zone grid, positions and pixels (001, 3.4.3, 3.4.4; 02, E8).
 ghost use Rattle.std.specs.Prelude.{◌≡◌, ◌+◌, ◌-◌, ◌*◌, ◌%◌, ◌≤◌, ◌<◌, pos, ◌-ℤ◌};
 ghost use Rattle.card.specs.declared.Pair.{Pair};
-ghost use Rattle.card.specs.Read.{Known};
+ghost use Rattle.card_text.specs.Read.{Known};
 ghost use Rattle.card.specs.Steps.{inward};
 ghost use Rattle.card.specs.Grid.{place_row, place_column, in_tiles, in_chart, latitude_of, longitude_of, extents_of, verdict_of};
 ghost use Rattle.card.specs.Grid.{row_of, column_of, place_of, position_of, pixel_at, pixel_of};

@@ -2,7 +2,7 @@
 #![tactic(auto)]
 
 ghost use Rattle.std.specs.Prelude.{◌≡◌};
-ghost use Rattle.card.specs.Read.{no_card};
+ghost use Rattle.card_text.specs.Read.{no_card};
 
 use arc::{Refusal, Series, Verdict};
 

@@ -1,6 +1,6 @@
 // The overview pixel of a chart's pixel, in the corner pair (02, E4, E8).
 ghost use Rattle.std.specs.Prelude.{◌≡◌};
-ghost use Rattle.card.specs.Read.{Known};
+ghost use Rattle.card_text.specs.Read.{Known};
 ghost use Rattle.card.specs.Overview.{overview_pixel_of};
 
 use crate::{Card, Pair, PixelAnswer, PositionAnswer};

@@ -14,10 +14,10 @@ use Rattle.text.specs.declared.Digits.{Digits}
 use Rattle.text.proofs.Bytes.{all-groups}
 use Rattle.text.proofs.Runs.{laid-tests}
 use Rattle.text.proofs.Angles.{valid-tests}
-use Rattle.card.specs.declared.Fill.{Fill}
-use Rattle.card.specs.Layout.{LSO, PSO, layout, bytes_of, walk}
+use Rattle.card_text.specs.declared.Fill.{Fill}
+use Rattle.card_text.specs.Layout.{LSO, PSO, layout, bytes_of, walk}
 use Rattle.card_text.specs.StepsFields.{DigitsOf, shifted, value_in}
-use Rattle.card.proofs.Walked.{right-in}
+use Rattle.card_text.proofs.Walked.{right-in}
 
 -- ---- an angle of d degree digits
 module _ (d limit : ℕ) (s : List ℕ) where

@@ -17,8 +17,8 @@ use Rattle.arc.specs.Spacing.{Grid}
 use Rattle.origin.specs.Origin.{stored_angle}
 use Rattle.origin.proofs.Line.{is-inside}
 use Rattle.origin.proofs.Axis.{Axis, stored_is}
-use Rattle.card.specs.Read.{tile_storing}
-use Rattle.card.proofs.Found.{tile-stores, stores-tile}
+use Rattle.card_text.specs.Read.{tile_storing}
+use Rattle.card_text.proofs.Found.{tile-stores, stores-tile}
 use Rattle.card_text.specs.StepsRead.{tile_angle, found_at, tile_at}
 
 -- ---- one axis: z is an angle, counted from −l

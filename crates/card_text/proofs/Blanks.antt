@@ -14,13 +14,13 @@ use Rattle.text.specs.Buffer.{digits_in}
 use Rattle.text.proofs.Bytes.{drop-next, length_part}
 use Rattle.text.proofs.Numbers.{digits-read}
 use Rattle.text.proofs.Blanks.{digits-none, none_filled}
-use Rattle.card.specs.declared.Fill.{Fill}
+use Rattle.card_text.specs.declared.Fill.{Fill}
 use Rattle.arc.specs.declared.Verdict.{Verdict}
-use Rattle.card.specs.Layout.{Subfield, STR, ARV, BRV, NUL, NUS, NLL, NLS, NFL, NFC, PNC, PNL, COD, ROD, POR, PCB, PVB}
-use Rattle.card.specs.Layout.{layout, bytes_of, number_laid, right_kind, walk}
-use Rattle.card.specs.Blanks.{blanks_in, total_blanks}
-use Rattle.card.proofs.Walked.{right-in}
-use Rattle.card.proofs.Strict.{one-digit}
+use Rattle.card_text.specs.Layout.{Subfield, STR, ARV, BRV, NUL, NUS, NLL, NLS, NFL, NFC, PNC, PNL, COD, ROD, POR, PCB, PVB}
+use Rattle.card_text.specs.Layout.{layout, bytes_of, number_laid, right_kind, walk}
+use Rattle.card_text.specs.Blanks.{blanks_in, total_blanks}
+use Rattle.card_text.proofs.Walked.{right-in}
+use Rattle.card_text.proofs.Strict.{one-digit}
 use Rattle.card_text.specs.StepsFields.{lead, skip, NumberOf, lead_total}
 
 -- ---- one byte more of the scan

@@ -1,3 +1,9 @@
+pub mod Walked
+pub mod Spans
+pub mod Found
+pub mod Acceptance
+pub mod Laid
+pub mod Strict
 pub mod Blanks
 pub mod Table
 pub mod Angles

@@ -6,12 +6,12 @@ use Prim.Native.Nat.{ℕ}
 use native.Mathlib.Omega.{arith}
 use Rattle.arc.specs.declared.Refusal.{Refusal}
 use Rattle.arc.specs.declared.Verdict.{Verdict}
-use Rattle.card.specs.declared.Fill.{Fill}
-use Rattle.card.specs.Layout.{Subfield}
-use Rattle.card.specs.Layout.{bytes_of, right_kind, right_value, judge, judge_field, or_else, walk}
-use Rattle.card.proofs.Walked.{or_else-both, or_else-accepted, judge-both}
+use Rattle.card_text.specs.declared.Fill.{Fill}
+use Rattle.card_text.specs.Layout.{Subfield}
+use Rattle.card_text.specs.Layout.{bytes_of, right_kind, right_value, judge, judge_field, or_else, walk}
+use Rattle.card_text.proofs.Walked.{or_else-both, or_else-accepted, judge-both}
 use Rattle.card_text.specs.StepsFields.{value_of, value_in, values_in, field_of, unread_after, FieldAt}
-use Rattle.card_text.specs.declared.fields.Field.{Field}
+use Rattle.card_text.specs.declared.subfields.Field.{Field}
 
 -- ---- the first of several that refuses
 

@@ -9,11 +9,11 @@ use Rattle.whole.proofs.Counts.{Inside, inside_is}
 use Rattle.arc.specs.declared.Refusal.{Refusal}
 use Rattle.arc.specs.declared.Verdict.{Verdict}
 use Rattle.arc.specs.Refusals.{refusal}
-use Rattle.card.specs.declared.Record.{Record}
-use Rattle.card.specs.Layout.{or_else}
+use Rattle.card_text.specs.declared.Record.{Record}
+use Rattle.card_text.specs.Layout.{or_else}
 use Rattle.origin.specs.Origin.{on_grid}
-use Rattle.card.specs.Extents.{extents_hold}
-use Rattle.card.specs.Write.{test, first, record_tests}
+use Rattle.card_text.specs.Extents.{extents_hold}
+use Rattle.card_text.specs.Write.{test, first, record_tests}
 use Rattle.card_text.specs.StepsRead.{extents_at}
 use Rattle.card_text.specs.StepsWrite.{count_tests}
 use Rattle.card_text.proofs.Table.{or_else-assoc}

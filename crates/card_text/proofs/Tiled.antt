@@ -8,7 +8,7 @@ use lib.Dec.{leb, ltb}
 use lib.IntN.{ℤ, pos, negsuc, neg_ℤ, ◌-ℤ◌}
 use lib.Signed.{le_z, lt_z}
 use Rattle.whole.proofs.Signed.{Is, is-nat, is-neg, is-minus, is-lt_z}
-use Rattle.card.specs.Extents.{extents_hold}
+use Rattle.card_text.specs.Extents.{extents_hold}
 use Rattle.card_text.specs.StepsRead.{extents_at}
 
 -- a pixel edge is within k tiles

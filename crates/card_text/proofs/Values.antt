@@ -5,25 +5,30 @@ use mathlib.Core.Bool.{Bool, cond, ◌&&◌}
 use mathlib.Core.List.{List}
 use Prim.Native.Nat.{ℕ, ◌*◌, ◌/◌, ◌≤◌}
 use lib.Dec.{eqb}
+use native.Mathlib.Omega.{arith}
 use lib.ListN.{get_or}
-use lib.IntN.{ℤ, pos, ◌-ℤ◌}
+use lib.IntN.{ℤ, pos, negsuc, ◌-ℤ◌}
 use Rattle.whole.specs.declared.Counted.{Counted}
+use Rattle.whole.specs.Whole.{raise}
 use Rattle.whole.proofs.Signed.{Is, is-difference}
 use Rattle.arc.specs.declared.Series.{Series}
 use Rattle.arc.specs.Refusals.{refusal}
 use Rattle.arc.specs.Spacing.{Grid}
 use Rattle.origin.proofs.Axis.{latitudes, longitudes}
-use Rattle.card.specs.declared.Record.{Record}
+use Rattle.card_text.specs.declared.Record.{Record}
 use Rattle.text.specs.Text.{angle_of}
-use Rattle.card.specs.Layout.{ARV, BRV, LSO, PSO, NUL, NUS, NLL, NLS, NFL, NFC, TIF, layout, bytes_of}
-use Rattle.card.specs.Blanks.{total_blanks}
-use Rattle.card.specs.Read.{number_in, card_of, accepted_card, refused_card, with_origin, with_values}
+use Rattle.card_text.specs.Layout.{ARV, BRV, LSO, PSO, NUL, NUS, NLL, NLS, NFL, NFC, TIF, layout, bytes_of}
+use Rattle.card_text.specs.Blanks.{total_blanks}
+use Rattle.card_text.specs.Read.{number_in, card_of, accepted_card, refused_card, with_origin, with_values}
 use Rattle.card_text.specs.StepsFields.{value_in, values_in}
 use Rattle.card_text.specs.StepsRead.{found_at, tile_at, extents_at, record_in, card_from, Walked}
 use Rattle.card_text.proofs.Angles.{lso-is, pso-is, lso-high, pso-high, flag_is}
 use Rattle.card_text.proofs.Axes.{found-high, found-is}
-use Rattle.card.proofs.Ranges.{raise-is}
 use Rattle.card_text.proofs.Tiled.{extents-at}
+
+pub raise-is : (t : ℕ) (z : ℤ) (n : ℕ) → Is z n t → raise t z ≡ n
+raise-is t (pos m) n e = e
+raise-is t (negsuc m) n e = omega arith
 
 -- ---- the values kept
 

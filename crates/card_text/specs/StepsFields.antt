@@ -15,15 +15,15 @@
 use Rattle.std.specs.Prelude.{◌≡◌, ℕ, suc, ◌+◌, ◌-◌, ◌<◌, List, [], ◌∷◌, Bool, true, cond, eqb, get_or}
 use Rattle.arc.specs.declared.Refusal.{Refusal}
 use Rattle.arc.specs.declared.Verdict.{Verdict}
-use Rattle.card.specs.Layout.{Kind}
-use Rattle.card.specs.Layout.{Number, Angle, Name, Flag}
-use Rattle.card.specs.Layout.{Subfield}
+use Rattle.card_text.specs.Layout.{Kind}
+use Rattle.card_text.specs.Layout.{Number, Angle, Name, Flag}
+use Rattle.card_text.specs.Layout.{Subfield}
 use Rattle.text.specs.Text.{part, is_digit, all, number, minus, angle_size}
 use Rattle.text.specs.declared.Digits.{Digits}
-use Rattle.card.specs.declared.Fill.{Fill}
-use Rattle.card.specs.Layout.{layout, bytes_of, number_laid, judge, judge_field, or_else, walk}
-use Rattle.card_text.specs.declared.fields.Field.{Field}
-use Rattle.card_text.specs.declared.fields.Fields.{Fields}
+use Rattle.card_text.specs.declared.Fill.{Fill}
+use Rattle.card_text.specs.Layout.{layout, bytes_of, number_laid, judge, judge_field, or_else, walk}
+use Rattle.card_text.specs.declared.subfields.Field.{Field}
+use Rattle.card_text.specs.declared.subfields.Values.{Values}
 
 pub record DigitsOf (s : List ℕ) (r : Digits) : Type 0 where
   pub tested : r.ok ≡ all is_digit s
@@ -79,6 +79,6 @@ pub record FieldAt (fill : Fill) (f : Subfield) (s : List ℕ) (before : Verdict
 pub record PlainAt (f : Subfield) (s : List ℕ) (before : Verdict) (r : Field) : Type 0 where
   pub either : (fill : Fill) → FieldAt fill f s before r
 
-pub record FieldsOf (fill : Fill) (s : List ℕ) (r : Fields) : Type 0 where
+pub record FieldsOf (fill : Fill) (s : List ℕ) (r : Values) : Type 0 where
   pub walks : r.verdict ≡ walk fill layout s
   pub kept : walk fill layout s ≡ Verdict.Accepted → r.values ≡ values_in layout s

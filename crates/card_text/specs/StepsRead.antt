@@ -13,11 +13,11 @@ use Rattle.whole.specs.Whole.{near}
 use Rattle.arc.specs.declared.Series.{Series}
 use Rattle.arc.specs.declared.Verdict.{Verdict}
 use Rattle.arc.specs.Zones.{circle, tile}
-use Rattle.card.specs.declared.Card.{Card}
-use Rattle.card.specs.declared.Fill.{Fill}
-use Rattle.card.specs.declared.Record.{Record}
-use Rattle.card.specs.Layout.{NUL, NUS, NLL, NLS, NFL, NFC, BAD, TIF, layout, bytes_of, walk}
-use Rattle.card.specs.Read.{number_in}
+use Rattle.card_text.specs.declared.Fields.{Fields}
+use Rattle.card_text.specs.declared.Fill.{Fill}
+use Rattle.card_text.specs.declared.Record.{Record}
+use Rattle.card_text.specs.Layout.{NUL, NUS, NLL, NLS, NFL, NFC, BAD, TIF, layout, bytes_of, walk}
+use Rattle.card_text.specs.Read.{number_in}
 use Rattle.card_text.specs.StepsFields.{values_in}
 
 -- 128 × H
@@ -52,7 +52,7 @@ record_in n m s =
       tif = eqb (get_or (bytes_of TIF s) 0 0) 89;
     }
 
-abbrev pub card_from : Series → ℕ → ℕ → ℕ → ℕ → Record → Card
+abbrev pub card_from : Series → ℕ → ℕ → ℕ → ℕ → Record → Fields
 card_from series a b north east r =
     record {
       series = series;

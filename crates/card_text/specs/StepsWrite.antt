@@ -5,10 +5,10 @@
 use Rattle.std.specs.Prelude.{ℕ, List, [], ◌∷◌, ◌&&◌, leb, length}
 use Rattle.arc.specs.declared.SpacingAnswer.{SpacingAnswer}
 use Rattle.arc.specs.declared.Verdict.{Verdict}
-use Rattle.card.specs.declared.Record.{Record}
+use Rattle.card_text.specs.declared.Record.{Record}
 use Rattle.text.specs.Text.{name_laid}
-use Rattle.card.specs.Layout.{NFL, NFC, BAD}
-use Rattle.card.specs.Write.{test, write_in, out_after, text_for}
+use Rattle.card_text.specs.Layout.{NFL, NFC, BAD}
+use Rattle.card_text.specs.Write.{test, write_in, out_after, text_for}
 
 unfoldable pub count_tests : Record → List Verdict
 count_tests r =

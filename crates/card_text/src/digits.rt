@@ -3,7 +3,7 @@ ghost use Rattle.std.specs.Prelude.{◌≡◌, ◌+◌, ◌<◌, ◌≤◌, leng
 ghost use Rattle.text.specs.Text.{part, is_name_byte, all, name_laid};
 ghost use Rattle.card_text.specs.StepsFields.{DigitsOf, NumberOf, lead, skip};
 
-use card::Fill;
+use crate::Fill;
 use text::Digits;
 
 // A capital letter or a digit.

@@ -1,14 +1,13 @@
 // From the values of a card to its record and its value (01, "The image card, 98 bytes", "Numbers given in refusal").
 ghost use Rattle.std.specs.Prelude.{◌≡◌, ◌≤◌, length};
 ghost use Rattle.arc.specs.Spacing.{Grid};
-ghost use Rattle.card.specs.Layout.{BAD, bytes_of};
-ghost use Rattle.card.specs.Read.{refused_card, with_values};
+ghost use Rattle.card_text.specs.Layout.{BAD, bytes_of};
+ghost use Rattle.card_text.specs.Read.{refused_card, with_values};
 ghost use Rattle.card_text.specs.StepsFields.{lead_total};
 ghost use Rattle.card_text.specs.StepsRead.{extents_at, record_in, card_from, Walked};
 
-use crate::{digits, stored};
-use arc::{Refusal, Series, Verdict};
-use card::{Card, Reading, Record};
+use crate::{Fields, Reading, Record, digits, stored};
+use arc::{Refusal, Series};
 use whole::Counted;
 
 // The values' places in the layout.
@@ -34,15 +33,11 @@ const NFC: usize = 10;
 
 const TIF: usize = 19;
 
-// A refusal of a card, its value all 0.
-pub fn refused_with(r: Refusal) -> Reading
+// A refusal of a card.
+pub fn refused_with(r: Refusal) -> Result<Reading, Refusal>
     ensures { result ≡ refused_card r }
 {
-    Reading {
-        verdict: Verdict::Refused(r),
-        card: card::no_card(),
-        blanks: 0,
-    }
+    Err(r)
 }
 
 // BAD.
@@ -102,12 +97,12 @@ fn blanks_in(s: &[u8]) -> u64
 }
 
 // The card of a record, its origin counted from the South Pole and from 180° west.
-fn card_of(series: Series, a: u64, b: u64, north: u64, east: u64, r: Record) -> Card
+fn card_of(series: Series, a: u64, b: u64, north: u64, east: u64, r: Record) -> Fields
     requires { (north ≤ 1000000) × (east ≤ 1000000) }
     ensures { result ≡ card_from series a b north east r }
 {
     let bad = r.bad;
-    Card {
+    Fields {
         series,
         a,
         b,
@@ -127,7 +122,7 @@ fn card_of(series: Series, a: u64, b: u64, north: u64, east: u64, r: Record) -> 
 }
 
 // The card, its subfields being right. Refuses 9, 10, 11.
-pub fn read_values(series: Series, a: u64, b: u64, s: &[u8], values: [u64; 20]) -> Reading
+pub fn read_values(series: Series, a: u64, b: u64, s: &[u8], values: [u64; 20]) -> Result<Reading, Refusal>
     requires a_on_grid { Grid a }
     requires b_on_grid { Grid b }
     requires walked { Walked s.now values }
@@ -148,9 +143,8 @@ pub fn read_values(series: Series, a: u64, b: u64, s: &[u8], values: [u64; 20]) 
     if !extents_hold(a, north, r) {
         return refused_with(arc::refused(11));
     }
-    Reading {
-        verdict: Verdict::Accepted,
-        card: card_of(series, a, b, north, east, r),
+    Ok(Reading {
+        fields: card_of(series, a, b, north, east, r),
         blanks: blanks_in(s),
-    }
+    })
 }

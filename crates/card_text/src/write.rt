@@ -6,12 +6,11 @@ ghost use Rattle.text.specs.Text.{name_laid};
 ghost use Rattle.text.specs.Buffer.{put_at};
 ghost use Rattle.whole.specs.Lists.{over};
 ghost use Rattle.origin.specs.Origin.{stored_angle};
-ghost use Rattle.card.specs.Write.{card_text, test, first, write_in};
+ghost use Rattle.card_text.specs.Write.{card_text, test, first, write_in};
 ghost use Rattle.card_text.specs.StepsWrite.{count_tests, out_in};
 
-use crate::{digits, fields, read, stored};
+use crate::{Record, digits, read, stored, subfields};
 use arc::{Circle, Refusal, Verdict};
-use card::Record;
 use whole::Counted;
 
 // A refusal where the test fails (01, "Numbers given in refusal").
@@ -39,7 +38,7 @@ fn judge_counts(r: Record) -> Verdict
     let down = tested((1 <= r.nfl) & (r.nfl <= 999), 8, 62);
     let across = tested((1 <= r.nfc) & (r.nfc <= 999), 8, 65);
     let name = tested(name_right(bad), 7, 85);
-    fields::or_else(down, fields::or_else(across, name))
+    subfields::or_else(down, subfields::or_else(across, name))
 }
 
 // 89 is Y, 78 is N.

@@ -12,7 +12,7 @@ use Rattle.zones.specs.Basic.{basic_zone_of, zone_report}
 use Rattle.zones.specs.Cover.{cover_of, cover_report}
 use Rattle.origin.specs.Origin.{stored_angle}
 use Rattle.text.specs.Text.{bytes}
-use Rattle.card.specs.Read.{read_of}
+use Rattle.card_text.specs.Read.{read_of}
 use Rattle.card.specs.declared.Pair.{Pair}
 use Rattle.card.specs.Grid.{position_of, position_report}
 

@@ -1,7 +1,7 @@
 -- A pair of constants that is answered is on the grid, as `read_spaced` requires. Assumes nothing.
 use Rattle.std.proofs.Common.{sym}
 use Rattle.arc.proofs.Answered.{answered-grids}
-use Rattle.card.specs.Read.{read_in}
+use Rattle.card_text.specs.Read.{read_in}
 use Rattle.card_text.proofs.read_as.Goals as goal
 
 pub read_spaced-requires-clause-a_on_grid : goal.read_spaced-requires-clause-a_on_grid

@@ -7,8 +7,8 @@ use Rattle.arc.specs.declared.SpacingAnswer.{SpacingAnswer}
 use Rattle.arc.specs.declared.Verdict.{Verdict}
 use Rattle.arc.specs.Refusals.{on_verdict}
 use Rattle.arc.specs.Zones.{is_polar}
-use Rattle.card.specs.Layout.{layout, walk}
-use Rattle.card.specs.Read.{refused_card, with_values, read_in}
+use Rattle.card_text.specs.Layout.{layout, walk}
+use Rattle.card_text.specs.Read.{refused_card, with_values, read_in}
 use borrow.Author.Rules.{rules}
 use Rattle.card_text.proofs.read_spaced.Statement.{statement}
 use Rattle.card_text.proofs.read_spaced.Tie as tie

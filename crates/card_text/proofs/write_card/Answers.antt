@@ -1,7 +1,7 @@
 -- A pair of constants that is answered for writing is on the grid, as `write_spaced` requires. Assumes nothing.
 use Rattle.std.proofs.Common.{refl, sym}
 use Rattle.arc.proofs.TownScales.{writing-grids}
-use Rattle.card.specs.Write.{write_of, out_of}
+use Rattle.card_text.specs.Write.{write_of, out_of}
 use Rattle.card_text.proofs.write_card.Goals as goal
 
 pub write_spaced-requires-clause-a_on_grid : goal.write_spaced-requires-clause-a_on_grid

@@ -9,7 +9,7 @@ use mir.ValLaws.{to_z_pos}
 use Rattle.whole.proofs.Signed.{is-difference}
 use Rattle.whole.proofs.Machine.{fits-mul}
 use Rattle.arc.specs.Zones.{circle, half}
-use Rattle.card.proofs.Laid.{known-laid}
+use Rattle.card_text.proofs.Laid.{known-laid}
 use Rattle.card.proofs.Pairs.{inward-high}
 use Rattle.card.proofs.Axes.{column-at, column-high}
 use borrow.Author.Rules.{rules}

@@ -6,7 +6,7 @@ use mir.Syntax.{w64}
 use mir.Val.{to_z, of_z}
 use Rattle.arc.specs.declared.Verdict.{Verdict}
 use Rattle.card.specs.Grid.{in_tiles, in_chart}
-use Rattle.card.proofs.Laid.{known-laid}
+use Rattle.card_text.proofs.Laid.{known-laid}
 use Rattle.card.proofs.Regions.{chart-tiles}
 use Rattle.card.proofs.Answers.{tested}
 use borrow.Author.Rules.{rules}

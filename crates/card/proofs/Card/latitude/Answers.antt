@@ -4,7 +4,7 @@ use Rattle.whole.proofs.Machine.{told}
 use Rattle.whole.specs.Whole.{near}
 use Rattle.arc.specs.Zones.{circle, quarter}
 use Rattle.card.specs.Steps.{inward}
-use Rattle.card.proofs.Laid.{known-laid}
+use Rattle.card_text.proofs.Laid.{known-laid}
 use Rattle.card.proofs.Pairs.{inward-high}
 use Rattle.card.proofs.Axes.{latitude-is, latitude-high}
 use Rattle.card.proofs.Card.latitude.Goals as goal

@@ -4,7 +4,7 @@ use Rattle.whole.proofs.Machine.{told}
 use Rattle.whole.specs.Whole.{near}
 use Rattle.arc.specs.Zones.{circle, half}
 use Rattle.card.specs.Steps.{inward}
-use Rattle.card.proofs.Laid.{known-laid}
+use Rattle.card_text.proofs.Laid.{known-laid}
 use Rattle.card.proofs.Pairs.{inward-high}
 use Rattle.card.proofs.Axes.{longitude-is}
 use Rattle.card.proofs.Card.longitude.Goals as goal

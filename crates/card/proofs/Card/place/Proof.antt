@@ -6,7 +6,7 @@ use borrow.Author.Tests.{not-true, not-false}
 use Rattle.whole.proofs.Machine.{result-is}
 use Rattle.card.specs.declared.PlaceAnswer.{PlaceAnswer}
 use Rattle.card.specs.Grid.{in_tiles, place_row, place_column, place_of}
-use Rattle.card.proofs.Laid.{known-laid}
+use Rattle.card_text.proofs.Laid.{known-laid}
 use Rattle.card.proofs.Regions.{PixelInside, tiles-inside}
 use Rattle.card.proofs.Answers.{tested, cast_fits, cast-below, cast_same}
 use borrow.Author.Rules.{rules}

@@ -1,7 +1,7 @@
 -- (128m + c) modulo A, counted from 180° west, which is half of A away. Assumes nothing.
 use Rattle.std.proofs.Common.{◌+◌, ◌/◌, ◌%◌, sym, ◌∙◌, arith, w64}
 use mir.ValLaws.{to_z_pos}
-use Rattle.card.proofs.Laid.{known-laid}
+use Rattle.card_text.proofs.Laid.{known-laid}
 use Rattle.card.proofs.Axes.{column-place}
 use Rattle.card.proofs.Card.place_column.Goals as goal
 

@@ -5,7 +5,7 @@ use lib.IntN.{pos}
 use Rattle.whole.proofs.Machine.{told}
 use Rattle.whole.proofs.Signed.{is_same}
 use Rattle.card.specs.Grid.{place_row}
-use Rattle.card.proofs.Laid.{known-laid}
+use Rattle.card_text.proofs.Laid.{known-laid}
 use Rattle.card.proofs.Axes.{row_is}
 use borrow.Author.Rules.{rules}
 use Rattle.card.proofs.Card.place_row.Statement.{statement}

@@ -4,7 +4,7 @@ use native.Mathlib.Omega.{arith}
 use Rattle.whole.proofs.Machine.{result-is}
 use Rattle.card.specs.declared.PositionAnswer.{PositionAnswer}
 use Rattle.card.specs.Grid.{latitude_of, longitude_of, position_of}
-use Rattle.card.proofs.Laid.{known-laid}
+use Rattle.card_text.proofs.Laid.{known-laid}
 use Rattle.card.proofs.Regions.{PixelInside}
 use Rattle.card.proofs.Answers.{judged-refused, judged-answered, judged-inside, cast_fits, cast-below, cast_same}
 use borrow.Author.Rules.{rules}

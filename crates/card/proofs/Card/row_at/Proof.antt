@@ -7,7 +7,7 @@ use Rattle.whole.proofs.Signed.{is-difference}
 use Rattle.whole.proofs.Machine.{fits-mul, told}
 use Rattle.arc.specs.Zones.{circle, half, quarter}
 use Rattle.card.specs.Steps.{inward}
-use Rattle.card.proofs.Laid.{known-laid}
+use Rattle.card_text.proofs.Laid.{known-laid}
 use Rattle.card.proofs.Pairs.{inward-high}
 use Rattle.card.proofs.Axes.{row_at, row_fits}
 use borrow.Author.Rules.{rules}

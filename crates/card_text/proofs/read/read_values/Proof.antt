@@ -7,13 +7,15 @@ use borrow.Author.Tests.{not-true, not-false}
 use lib.Dec.{eqb}
 use lib.ListN.{get_or}
 use lib.IntN.{ℤ}
+use Rattle.std.specs.Prelude.{Result}
+use Rattle.arc.specs.declared.Refusal.{Refusal}
 use Rattle.whole.proofs.Machine.{result-is}
 use Rattle.whole.specs.declared.Counted.{Counted}
 use Rattle.arc.specs.Refusals.{refusal}
-use Rattle.card.specs.declared.Reading.{Reading}
-use Rattle.card.specs.Layout.{layout}
-use Rattle.card.specs.Blanks.{total_blanks}
-use Rattle.card.specs.Read.{accepted_card, refused_card, with_origin, with_values}
+use Rattle.card_text.specs.declared.Reading.{Reading}
+use Rattle.card_text.specs.Layout.{layout}
+use Rattle.card_text.specs.Blanks.{total_blanks}
+use Rattle.card_text.specs.Read.{accepted_card, refused_card, with_origin, with_values}
 use Rattle.card_text.specs.StepsRead.{found_at, tile_at, record_in, card_from}
 use Rattle.card_text.proofs.Values.{pso-kept, lso-kept, north-high, east-high, values-are, extents-are}
 use Rattle.card_text.proofs.Blanks.{lead-total}
@@ -31,11 +33,11 @@ northward c = c.before.before
 abbrev spaced : tie.Start → Bool
 spaced s = eqb (get_or s.args.values 1 0) s.args.a && eqb (get_or s.args.values 2 0) s.args.b
 
-abbrev asked : tie.Start → Reading
+abbrev asked : tie.Start → Result Reading Refusal
 asked s = with_values s.args.series s.args.a s.args.b s.args.s.now
 
 -- the reading of an origin
-abbrev placed : tie.Start → Counted → Counted → Reading
+abbrev placed : tie.Start → Counted → Counted → Result Reading Refusal
 placed s north east =
     with_origin s.args.series s.args.a s.args.b s.args.s.now (tile_at (s.args.b / 512) north) (tile_at (s.args.a / 256) east)
 
@@ -65,7 +67,7 @@ columns c =
 abbrev eastward : tie.After-extents_hold → tie.In-From-tile_of
 eastward c = c.before.before.before.before
 
-abbrev made : tie.After-extents_hold → Reading
+abbrev made : tie.After-extents_hold → Result Reading Refusal
 made c =
     let s = start (northward (eastward c)) in
     accepted_card

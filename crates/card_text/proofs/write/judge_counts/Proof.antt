@@ -1,6 +1,6 @@
 -- The three tests are those of `count_tests`, in its order. Assumes nothing.
 use Rattle.card_text.specs.StepsWrite.{count_tests}
-use Rattle.card.proofs.Walked.{or_else-accepted}
+use Rattle.card_text.proofs.Walked.{or_else-accepted}
 use borrow.Author.Rules.{rules}
 use Rattle.card_text.proofs.write.judge_counts.Statement.{statement}
 use Rattle.card_text.proofs.write.judge_counts.Tie as tie

@@ -2,8 +2,8 @@
 use mathlib.Core.Path.{◌∙◌}
 use mir.Syntax.{w64}
 use mir.ValLaws.{to_z-of_z}
-use Rattle.card.specs.Layout.{layout}
-use Rattle.card.specs.Write.{values_of, card_text}
+use Rattle.card_text.specs.Layout.{layout}
+use Rattle.card_text.specs.Write.{values_of, card_text}
 use Rattle.text.proofs.Splices.{splice-over}
 use Rattle.card_text.proofs.Written.{FieldsPut, end, ◌▸◌, put_all, fields-length}
 use borrow.Author.Rules.{rules}

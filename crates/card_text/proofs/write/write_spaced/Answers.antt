@@ -10,8 +10,8 @@ use Rattle.arc.specs.declared.Refusal.{Refusal}
 use Rattle.arc.specs.declared.SpacingAnswer.{SpacingAnswer}
 use Rattle.arc.specs.declared.Verdict.{Verdict}
 use Rattle.arc.specs.Zones.{is_polar}
-use Rattle.card.specs.declared.Record.{Record}
-use Rattle.card.specs.Write.{first, record_tests, write_in}
+use Rattle.card_text.specs.declared.Record.{Record}
+use Rattle.card_text.specs.Write.{first, record_tests, write_in}
 use Rattle.card_text.specs.StepsWrite.{out_in}
 use Rattle.card_text.proofs.Tests.{counts-refused, rows-refused, columns-refused, extents-judged}
 use Rattle.card_text.proofs.write.write_spaced.Goals as goal

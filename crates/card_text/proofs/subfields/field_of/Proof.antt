@@ -2,10 +2,10 @@
 use mathlib.Core.Path.{ap}
 use Rattle.arc.specs.declared.Verdict.{Verdict}
 use Rattle.card_text.specs.StepsFields.{field_of}
-use Rattle.card_text.specs.declared.fields.Field.{Field}
+use Rattle.card_text.specs.declared.subfields.Field.{Field}
 use borrow.Author.Rules.{rules}
-use Rattle.card_text.proofs.fields.field_of.Statement.{statement}
-use Rattle.card_text.proofs.fields.field_of.Tie as tie
+use Rattle.card_text.proofs.subfields.field_of.Statement.{statement}
+use Rattle.card_text.proofs.subfields.field_of.Tie as tie
 
 returns : tie.Need-returns
 unfolding field_of

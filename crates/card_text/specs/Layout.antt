@@ -10,7 +10,7 @@ use Rattle.std.specs.Prelude.{ℕ, List, [], ◌∷◌, Bool, true, cond, ◌&&�
 use Rattle.arc.specs.declared.Verdict.{Verdict}
 use Rattle.arc.specs.Refusals.{refusal_at, on_verdict}
 use Rattle.text.specs.Text.{part, is_digit, all, number, filled, angle_laid, angle_valid, name_laid, is_flag}
-use Rattle.card.specs.declared.Fill.{Fill}
+use Rattle.card_text.specs.declared.Fill.{Fill}
 
 -- digits from low to high; so many digits of degrees and the rest of an angle, within a limit; a file's name; Y or N
 pub data Kind : Type 0 where

@@ -17,12 +17,12 @@ use Rattle.arc.specs.declared.SpacingAnswer.{SpacingAnswer}
 use Rattle.arc.specs.Refusals.{refusal}
 use Rattle.arc.specs.Zones.{is_polar}
 use Rattle.arc.specs.Spacing.{spacing_of}
-use Rattle.card.specs.declared.Card.{Card}
-use Rattle.card.specs.declared.Record.{Record}
-use Rattle.card.specs.Read.{read_of, accepted_card}
-use Rattle.card.specs.Write.{card_text, first, record_tests, write_of, out_of}
+use Rattle.card_text.specs.declared.Fields.{Fields}
+use Rattle.card_text.specs.declared.Record.{Record}
+use Rattle.card_text.specs.Read.{read_of, accepted_card}
+use Rattle.card_text.specs.Write.{card_text, first, record_tests, write_of, out_of}
 
-abbrev pub record_of : Card → Record
+abbrev pub record_of : Fields → Record
 record_of k =
     record {
       n = k.n;
@@ -39,10 +39,10 @@ record_of k =
 
 -- the card read from what was written: accepted, of this scale, factor and zone, and with this record; no blanks are met
 pub record ReadBack (series : Series) (r : Record) (s : List ℕ) : Type 0 where
-  pub card : Card
-  pub read : read_of series s ≡ accepted_card card 0
-  pub of_series : card.series ≡ series
-  pub same : record_of card ≡ r
+  pub fields : Fields
+  pub read : read_of series s ≡ accepted_card fields 0
+  pub of_series : fields.series ≡ series
+  pub same : record_of fields ≡ r
 
 -- BAD has twelve bytes, as the record's array holds it
 abbrev pub ReadsBack : Type 0
@@ -51,7 +51,7 @@ ReadsBack =
     → ReadBack series r (take 98 (out_of series r out))
 
 -- written into any output of 98 bytes or more, the total of blanks being 0 or not (02, E2)
-pub record WrittenBack (series : Series) (k : Card) (total : ℕ) (s out : List ℕ) : Type 0 where
+pub record WrittenBack (series : Series) (k : Fields) (total : ℕ) (s out : List ℕ) : Type 0 where
   pub written : write_of series (record_of k) out ≡ Verdict.Accepted
   pub same : take 98 (out_of series (record_of k) out) ≡ s ↔ total ≡ 0
   pub again : read_of series (take 98 (out_of series (record_of k) out)) ≡ accepted_card k 0
@@ -59,7 +59,7 @@ pub record WrittenBack (series : Series) (k : Card) (total : ℕ) (s out : List 
 -- from 10,000 up (02, E13)
 abbrev pub WritesBack : Type 0
 WritesBack =
-    (series : Series) (s : List ℕ) (k : Card) (total : ℕ) (out : List ℕ) → read_of series s ≡ accepted_card k total → 10000 ≤ series.scale
+    (series : Series) (s : List ℕ) (k : Fields) (total : ℕ) (out : List ℕ) → read_of series s ≡ accepted_card k total → 10000 ≤ series.scale
     → 98 ≤ length out → WrittenBack series k total s out
 
 -- ---- the scales that are written (02, E13)
@@ -79,7 +79,7 @@ TownNotWritten = (series : Series) (r : Record) (out : List ℕ) → 5000 ≤ se
 -- what was read
 abbrev pub HeldNotWritten : Type 0
 HeldNotWritten =
-    (series : Series) (s : List ℕ) (k : Card) (total : ℕ) (out : List ℕ) → read_of series s ≡ accepted_card k total → series.scale < 10000
+    (series : Series) (s : List ℕ) (k : Fields) (total : ℕ) (out : List ℕ) → read_of series s ≡ accepted_card k total → series.scale < 10000
     → NotWritten series (record_of k) out
 
 -- ---- at every scale that is read, the town scales too: a card's text and its record (02, E13)
@@ -91,10 +91,10 @@ TextReadBack =
 
 abbrev pub ReadIsText : Type 0
 ReadIsText =
-    (series : Series) (s : List ℕ) (k : Card) (total : ℕ) → read_of series s ≡ accepted_card k total
+    (series : Series) (s : List ℕ) (k : Fields) (total : ℕ) → read_of series s ≡ accepted_card k total
     → card_text k.a k.b (record_of k) ≡ s ↔ total ≡ 0
 
 abbrev pub TextIsRead : Type 0
 TextIsRead =
-    (series : Series) (s : List ℕ) (k : Card) (total : ℕ) → read_of series s ≡ accepted_card k total
+    (series : Series) (s : List ℕ) (k : Fields) (total : ℕ) → read_of series s ≡ accepted_card k total
     → read_of series (card_text k.a k.b (record_of k)) ≡ accepted_card k 0

@@ -7,8 +7,9 @@
 --     read_strict series s    what reading answers where none may: 01 as it stands
 --     Accepted, Known         some bytes are read to this card
 --     on_card x f g           a question on a card as it was read: reading's refusal first, then the question's own answer
+--     blanks_told x           the total of blanks that reading met, 0 where it refuses
 --     told_on_card t x f g    what is told of it: its report and the total of blanks (02, E2)
-use Rattle.std.specs.Prelude.{◌≡◌, ℕ, ◌+◌, ◌*◌, ◌/◌, List, Bool, false, cond, ◌&&◌, eqb, length, get_or, replicate, ℤ, pos, negsuc, neg_ℤ}
+use Rattle.std.specs.Prelude.{◌≡◌, ℕ, ◌+◌, ◌*◌, ◌/◌, List, Bool, false, cond, ◌&&◌, eqb, length, get_or, ℤ, pos, negsuc, neg_ℤ, Result, Ok, Err}
 use Rattle.std.proofs.Math.Option.{Option, some, none}
 use Rattle.std.proofs.Math.IntN.{suc_ℤ}
 use Rattle.whole.specs.Whole.{raise}
@@ -21,13 +22,13 @@ use Rattle.arc.specs.Refusals.{Report, refusal, on_verdict}
 use Rattle.arc.specs.Zones.{is_polar}
 use Rattle.arc.specs.Spacing.{spacing_of}
 use Rattle.origin.specs.Origin.{stored_angle}
-use Rattle.card.specs.declared.Card.{Card}
-use Rattle.card.specs.declared.Reading.{Reading}
-use Rattle.card.specs.declared.Fill.{Fill}
+use Rattle.card_text.specs.declared.Fields.{Fields}
+use Rattle.card_text.specs.declared.Reading.{Reading}
+use Rattle.card_text.specs.declared.Fill.{Fill}
 use Rattle.text.specs.Text.{number, angle_of}
-use Rattle.card.specs.Layout.{Subfield, ARV, BRV, LSO, PSO, NUL, NUS, NLL, NLS, NFL, NFC, BAD, TIF, layout, bytes_of, walk}
-use Rattle.card.specs.Blanks.{total_blanks, with_total}
-use Rattle.card.specs.Extents.{extents_hold}
+use Rattle.card_text.specs.Layout.{Subfield, ARV, BRV, LSO, PSO, NUL, NUS, NLL, NLS, NFL, NFC, BAD, TIF, layout, bytes_of, walk}
+use Rattle.card_text.specs.Blanks.{total_blanks, with_total}
+use Rattle.card_text.specs.Extents.{extents_hold}
 
 abbrev pub equal_ℤ : ℤ → ℤ → Bool
 equal_ℤ (pos m) (pos n) = eqb m n
@@ -43,7 +44,7 @@ abbrev pub number_in : Subfield → List ℕ → ℕ
 number_in f s = number (bytes_of f s)
 
 -- north and east: 128 n and 128 m counted from the South Pole and from 180° west
-unfoldable pub card_of : Series → ℕ → ℕ → ℤ → ℤ → List ℕ → Card
+unfoldable pub card_of : Series → ℕ → ℕ → ℤ → ℤ → List ℕ → Fields
 card_of series a b n m s =
     record {
       series = series;
@@ -63,82 +64,67 @@ card_of series a b n m s =
       east = 128 * raise (a / 256) m;
     }
 
--- value parts are 0 in a refusal
-abbrev pub no_card : Card
-no_card =
-    record {
-      series = record { scale = 0; factor = 0; zone = 0 };
-      a = 0;
-      b = 0;
-      n = pos 0;
-      m = pos 0;
-      nul = 0;
-      nus = 0;
-      nll = 0;
-      nls = 0;
-      nfl = 0;
-      nfc = 0;
-      bad = replicate 12 0;
-      tif = false;
-      north = 0;
-      east = 0;
-    }
-
 -- and so many blanks were met
-abbrev pub accepted_card : Card → ℕ → Reading
-accepted_card k total = record { verdict = Verdict.Accepted; card = k; blanks = total }
+abbrev pub accepted_card : Fields → ℕ → Result Reading Refusal
+accepted_card k total = Ok (record { fields = k; blanks = total })
 
-abbrev pub refused_card : Refusal → Reading
-refused_card r = record { verdict = Verdict.Refused r; card = no_card; blanks = 0 }
+abbrev pub refused_card : Refusal → Result Reading Refusal
+refused_card r = Err r
 
 -- 11
-abbrev pub with_extents : Card → ℕ → Reading
+abbrev pub with_extents : Fields → ℕ → Result Reading Refusal
 with_extents k total =
     cond (extents_hold k.a k.b k.n k.nul k.nus k.nll k.nls k.nfl k.nfc) (accepted_card k total) (refused_card (refusal 11))
 
 -- 10, 11
-abbrev pub with_origin : Series → ℕ → ℕ → List ℕ → Option ℤ → Option ℤ → Reading
+abbrev pub with_origin : Series → ℕ → ℕ → List ℕ → Option ℤ → Option ℤ → Result Reading Refusal
 with_origin series a b s (some n) (some m) = with_extents (card_of series a b n m s) (total_blanks layout s)
 with_origin series a b s (some n) none = refused_card (refusal 10)
 with_origin series a b s none m = refused_card (refusal 10)
 
 -- 9, 10, 11
-unfoldable pub with_values : Series → ℕ → ℕ → List ℕ → Reading
+unfoldable pub with_values : Series → ℕ → ℕ → List ℕ → Result Reading Refusal
 with_values series a b s =
     cond (eqb (number_in ARV s) a && eqb (number_in BRV s) b)
     (with_origin series a b s (tile_storing b (b / 512) (angle_of 2 (bytes_of PSO s))) (tile_storing a (a / 256) (angle_of 3 (bytes_of LSO s))))
     (refused_card (refusal 9))
 
 -- 3, 6, then 7, 8, then these
-unfoldable pub read_in : Fill → Series → SpacingAnswer → List ℕ → Reading
+unfoldable pub read_in : Fill → Series → SpacingAnswer → List ℕ → Result Reading Refusal
 read_in fill series (SpacingAnswer.Constants a b) s =
     cond (is_polar series.zone) (refused_card (refusal 3))
     (cond (eqb (length s) 98) (on_verdict (walk fill layout s) refused_card (with_values series a b s)) (refused_card (refusal 6)))
 read_in fill series (SpacingAnswer.Refused r) s = refused_card r
 
 -- 1, 17, 1, 2, then these
-abbrev pub read_as : Fill → Series → List ℕ → Reading
+abbrev pub read_as : Fill → Series → List ℕ → Result Reading Refusal
 read_as fill series s = read_in fill series (spacing_of series) s
 
-abbrev pub read_of : Series → List ℕ → Reading
+abbrev pub read_of : Series → List ℕ → Result Reading Refusal
 read_of series s = read_as Fill.Blanks series s
 
-abbrev pub read_strict : Series → List ℕ → Reading
+abbrev pub read_strict : Series → List ℕ → Result Reading Refusal
 read_strict series s = read_as Fill.Zeros series s
 
 -- a card is accepted when reading does not refuse it (01, "Origins and the zone grid")
-pub record Accepted (series : Series) (k : Card) : Type 0 where
+pub record Accepted (series : Series) (k : Fields) : Type 0 where
   pub bytes : List ℕ
   pub blanks : ℕ
   pub read : read_of series bytes ≡ accepted_card k blanks
 
 -- some accepted card gives the value
-pub record Known (k : Card) : Type 0 where
+pub record Known (k : Fields) : Type 0 where
   pub series : Series
   pub is_read : Accepted series k
 
-abbrev pub on_card : {A : Type 0} → Reading → (Refusal → A) → (Card → A) → A
-on_card x f g = on_verdict x.verdict f (g x.card)
+abbrev pub on_card : {A : Type 0} → Result Reading Refusal → (Refusal → A) → (Fields → A) → A
+on_card (Ok x) f g = g x.fields
+on_card (Err r) f g = f r
 
-abbrev pub told_on_card : {A : Type 0} → (A → Report) → Reading → (Refusal → A) → (Card → A) → Report
-told_on_card report x f g = with_total x.blanks (report (on_card x f g))
+-- 0 in a refusal
+abbrev pub blanks_told : Result Reading Refusal → ℕ
+blanks_told (Ok x) = x.blanks
+blanks_told (Err r) = 0
+
+abbrev pub told_on_card : {A : Type 0} → (A → Report) → Result Reading Refusal → (Refusal → A) → (Fields → A) → Report
+told_on_card report x f g = with_total (blanks_told x) (report (on_card x f g))

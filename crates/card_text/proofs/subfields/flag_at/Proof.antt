@@ -6,14 +6,14 @@ use native.Mathlib.Omega.{arith}
 use lib.Dec.{eqb}
 use lib.ListN.{get_or}
 use mir.Val.{bool_byte}
-use Rattle.card.specs.Layout.{Kind}
+use Rattle.card_text.specs.Layout.{Kind}
 use Rattle.text.specs.Text.{part}
-use Rattle.card.specs.Layout.{sub}
+use Rattle.card_text.specs.Layout.{sub}
 use Rattle.text.proofs.Bytes.{byte-in}
 use Rattle.card_text.proofs.Table.{field_at, field-after}
 use borrow.Author.Rules.{rules}
-use Rattle.card_text.proofs.fields.flag_at.Statement.{statement}
-use Rattle.card_text.proofs.fields.flag_at.Tie as tie
+use Rattle.card_text.proofs.subfields.flag_at.Statement.{statement}
+use Rattle.card_text.proofs.subfields.flag_at.Tie as tie
 
 -- a test as a number
 one-or-none : (t : Bool) → bool_byte t ≡ cond t 1 0

@@ -3,6 +3,7 @@ use mathlib.Core.Path.{◌≡◌, refl, ap, ap₂}
 use mathlib.Core.Bool.{Bool, true, false, cond, ◌&&◌, and-eq-true_iff}
 use mathlib.Core.List.{List}
 use mathlib.Core.Option.{Option, some, none}
+use Rattle.std.specs.Prelude.{Result, Ok, Err}
 use Prim.Native.Nat.{ℕ, ◌/◌}
 use native.Mathlib.Omega.{arith}
 use borrow.Author.Tests.{eqb-true, eq-eqb}
@@ -19,15 +20,15 @@ use Rattle.arc.specs.Zones.{is_polar}
 use Rattle.arc.specs.Spacing.{spacing_of}
 use Rattle.arc.proofs.Answered.{answered-grids}
 use Rattle.origin.specs.Origin.{stored_angle}
-use Rattle.card.specs.declared.Card.{Card}
-use Rattle.card.specs.declared.Reading.{Reading}
-use Rattle.card.specs.declared.Fill.{Fill}
+use Rattle.card_text.specs.declared.Fields.{Fields}
+use Rattle.card_text.specs.declared.Reading.{Reading}
+use Rattle.card_text.specs.declared.Fill.{Fill}
 use Rattle.text.specs.Text.{angle_of}
-use Rattle.card.specs.Layout.{ARV, BRV, LSO, PSO, NUL, NUS, NLL, NLS, NFL, NFC, layout, bytes_of, walk}
-use Rattle.card.specs.Blanks.{total_blanks}
-use Rattle.card.specs.Extents.{extents_hold}
-use Rattle.card.specs.Read.{tile_storing, number_in, card_of, accepted_card, refused_card, with_origin, with_values, read_in, read_as, Accepted}
-use Rattle.card.proofs.Found.{Stores, tile-stores, stores-tile}
+use Rattle.card_text.specs.Layout.{ARV, BRV, LSO, PSO, NUL, NUS, NLL, NLS, NFL, NFC, layout, bytes_of, walk}
+use Rattle.card_text.specs.Blanks.{total_blanks}
+use Rattle.card_text.specs.Extents.{extents_hold}
+use Rattle.card_text.specs.Read.{tile_storing, number_in, card_of, accepted_card, blanks_told, refused_card, with_origin, with_values, read_in, read_as, Accepted}
+use Rattle.card_text.proofs.Found.{Stores, tile-stores, stores-tile}
 
 -- the tests on the bytes
 abbrev constants_in : ℕ → ℕ → List ℕ → Bool
@@ -44,7 +45,7 @@ extents_in a b n s =
     extents_hold a b n (number_in NUL s) (number_in NUS s) (number_in NLL s) (number_in NLS s) (number_in NFL s) (number_in NFC s)
 
 -- the bytes s are read to k with a total of blanks, A and B being the constants, n and m the tiles found
-pub record ReadTo (fill : Fill) (series : Series) (s : List ℕ) (k : Card) (blanks : ℕ) : Type 0 where
+pub record ReadTo (fill : Fill) (series : Series) (s : List ℕ) (k : Fields) (blanks : ℕ) : Type 0 where
   pub a : ℕ
   pub b : ℕ
   pub n : ℤ
@@ -62,12 +63,16 @@ pub record ReadTo (fill : Fill) (series : Series) (s : List ℕ) (k : Card) (bla
   pub counted : total_blanks layout s ≡ blanks
 
 -- a refusal accepts no card
-never : {A : Type 0} (r : Refusal) (k : Card) (blanks : ℕ) → refused_card r ≡ accepted_card k blanks → A
+never : {A : Type 0} (r : Refusal) (k : Fields) (blanks : ℕ) → refused_card r ≡ accepted_card k blanks → A
 never r k blanks e =
-    let v : ◌≡◌ {A = Verdict} (Verdict.Refused r) Verdict.Accepted = ap (λ (x : Reading). x.verdict) e in
     let x : ◌≡◌ {A = ℕ} 0 1 = cc in absurd (omega arith)
 
-module _ (fill : Fill) (series : Series) (s : List ℕ) (k : Card) (blanks : ℕ) where
+-- what an accepted reading holds, k and n standing for a refusal's
+abbrev fields_or : Fields → Result Reading Refusal → Fields
+fields_or k (Ok x) = x.fields
+fields_or k (Err r) = k
+
+module _ (fill : Fill) (series : Series) (s : List ℕ) (k : Fields) (blanks : ℕ) where
   -- by the tests in their order
   by-origin : (a b : ℕ) → spacing_of series ≡ SpacingAnswer.Constants a b → is_polar series.zone ≡ false → eqb (length s) 98 ≡ true
       → walk fill layout s ≡ Verdict.Accepted → constants_in a b s ≡ true
@@ -98,8 +103,8 @@ module _ (fill : Fill) (series : Series) (s : List ℕ) (k : Card) (blanks : ℕ
             n-stored = tile-stores b (b / 512) (angle_of 2 (bytes_of PSO s)) n f;
             m-stored = tile-stores a (a / 256) (angle_of 3 (bytes_of LSO s)) m g;
             extents = t;
-            card = ap (λ (x : Reading). x.card) e;
-            counted = ap (λ (x : Reading). x.blanks) e;
+            card = ap (fields_or k) e;
+            counted = ap blanks_told e;
           }
 
   by_tests : (a b : ℕ) → spacing_of series ≡ SpacingAnswer.Constants a b → (p w c : Bool) (v : Verdict)

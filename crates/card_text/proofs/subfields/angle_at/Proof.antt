@@ -1,16 +1,16 @@
 -- After a refusal nothing is read; the four groups of digits give the size and the tests of the subfield's bytes. Assumes nothing.
 use Prim.Native.Nat.{◌+◌}
 use native.Mathlib.Omega.{arith}
-use Rattle.card.specs.Layout.{Kind}
+use Rattle.card_text.specs.Layout.{Kind}
 use Rattle.text.specs.Text.{part}
-use Rattle.card.specs.Layout.{sub}
+use Rattle.card_text.specs.Layout.{sub}
 use Rattle.card_text.specs.StepsFields.{DigitsOf}
 use Rattle.text.proofs.Bytes.{part_in}
 use Rattle.card_text.proofs.Table.{field_at, field-after}
 use Rattle.card_text.proofs.Angles.{angle-laid, angle-right}
 use borrow.Author.Rules.{rules}
-use Rattle.card_text.proofs.fields.angle_at.Statement.{statement}
-use Rattle.card_text.proofs.fields.angle_at.Tie as tie
+use Rattle.card_text.proofs.subfields.angle_at.Statement.{statement}
+use Rattle.card_text.proofs.subfields.angle_at.Tie as tie
 
 returns : tie.Need-returns-in-Refused
 returns c =

@@ -4,6 +4,7 @@ use mathlib.Core.Path.{◌≡◌, refl, sym, ap, ap₂, ◌∙◌}
 use mathlib.Core.Bool.{Bool, true, false, cond, ◌&&◌, and-eq-true_iff}
 use mathlib.Core.List.{List, [], ◌∷◌}
 use mathlib.Core.Option.{Option, some, none}
+use Rattle.std.specs.Prelude.{Result, Err}
 use Prim.Native.Nat.{ℕ, ◌+◌, ◌^◌, ◌≤◌, ◌<◌}
 use native.Mathlib.Omega.{arith}
 use borrow.Author.Tests.{leb-true, eqb-true}
@@ -21,15 +22,15 @@ use Rattle.arc.proofs.Answered.{answered-least}
 use Rattle.text.specs.Text.{is_digit, all, blanks, filled}
 use Rattle.text.proofs.Bytes.{length_part}
 use Rattle.text.proofs.Blanks.{number-after, digits-none, none_filled, blanks-below, blanks-few}
-use Rattle.card.specs.declared.Card.{Card}
-use Rattle.card.specs.declared.Fill.{Fill}
-use Rattle.card.specs.declared.Reading.{Reading}
-use Rattle.card.specs.Layout.{Kind, Subfield, STR, ARV, BRV, PNC, PNL, layout, bytes_of, right_kind, right_value, judge, judge_field, or_else, walk}
-use Rattle.card.specs.Blanks.{blanks_of, blanks_in, total_blanks}
-use Rattle.card.specs.Read.{number_in, card_of, accepted_card, refused_card, with_origin, with_values, read_in, read_as}
-use Rattle.card.specs.Strict.{OneDigit, DigitsAlone, SameWithout, StrictAccepts, TolerantAccepts, RefusedNone, AtMost37}
-use Rattle.card.proofs.Walked.{between, or_else-both, judge-both, right-in}
-use Rattle.card.proofs.Acceptance.{row_tile, column_tile, extents_in, ReadTo, read-to}
+use Rattle.card_text.specs.declared.Fields.{Fields}
+use Rattle.card_text.specs.declared.Fill.{Fill}
+use Rattle.card_text.specs.declared.Reading.{Reading}
+use Rattle.card_text.specs.Layout.{Kind, Subfield, STR, ARV, BRV, PNC, PNL, layout, bytes_of, right_kind, right_value, judge, judge_field, or_else, walk}
+use Rattle.card_text.specs.Blanks.{blanks_of, blanks_in, total_blanks}
+use Rattle.card_text.specs.Read.{number_in, card_of, accepted_card, blanks_told, refused_card, with_origin, with_values, read_in, read_as}
+use Rattle.card_text.specs.Strict.{OneDigit, DigitsAlone, SameWithout, StrictAccepts, TolerantAccepts, RefusedNone, AtMost37}
+use Rattle.card_text.proofs.Walked.{between, or_else-both, judge-both, right-in}
+use Rattle.card_text.proofs.Acceptance.{row_tile, column_tile, extents_in, ReadTo, read-to}
 
 pub digits-alone : DigitsAlone
 digits-alone = number-after
@@ -105,11 +106,11 @@ same-reading series s e = go (spacing_of series)
 
 -- ---- the total is told where a card is accepted, and only there
 
-data Told (s : List ℕ) : Reading → Type 0 where
+data Told (s : List ℕ) : Result Reading Refusal → Type 0 where
   refuses : (r : Refusal) → Told s (refused_card r)
-  accepts : (k : Card) → Told s (accepted_card k (total_blanks layout s))
+  accepts : (k : Fields) → Told s (accepted_card k (total_blanks layout s))
 
-module _ {s : List ℕ} {x : Reading} (o : Told s x) (r : Refusal) where
+module _ {s : List ℕ} {x : Result Reading Refusal} (o : Told s x) (r : Refusal) where
   unless : (t : Bool) → Told s (cond t (refused_card r) x)
   unless true = refuses r
   unless false = o
@@ -140,11 +141,11 @@ module _ (fill : Fill) (series : Series) (s : List ℕ) where
   told : Told s (read_as fill series s)
   told = told_in (spacing_of series)
 
-told_none : {s : List ℕ} {x : Reading} → Told s x → total_blanks layout s ≡ 0 → x.blanks ≡ 0
+told_none : {s : List ℕ} {x : Result Reading Refusal} → Told s x → total_blanks layout s ≡ 0 → blanks_told x ≡ 0
 told_none (refuses r) e = refl
 told_none (accepts k) e = e
 
-refused-told : {s : List ℕ} {x : Reading} → Told s x → (r : Refusal) → x.verdict ≡ Verdict.Refused r → x.blanks ≡ 0
+refused-told : {s : List ℕ} {x : Result Reading Refusal} → Told s x → (r : Refusal) → x ≡ Err r → blanks_told x ≡ 0
 refused-told (refuses r) q e = refl
 refused-told (accepts k) q e = let z : ◌≡◌ {A = ℕ} 0 1 = cc in absurd (omega arith)
 
@@ -166,7 +167,7 @@ tolerant-accepts series s k e = sym (same-reading series s (read-to Fill.Blanks 
 
 -- ---- at most 37
 
-module _ (series : Series) (s : List ℕ) (k : Card) (n : ℕ) (r : ReadTo Fill.Blanks series s k n) where
+module _ (series : Series) (s : List ℕ) (k : Fields) (n : ℕ) (r : ReadTo Fill.Blanks series s k n) where
   right : (i : ℕ) → i < 20 → (right_kind Fill.Blanks (get_or layout i STR).kind (bytes_of (get_or layout i STR) s) ≡ true)
       × (right_value (get_or layout i STR).kind (bytes_of (get_or layout i STR) s) ≡ true)
   right = right-in Fill.Blanks s r.judged

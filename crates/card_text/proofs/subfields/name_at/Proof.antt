@@ -1,12 +1,12 @@
 -- After a refusal nothing is read; the bytes are tested as the definition does. Assumes nothing.
 use mathlib.Core.Path.{refl, ap, ◌∙◌}
-use Rattle.card.specs.Layout.{Kind}
+use Rattle.card_text.specs.Layout.{Kind}
 use Rattle.text.specs.Text.{name_laid}
-use Rattle.card.specs.Layout.{sub}
+use Rattle.card_text.specs.Layout.{sub}
 use Rattle.card_text.proofs.Table.{field_at, field-after}
 use borrow.Author.Rules.{rules}
-use Rattle.card_text.proofs.fields.name_at.Statement.{statement}
-use Rattle.card_text.proofs.fields.name_at.Tie as tie
+use Rattle.card_text.proofs.subfields.name_at.Statement.{statement}
+use Rattle.card_text.proofs.subfields.name_at.Tie as tie
 
 returns : tie.Need-returns-in-Refused
 returns c =

@@ -11,15 +11,15 @@ use Rattle.arc.specs.declared.Series.{Series}
 use Rattle.arc.specs.declared.SpacingAnswer.{SpacingAnswer}
 use Rattle.arc.specs.Spacing.{Grid, spacing_of}
 use Rattle.arc.proofs.Answered.{answered-grids}
-use Rattle.card.specs.declared.Card.{Card}
-use Rattle.card.specs.declared.Fill.{Fill}
-use Rattle.card.specs.Layout.{NUL, NUS, NLL, NLS, NFL, NFC, layout}
-use Rattle.card.specs.Read.{number_in, card_of, Accepted, Known}
-use Rattle.card.proofs.Walked.{between, right-in}
-use Rattle.card.proofs.Spans.{extends}
-use Rattle.card.proofs.Acceptance.{ReadTo, read-to}
+use Rattle.card_text.specs.declared.Fields.{Fields}
+use Rattle.card_text.specs.declared.Fill.{Fill}
+use Rattle.card_text.specs.Layout.{NUL, NUS, NLL, NLS, NFL, NFC, layout}
+use Rattle.card_text.specs.Read.{number_in, card_of, Accepted, Known}
+use Rattle.card_text.proofs.Walked.{between, right-in}
+use Rattle.card_text.proofs.Spans.{extends}
+use Rattle.card_text.proofs.Acceptance.{ReadTo, read-to}
 
-pub record Laid (k : Card) : Type 0 where
+pub record Laid (k : Fields) : Type 0 where
   pub columns : Grid k.a
   pub rows : Grid k.b
   pub N : ℕ
@@ -41,7 +41,7 @@ pub record Laid (k : Card) : Type 0 where
   pub left-right : k.nls ≤ k.nus
   pub right : k.nus < 128 * k.nfc
 
-read-laid : (series : Series) (s : List ℕ) (k : Card) (blanks : ℕ) → ReadTo Fill.Blanks series s k blanks → Laid k
+read-laid : (series : Series) (s : List ℕ) (k : Fields) (blanks : ℕ) → ReadTo Fill.Blanks series s k blanks → Laid k
 unfolding card_of layout
 read-laid series s k blanks r =
     let g = answered-grids series r.a r.b r.spacing in
@@ -80,25 +80,25 @@ read-laid series s k blanks r =
       right = x.columns.1;
     })
 
-pub accepted-laid : (series : Series) (k : Card) → Accepted series k → Laid k
+pub accepted-laid : (series : Series) (k : Fields) → Accepted series k → Laid k
 accepted-laid series k h = read-laid series h.bytes k h.blanks (read-to Fill.Blanks series h.bytes k h.blanks h.read)
 
-pub known-laid : (k : Card) → Known k → Laid k
+pub known-laid : (k : Fields) → Known k → Laid k
 known-laid k h = accepted-laid h.series k h.is_read
 
 -- a card's constants are those of its scale, factor and zone
-pub record Spacing (series : Series) (k : Card) : Type 0 where
+pub record Spacing (series : Series) (k : Fields) : Type 0 where
   pub constants : spacing_of series ≡ SpacingAnswer.Constants k.a k.b
   pub same-series : k.series ≡ series
 
-pub accepted-spacing : (series : Series) (k : Card) → Accepted series k → Spacing series k
+pub accepted-spacing : (series : Series) (k : Fields) → Accepted series k → Spacing series k
 unfolding card_of
 accepted-spacing series k h =
     let r = read-to Fill.Blanks series h.bytes k h.blanks h.read in
     subst (Spacing series) r.card (record { constants = r.spacing; same-series = refl })
 
 -- two cards of one scale, factor and zone have the same
-pub same-spacing : (series : Series) (j k : Card) → Accepted series j → Accepted series k → (k.a ≡ j.a) × (k.b ≡ j.b)
+pub same-spacing : (series : Series) (j k : Fields) → Accepted series j → Accepted series k → (k.a ≡ j.a) × (k.b ≡ j.b)
 same-spacing series j k p q =
     let e = (accepted-spacing series j p).constants in
     let f = (accepted-spacing series k q).constants in

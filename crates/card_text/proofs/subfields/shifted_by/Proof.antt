@@ -4,8 +4,8 @@ use Prim.Native.Nat.{◌-◌}
 use native.Mathlib.Omega.{arith}
 use borrow.Author.Tests.{not-true, not-false}
 use borrow.Author.Rules.{rules}
-use Rattle.card_text.proofs.fields.shifted_by.Statement.{statement}
-use Rattle.card_text.proofs.fields.shifted_by.Tie as tie
+use Rattle.card_text.proofs.subfields.shifted_by.Statement.{statement}
+use Rattle.card_text.proofs.subfields.shifted_by.Tie as tie
 
 returns : tie.Need-returns-then-not-below
 returns c = rw (not-true c.args.below c.if-not-below.true-raw)

@@ -4,7 +4,7 @@
 use Rattle.std.specs.Prelude.{ℕ, ◌+◌, List, [], ◌∷◌, ◌++◌, cond, eqb, pos}
 use Rattle.arc.specs.Refusals.{Report}
 use Rattle.text.specs.Text.{blanks}
-use Rattle.card.specs.Layout.{Kind, Subfield, bytes_of}
+use Rattle.card_text.specs.Layout.{Kind, Subfield, bytes_of}
 
 -- angles, BAD and TIF have none
 abbrev pub blanks_of : Kind → List ℕ → ℕ

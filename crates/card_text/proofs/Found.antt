@@ -13,7 +13,7 @@ use Rattle.arc.specs.Spacing.{Grid}
 use Rattle.origin.specs.Origin.{stored_angle}
 use Rattle.origin.proofs.Line.{is-inside}
 use Rattle.origin.proofs.Stored.{stored-unique}
-use Rattle.card.specs.Read.{equal_ℤ, tile_storing}
+use Rattle.card_text.specs.Read.{equal_ℤ, tile_storing}
 use Rattle.whole.specs.Lists.{first_from}
 
 is-suc : (z : ℤ) (p q : ℕ) → Is z p q → Is (suc_ℤ z) (suc p) q

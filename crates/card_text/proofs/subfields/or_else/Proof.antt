@@ -1,7 +1,7 @@
 -- The match is the definition's. Assumes nothing.
 use borrow.Author.Rules.{rules}
-use Rattle.card_text.proofs.fields.or_else.Statement.{statement}
-use Rattle.card_text.proofs.fields.or_else.Tie as tie
+use Rattle.card_text.proofs.subfields.or_else.Statement.{statement}
+use Rattle.card_text.proofs.subfields.or_else.Tie as tie
 
 returns-2 : tie.Need-returns-in-Refused
 returns-2 c = rw c.in-Refused.is

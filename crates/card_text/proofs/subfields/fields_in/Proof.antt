@@ -2,11 +2,11 @@
 use mathlib.Core.Path.{◌∙◌}
 use native.Mathlib.Omega.{arith}
 use Rattle.arc.specs.declared.Verdict.{Verdict}
-use Rattle.card.specs.Layout.{layout}
+use Rattle.card_text.specs.Layout.{layout}
 use Rattle.card_text.proofs.Table.{Passed, end, ◌▸◌, passed-walk, passed-values}
 use borrow.Author.Rules.{rules}
-use Rattle.card_text.proofs.fields.fields_in.Statement.{statement}
-use Rattle.card_text.proofs.fields.fields_in.Tie as tie
+use Rattle.card_text.proofs.subfields.fields_in.Statement.{statement}
+use Rattle.card_text.proofs.subfields.fields_in.Tie as tie
 
 -- past PSO, and past NFC
 abbrev lead : tie.After-angle_at-pso → tie.Start

@@ -3,12 +3,12 @@ use mathlib.Core.Path.{ap}
 use mathlib.Core.Bool.{◌&&◌}
 use Prim.Native.Nat.{ℕ}
 use lib.Dec.{leb}
-use Rattle.card.specs.Layout.{Kind}
-use Rattle.card.specs.Layout.{sub}
+use Rattle.card_text.specs.Layout.{Kind}
+use Rattle.card_text.specs.Layout.{sub}
 use Rattle.card_text.proofs.Table.{field_at, field-after}
 use borrow.Author.Rules.{rules}
-use Rattle.card_text.proofs.fields.number_at.Statement.{statement}
-use Rattle.card_text.proofs.fields.number_at.Tie as tie
+use Rattle.card_text.proofs.subfields.number_at.Statement.{statement}
+use Rattle.card_text.proofs.subfields.number_at.Tie as tie
 
 returns : tie.Need-returns-in-Refused
 returns c =

@@ -8,9 +8,9 @@ use borrow.Author.Tests.{leb-true, ltb-true}
 use lib.Dec.{leb, ltb}
 use lib.ListN.{length, get_or}
 use Rattle.arc.specs.declared.Verdict.{Verdict}
-use Rattle.card.specs.declared.Fill.{Fill}
-use Rattle.card.specs.Layout.{Subfield, STR, layout, bytes_of, right_kind, right_value, judge, judge_field, or_else, walk}
-use Rattle.card.specs.Write.{test}
+use Rattle.card_text.specs.declared.Fill.{Fill}
+use Rattle.card_text.specs.Layout.{Subfield, STR, layout, bytes_of, right_kind, right_value, judge, judge_field, or_else, walk}
+use Rattle.card_text.specs.Write.{test}
 
 -- ---- tests that are passed
 

@@ -1,13 +1,12 @@
 // The subfields, each read once (01, "The image card, 98 bytes").
 ghost use Rattle.std.specs.Prelude.{◌≡◌, ◌+◌, ◌<◌, ◌≤◌, length};
-ghost use Rattle.card.specs.Layout.{Kind};
+ghost use Rattle.card_text.specs.Layout.{Kind};
 ghost use Rattle.text.specs.Text.{part};
-ghost use Rattle.card.specs.Layout.{sub, judge, or_else};
+ghost use Rattle.card_text.specs.Layout.{sub, judge, or_else};
 ghost use Rattle.card_text.specs.StepsFields.{shifted, DigitsOf, field_of, unread_after, FieldAt, PlainAt, FieldsOf};
 
-use crate::digits;
+use crate::{Fill, digits};
 use arc::{Circle, Refusal, Verdict};
-use card::Fill;
 use text::Digits;
 
 // Any number of at most eight digits.
@@ -22,7 +21,7 @@ pub struct Field {
 
 // Every value, and the first refusal.
 #[derive(Clone, Copy)]
-pub struct Fields {
+pub struct Values {
     pub values: [u64; 20],
     pub verdict: Verdict,
 }
@@ -151,7 +150,7 @@ fn flag_at(s: &[u8], o: usize, before: Field) -> Field
 
 // Every subfield, left to right: STR ARV BRV LSO PSO NUL NUS NLL NLS NFL NFC PNC PNL COD ROD POR PCB PVB BAD TIF.
 #[rattlefmt::skip]
-pub fn fields_in(fill: Fill, s: &[u8]) -> Fields
+pub fn fields_in(fill: Fill, s: &[u8]) -> Values
     requires { length s.now ≡ 98 }
     ensures { FieldsOf fill s.now result }
 {
@@ -183,5 +182,5 @@ pub fn fields_in(fill: Fill, s: &[u8]) -> Fields
         str.value, arv.value, brv.value, lso.value, pso.value, nul.value, nus.value, nll.value, nls.value, nfl.value,
         nfc.value, pnc.value, pnl.value, cod.value, rod.value, por.value, pcb.value, pvb.value, bad.value, tif.value,
     ];
-    Fields { values, verdict }
+    Values { values, verdict }
 }

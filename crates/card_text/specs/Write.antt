@@ -14,9 +14,9 @@ use Rattle.arc.specs.Refusals.{refusal, refusal_at}
 use Rattle.arc.specs.Zones.{is_polar}
 use Rattle.arc.specs.TownScales.{spacing_for_writing}
 use Rattle.origin.specs.Origin.{stored_angle, on_grid}
-use Rattle.card.specs.declared.Record.{Record}
-use Rattle.card.specs.Layout.{Subfield, NFL, NFC, BAD, layout, or_else}
-use Rattle.card.specs.Extents.{extents_hold}
+use Rattle.card_text.specs.declared.Record.{Record}
+use Rattle.card_text.specs.Layout.{Subfield, NFL, NFC, BAD, layout, or_else}
+use Rattle.card_text.specs.Extents.{extents_hold}
 
 pub data Value : Type 0 where
   counted : ℕ → Value

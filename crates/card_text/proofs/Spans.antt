@@ -6,8 +6,8 @@ use borrow.Author.Tests.{leb-true}
 use lib.Dec.{leb, ltb, T}
 use lib.IntN.{ℤ, pos, neg_ℤ, ◌-ℤ◌}
 use lib.Signed.{le_z, ◌≤ℤ◌}
-use Rattle.card.specs.Extents.{extents_hold}
-use Rattle.card.proofs.Walked.{within}
+use Rattle.card_text.specs.Extents.{extents_hold}
+use Rattle.card_text.proofs.Walked.{within}
 
 pub record Extends (a b : ℕ) (n : ℤ) (nul nus nll nls nfl nfc : ℕ) : Type 0 where
   pub across : nfc ≤ a / 128
