@@ -1,4 +1,5 @@
 pub mod Line
+pub mod Known
 pub mod Pairs
 pub mod Axes
 pub mod Regions

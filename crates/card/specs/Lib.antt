@@ -1,3 +1,4 @@
+pub mod Read
 pub mod Grid
 pub mod NoDrift
 pub mod Places
