@@ -1,6 +1,6 @@
--- Laws of the spacing constants (001, 3.4.6), for every unit and every scale: the smallest whole number not below n / s is q
+-- Laws of the spacing constants (DIGEST, "The ARC System", 3.4.6), for every unit and every scale: the smallest whole number not below n / s is q
 -- with n ≤ q s < n + s. Assumes nothing.
-use mathlib.Core.Path.{◌≡◌, ap, ◌∙◌}
+use mathlib.Core.Path.{◌≡◌, ap, sym, subst, ◌∙◌}
 use mathlib.Core.Bool.{true}
 use Prim.Native.Nat.{ℕ, ◌+◌, ◌-◌, ◌*◌, ◌/◌, ◌≤◌, ◌<◌}
 use native.Mathlib.Nat.{div-add-mod', mod-lt, mul_assoc, lt_of_mul-lt-mul_right, add-mul, mul-le-mul_left, zero-mul, div-zero, add-div_right}
@@ -8,9 +8,11 @@ use native.Mathlib.Omega.{arith}
 use lib.IntN.{pos, nat_abs}
 use Rattle.whole.specs.Whole.{floor_div, ceil_div}
 use Rattle.whole.proofs.Signed.{Is, is-nat, is_same, is-ceil, is-size}
-use Rattle.arc.specs.Scales.{is_scale}
-use Rattle.arc.specs.Spacing.{spacing_at, SpacingUnit, Spaced, Grid, SpacingIs, SpacingFalls, ColumnsAtLeast, RowsAtLeast}
-use Rattle.arc.proofs.ScaleLaws.{scale-least, scale-most}
+use Rattle.std.specs.Int.{div_ceil}
+use Rattle.std.proofs.lemmas.Grind.{div_ceil_times}
+use Rattle.arc.specs.Scales.{is_scale, Served}
+use Rattle.arc.specs.Pixels.{spacing_at, SpacingUnit, Spaced, Grid, SpacingIs, SpacingFalls, ColumnsAtLeast, RowsAtLeast}
+use Rattle.arc.proofs.ScaleLaws.{scale-least, scale-most, served-is}
 
 -- the constant as a quotient of naturals
 pub divides : (u s : ℕ) → 0 < s → spacing_at u s ≡ 512 * ((u * 1000000 + (s - 1)) / s)
@@ -22,7 +24,7 @@ divides u s h =
     let f : nat_abs (ceil_div (pos x) s) ≡ (x + (s - 1)) / s - 0 + (0 - (x + (s - 1)) / s) = is-size (ceil_div (pos x) s) ((x + (s - 1)) / s) 0 e in
     ap (λ (n : ℕ). 512 * n) (omega arith)
 
--- as the code divides
+-- without a sum in the division
 pub divides-less : (u s : ℕ) → 1 ≤ u → 0 < s → spacing_at u s ≡ 512 * ((u * 1000000 - 1) / s + 1)
 divides-less u s k h =
     divides u s h ∙ ap (λ (n : ℕ). 512 * n) (ap (λ (n : ℕ). n / s) (omega arith) ∙ add-div_right (u * 1000000 - 1) h)
@@ -111,3 +113,26 @@ rows-least s g =
     let l : 40 ≤ q 782 s g = at_least 782 s g 40 (omega (arith, scale-most s g)) in
     let e = is-q 782 s g in
     omega arith
+
+-- two quotients with the same bounds are one
+one_quotient : (x s p q : ℕ) → x ≤ p * s → p * s < x + s → x ≤ q * s → q * s < x + s → p ≡ q
+one_quotient x s p q a b c d =
+    let h : p < q + 1 = lt_of_mul-lt-mul_right s (omega (arith, add-mul q 1 s)) in
+    let k : q < p + 1 = lt_of_mul-lt-mul_right s (omega (arith, add-mul p 1 s)) in
+    omega arith
+
+-- what `Pixels::at` makes, and that it lies on the grid
+pub spacing_is : (u s : ℕ) → Served s → 512 * div_ceil (u * 1000000) s ≡ spacing_at u s
+unfolding q
+spacing_is u s h =
+    let g = served-is s h in
+    let t = div_ceil_times (u * 1000000) s (omega arith) in
+    let e : div_ceil (u * 1000000) s ≡ q u s g = one_quotient (u * 1000000) s _ _ t.0 t.1 (enough u s g) (close u s g) in
+    omega (arith, is-q u s g)
+
+pub spacing_on_grid : (u s : ℕ) → SpacingUnit u → Served s → Grid (512 * div_ceil (u * 1000000) s)
+spacing_on_grid u s w h = subst Grid (sym (spacing_is u s h)) (grid u s (served-is s h) w)
+
+pub ruleset makes = (spacing_is, spacing_on_grid)
+
+pub ruleset claims = (spacings, falls, columns-least, rows-least)
