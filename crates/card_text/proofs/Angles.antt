@@ -10,7 +10,7 @@ use lib.IntN.{pos, neg_ℤ}
 use Rattle.arc.specs.declared.Verdict.{Verdict}
 use Rattle.whole.proofs.Signed.{Is, is_same, is-nat, is-neg}
 use Rattle.text.specs.Text.{part, is_digit, is_sign, minus, angle_laid, degrees, minutes, seconds, hundredths, angle_size, angle_of, angle_valid}
-use Rattle.text.specs.declared.Digits.{Digits}
+use Rattle.std.specs.Prelude.{Option, is_some, unwrap_or}
 use Rattle.text.proofs.Bytes.{all-groups}
 use Rattle.text.proofs.Runs.{laid-tests}
 use Rattle.text.proofs.Angles.{valid-tests}
@@ -39,17 +39,17 @@ module _ (d limit : ℕ) (s : List ℕ) where
       go false = omega arith
 
 -- ---- an angle as it was read: the degrees, the minutes, the seconds and the hundredths
-module _ (w limit : ℕ) (p : List ℕ) {d m t h : Digits} (ed : DigitsOf (part 1 w p) d) (em : DigitsOf (part (w + 1) 2 p) m)
+module _ (w limit : ℕ) (p : List ℕ) {d m t h : Option ℕ} (ed : DigitsOf (part 1 w p) d) (em : DigitsOf (part (w + 1) 2 p) m)
     (et : DigitsOf (part (w + 3) 2 p) t) (eh : DigitsOf (part (w + 6) 2 p) h) where
-  pub angle-laid : (is_sign (get_or p 0 0) && (d.ok && m.ok && t.ok) && eqb (get_or p (w + 5) 0) 46 && h.ok) ≡ angle_laid w p
+  pub angle-laid : (is_sign (get_or p 0 0) && (is_some d && is_some m && is_some t) && eqb (get_or p (w + 5) 0) 46 && is_some h) ≡ angle_laid w p
   unfolding angle_laid
   angle-laid = rw (ed.tested, em.tested, et.tested, eh.tested, all-groups is_digit w p)
 
   abbrev size : ℕ
-  size = d.value * 360000 + m.value * 6000 + t.value * 100 + h.value
+  size = unwrap_or d 0 * 360000 + unwrap_or m 0 * 6000 + unwrap_or t 0 * 100 + unwrap_or h 0
 
   pub angle-right : angle_laid w p ≡ true
-      → ((ltb m.value 60 && ltb t.value 60 && leb size limit && not (minus p && eqb size 0)) ≡ angle_valid w limit p)
+      → ((ltb (unwrap_or m 0) 60 && ltb (unwrap_or t 0) 60 && leb size limit && not (minus p && eqb size 0)) ≡ angle_valid w limit p)
       × (shifted limit (minus p) size ≡ shifted limit (minus p) (angle_size w p))
   unfolding angle_laid angle_valid angle_size degrees minutes seconds hundredths
   angle-right e =

@@ -9,7 +9,7 @@ use borrow.Author.Tests.{eqb-true, ne_eqb, ltb-true, ltb-false, lt-ltb, le-ltb}
 use lib.Dec.{eqb, ltb}
 use lib.ListN.{length, get_or, drop, length-drop}
 use Rattle.text.specs.Text.{is_digit, all, onward, number, blanks, filled}
-use Rattle.text.specs.declared.Digits.{Digits}
+use Rattle.std.specs.Prelude.{Option}
 use Rattle.text.specs.Buffer.{digits_in}
 use Rattle.text.proofs.Bytes.{drop-next, length_part}
 use Rattle.text.proofs.Numbers.{digits-read}
@@ -113,7 +113,7 @@ skip-none Fill.Blanks s e = lead-here s e
 
 -- ---- the number
 
-module _ (fill : Fill) (s : List ℕ) (k : ℕ) {r : Digits} where
+module _ (fill : Fill) (s : List ℕ) (k : ℕ) {r : Option ℕ} where
   pub number_read : 0 < length s → length s ≤ 8 → k ≡ skip fill s → r ≡ digits_in (drop k s) → NumberOf fill s r
   number_read h l e q =
       let n = digits-read 8 (drop k s) {r = r} (omega (arith, length-drop k s)) (omega arith) q in

@@ -12,23 +12,22 @@
 --     FieldAt fill f s before r    a subfield as it was read: the first refusal up to it, and its value where there is none
 --     PlainAt f s before r         the same of an angle, BAD or TIF, whatever may fill numbers
 --     FieldsOf fill s r  the card as it was read: the first refusal of the layout, and every value where there is none
-use Rattle.std.specs.Prelude.{◌≡◌, ℕ, suc, ◌+◌, ◌-◌, ◌<◌, List, [], ◌∷◌, Bool, true, cond, eqb, get_or}
+use Rattle.std.specs.Prelude.{◌≡◌, ℕ, suc, ◌+◌, ◌-◌, ◌<◌, List, [], ◌∷◌, Bool, true, cond, eqb, get_or, Option, is_some, unwrap_or}
 use Rattle.arc.specs.declared.Refusal.{Refusal}
 use Rattle.arc.specs.declared.Verdict.{Verdict}
-use Rattle.card_text.specs.Layout.{Kind}
-use Rattle.card_text.specs.Layout.{Number, Angle, Name, Flag}
-use Rattle.card_text.specs.Layout.{Subfield}
+use Rattle.card.specs.Layout.{Kind}
+use Rattle.card.specs.Layout.{Number, Angle, Name, Flag}
+use Rattle.card.specs.Layout.{Subfield}
 use Rattle.text.specs.Text.{part, is_digit, all, number, minus, angle_size}
-use Rattle.text.specs.declared.Digits.{Digits}
-use Rattle.card_text.specs.declared.Fill.{Fill}
-use Rattle.card_text.specs.Layout.{layout, bytes_of, number_laid, judge, judge_field, or_else, walk}
-use Rattle.card_text.specs.declared.subfields.Field.{Field}
-use Rattle.card_text.specs.declared.subfields.Values.{Values}
+use Rattle.card.specs.declared.Fill.{Fill}
+use Rattle.card.specs.Layout.{layout, bytes_of, number_laid, judge, judge_field, or_else, walk}
+use Rattle.card_text.specs.declared.fields.Field.{Field}
+use Rattle.card_text.specs.declared.fields.Fields.{Fields}
 
-pub record DigitsOf (s : List ℕ) (r : Digits) : Type 0 where
-  pub tested : r.ok ≡ all is_digit s
-  pub read : all is_digit s ≡ true → r.value ≡ number s
-  pub small : r.value < 2900000000
+pub record DigitsOf (s : List ℕ) (r : Option ℕ) : Type 0 where
+  pub tested : is_some r ≡ all is_digit s
+  pub read : all is_digit s ≡ true → unwrap_or r 0 ≡ number s
+  pub small : unwrap_or r 0 < 2900000000
 
 abbrev pub lead : List ℕ → ℕ
 lead [] = 0
@@ -39,9 +38,9 @@ abbrev pub skip : Fill → List ℕ → ℕ
 skip Fill.Zeros s = 0
 skip Fill.Blanks s = lead s
 
-pub record NumberOf (fill : Fill) (s : List ℕ) (r : Digits) : Type 0 where
-  pub tested : r.ok ≡ number_laid fill s
-  pub read : number_laid fill s ≡ true → r.value ≡ number s
+pub record NumberOf (fill : Fill) (s : List ℕ) (r : Option ℕ) : Type 0 where
+  pub tested : is_some r ≡ number_laid fill s
+  pub read : number_laid fill s ≡ true → unwrap_or r 0 ≡ number s
 
 -- ARV and BRV, NUL and NLL, NUS and NLS, NFL and NFC, PNC and PNL
 abbrev pub lead_total : List ℕ → ℕ
@@ -79,6 +78,6 @@ pub record FieldAt (fill : Fill) (f : Subfield) (s : List ℕ) (before : Verdict
 pub record PlainAt (f : Subfield) (s : List ℕ) (before : Verdict) (r : Field) : Type 0 where
   pub either : (fill : Fill) → FieldAt fill f s before r
 
-pub record FieldsOf (fill : Fill) (s : List ℕ) (r : Values) : Type 0 where
+pub record FieldsOf (fill : Fill) (s : List ℕ) (r : Fields) : Type 0 where
   pub walks : r.verdict ≡ walk fill layout s
   pub kept : walk fill layout s ≡ Verdict.Accepted → r.values ≡ values_in layout s

@@ -3,8 +3,7 @@ ghost use Rattle.std.specs.Prelude.{◌≡◌, ◌+◌, ◌<◌, ◌≤◌, leng
 ghost use Rattle.text.specs.Text.{part, is_name_byte, all, name_laid};
 ghost use Rattle.card_text.specs.StepsFields.{DigitsOf, NumberOf, lead, skip};
 
-use crate::Fill;
-use text::Digits;
+use card::Fill;
 
 // A capital letter or a digit.
 fn is_name_byte(b: u8) -> bool
@@ -23,7 +22,7 @@ pub fn bytes_at<'a>(s: &'a [u8], o: usize, w: usize) -> &'a [u8]
 }
 
 // The run of w digits from offset o.
-pub fn digits_at(s: &[u8], o: usize, w: usize) -> Digits
+pub fn digits_at(s: &[u8], o: usize, w: usize) -> Option<u64>
     requires within { o + w ≤ length s.now }
     requires width { w ≤ 8 }
     ensures { DigitsOf (part o w s.now) result }
@@ -69,7 +68,7 @@ fn skipped(fill: Fill, s: &[u8]) -> usize
 }
 
 // A number that starts with a blank.
-fn past_blanks(fill: Fill, s: &[u8]) -> Digits
+fn past_blanks(fill: Fill, s: &[u8]) -> Option<u64>
     requires not_empty { 0 < length s.now }
     requires width { length s.now ≤ 8 }
     ensures { NumberOf fill s.now result }
@@ -78,7 +77,7 @@ fn past_blanks(fill: Fill, s: &[u8]) -> Digits
 }
 
 // A number: digits, and blanks before them where they may stand (02, E2). Its first byte tells whether there are any.
-pub fn number_of(fill: Fill, s: &[u8]) -> Digits
+pub fn number_of(fill: Fill, s: &[u8]) -> Option<u64>
     requires not_empty { 0 < length s.now }
     requires width { length s.now ≤ 8 }
     ensures { NumberOf fill s.now result }
