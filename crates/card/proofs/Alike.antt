@@ -10,8 +10,7 @@ use lib.Dec.{leb}
 use lib.IntN.{ℤ, pos, ◌+ℤ◌, ◌-ℤ◌, ◌*ℤ◌}
 use Rattle.whole.specs.Whole.{floor_div, nearest, modulo, outside, raise}
 use Rattle.whole.proofs.Signed.{Is, is-equal, equal_is, is-raise}
-use Rattle.arc.specs.declared.Series.{Series}
-use Rattle.arc.specs.declared.Verdict.{Verdict}
+use Rattle.arc.specs.declared.series.Series.{Series}
 use Rattle.arc.specs.Refusals.{refusal}
 use Rattle.arc.specs.Zones.{circle, half}
 use Rattle.card_text.specs.declared.Fields.{Fields}

@@ -8,7 +8,6 @@ use native.Mathlib.Omega.{arith}
 use lib.IntN.{ℤ, pos, neg_ℤ}
 use Rattle.whole.specs.Whole.{near}
 use Rattle.whole.proofs.Signed.{is-nat, is-neg, is_le, is_lt}
-use Rattle.arc.specs.declared.Verdict.{Verdict}
 use Rattle.arc.specs.Refusals.{on_verdict}
 use Rattle.arc.specs.Zones.{circle, half, quarter}
 use Rattle.origin.proofs.Line.{is-inside}

@@ -10,8 +10,7 @@ use mir.Syntax.{w64}
 use mir.Val.{SFits, Fits, to_z, of_z}
 use mir.ValLaws.{to_z-of_z}
 use Rattle.whole.proofs.Machine.{casts}
-use Rattle.arc.specs.declared.Refusal.{Refusal}
-use Rattle.arc.specs.declared.Verdict.{Verdict}
+use Rattle.arc.specs.declared.refusal.Refusal.{Refusal}
 use Rattle.arc.specs.Refusals.{refusal, on_verdict}
 use Rattle.card_text.specs.declared.Fields.{Fields}
 use Rattle.card.specs.Grid.{in_tiles, in_chart, verdict_of}

@@ -8,7 +8,7 @@ use Prim.Native.Char.{code}
 use Prim.Native.String.{String, [], ◌∷◌}
 use lib.IntN.{ℤ, pos, negsuc}
 use Rattle.whole.specs.Whole.{floor_div, ceil_div, nearest, modulo}
-use Rattle.arc.specs.declared.Series.{Series}
+use Rattle.arc.specs.declared.series.Series.{Series}
 use Rattle.arc.specs.Refusals.{refusal}
 use Rattle.arc.specs.Scales.{chart_series}
 use Rattle.arc.specs.Spacing.{spacing_at}

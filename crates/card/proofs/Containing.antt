@@ -9,7 +9,6 @@ use lib.IntN.{ℤ, sub_ℕ}
 use Rattle.whole.specs.Whole.{outside, raise}
 use Rattle.whole.proofs.Signed.{is-raise, raise-high}
 use Rattle.arc.specs.Refusals.{refusal, on_verdict}
-use Rattle.arc.specs.declared.Verdict.{Verdict}
 use Rattle.arc.specs.Zones.{half, quarter}
 use Rattle.card_text.specs.declared.Fields.{Fields}
 use Rattle.card.specs.declared.Pair.{Pair}

@@ -14,10 +14,9 @@ use lib.IntN.{ℤ, nat_abs, ◌-ℤ◌}
 use Rattle.whole.specs.Whole.{near}
 use Rattle.whole.proofs.Signed.{under, is-minus, is-size}
 use Rattle.whole.proofs.Near.{near-low, near-high}
-use Rattle.arc.specs.declared.Series.{Series}
-use Rattle.arc.specs.declared.Verdict.{Verdict}
+use Rattle.arc.specs.declared.series.Series.{Series}
 use Rattle.arc.specs.Refusals.{refusal}
-use Rattle.arc.specs.Spacing.{Grid}
+use Rattle.arc.specs.Pixels.{Grid}
 use Rattle.arc.proofs.Answered.{answered-grids}
 use Rattle.origin.specs.Origin.{stored_angle}
 use Rattle.origin.proofs.Axis.{tile_angle, stored_is}

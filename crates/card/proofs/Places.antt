@@ -8,8 +8,8 @@ use Prim.Native.Nat.{ℕ, ◌+◌, ◌*◌, ◌/◌, ◌%◌}
 use native.Mathlib.Omega.{arith}
 use lib.IntN.{ℤ, pos, ◌*ℤ◌}
 use Rattle.whole.proofs.Signed.{over, under, is-parts, is-equal, equal_is, is-minus}
-use Rattle.arc.specs.declared.Series.{Series}
-use Rattle.arc.specs.declared.Refusal.{Refusal}
+use Rattle.arc.specs.declared.series.Series.{Series}
+use Rattle.arc.specs.declared.refusal.Refusal.{Refusal}
 use Rattle.arc.specs.Refusals.{refusal}
 use Rattle.card_text.specs.declared.Fields.{Fields}
 use Rattle.card.specs.declared.Pair.{Pair}

@@ -10,7 +10,7 @@ use mir.ValLaws.{to_z-of_z}
 use Rattle.whole.specs.Whole.{outside, raise}
 use Rattle.whole.proofs.Signed.{Is, is-equal, is-unique, is-minus, is-difference, is-raise, raise-high}
 use Rattle.whole.proofs.Counts.{Inside, inside_is}
-use Rattle.arc.specs.declared.Refusal.{Refusal}
+use Rattle.arc.specs.declared.refusal.Refusal.{Refusal}
 use Rattle.arc.specs.Refusals.{refusal}
 use Rattle.arc.specs.Zones.{half, quarter}
 use Rattle.card.specs.declared.range.Ranged.{Ranged}

@@ -12,9 +12,9 @@
 --     MovedRefused           a card whose origin is so moved is refused
 use Rattle.std.specs.Prelude.{◌≡◌, true, List, [], ◌∷◌, ◌⊎◌, ◌↔◌, ℕ, ◌≤◌, ℤ, pos, nat_abs, ◌-ℤ◌, length}
 use Rattle.std.proofs.Math.Option.{none}
-use Rattle.arc.specs.declared.Series.{Series}
+use Rattle.arc.specs.declared.series.Series.{Series}
 use Rattle.arc.specs.Refusals.{refusal, on_verdict}
-use Rattle.arc.specs.Spacing.{Grid}
+use Rattle.arc.specs.Pixels.{Grid}
 use Rattle.origin.specs.Origin.{stored_angle}
 use Rattle.text.specs.Text.{angle_of}
 use Rattle.card_text.specs.declared.Fields.{Fields}

@@ -10,7 +10,6 @@
 use Rattle.std.specs.Prelude.{◌*◌, Bool, cond, ◌&&◌, [], ◌∷◌, ℤ, pos, ◌+ℤ◌, ◌-ℤ◌, ◌*ℤ◌}
 use Rattle.std.specs.Int.Signed.{le_z, lt_z}
 use Rattle.whole.specs.Whole.{floor_div, nearest, modulo, outside}
-use Rattle.arc.specs.declared.Verdict.{Verdict}
 use Rattle.arc.specs.Refusals.{refusal, Report, answered, refused_with, on_verdict}
 use Rattle.arc.specs.Zones.{circle, half, quarter}
 use Rattle.card_text.specs.declared.Fields.{Fields}

@@ -7,8 +7,8 @@
 --     visits p lat lon ks        the visits down the list, each with the position last answered
 --     NoDrift                    the demand
 use Rattle.std.specs.Prelude.{◌≡◌, true, List, [], ◌∷◌, ◌⊎◌, ℕ, ◌*◌, ◌≤◌, ℤ, pos, nat_abs, ◌+ℤ◌, ◌-ℤ◌, ◌*ℤ◌}
-use Rattle.arc.specs.declared.Series.{Series}
-use Rattle.arc.specs.declared.Refusal.{Refusal}
+use Rattle.arc.specs.declared.series.Series.{Series}
+use Rattle.arc.specs.declared.refusal.Refusal.{Refusal}
 use Rattle.arc.specs.Refusals.{refusal}
 use Rattle.arc.specs.Zones.{circle}
 use Rattle.card_text.specs.declared.Fields.{Fields}

@@ -9,7 +9,7 @@
 --     RefusesExactly         12 exactly where no pixel of the tiles has the place, 13 exactly where one has and none of the chart
 --     AskedAlike             the walk asks each later card with the first position itself
 use Rattle.std.specs.Prelude.{◌≡◌, true, List, ◌∷◌, map, ◌↔◌, ℤ}
-use Rattle.arc.specs.declared.Series.{Series}
+use Rattle.arc.specs.declared.series.Series.{Series}
 use Rattle.arc.specs.Refusals.{refusal}
 use Rattle.card_text.specs.declared.Fields.{Fields}
 use Rattle.card.specs.declared.Pair.{Pair}

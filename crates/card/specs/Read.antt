@@ -2,8 +2,8 @@
 --     card_read series s         what `Card::read` answers: blanks may stand before a number's digits, and the total of them is told
 --     card_read_strict series s  what `Card::read_strict` answers: none may
 use Rattle.std.specs.Prelude.{ℕ, List, Result, Ok, Err}
-use Rattle.arc.specs.declared.Series.{Series}
-use Rattle.arc.specs.declared.Refusal.{Refusal}
+use Rattle.arc.specs.declared.series.Series.{Series}
+use Rattle.arc.specs.declared.refusal.Refusal.{Refusal}
 use Rattle.card_text.specs.declared.Reading.{Reading as TextReading}
 use Rattle.card_text.specs.Read.{read_of, read_strict}
 use Rattle.card.specs.declared.Reading.{Reading}

@@ -1,20 +1,19 @@
 -- What an accepted reading passed: each test of `read_as` in turn, read off the answer, and put together again. Assumes nothing.
 use mathlib.Core.Path.{◌≡◌, refl, ap, ap₂}
-use mathlib.Core.Bool.{Bool, true, false, cond, ◌&&◌, and-eq-true_iff}
+use mathlib.Core.Bool.{Bool, true, false, not, ◌&&◌, and-eq-true_iff}
 use mathlib.Core.List.{List}
 use mathlib.Core.Option.{Option, some, none}
-use Rattle.std.specs.Prelude.{Result, Ok, Err}
+use Rattle.std.specs.Prelude.{if◌then◌else◌, Result, Ok, Err}
 use Prim.Native.Nat.{ℕ, ◌/◌}
 use native.Mathlib.Omega.{arith}
 use borrow.Author.Tests.{eqb-true, eq-eqb}
 use lib.Dec.{eqb}
 use lib.ListN.{length}
 use lib.IntN.{ℤ}
-use Rattle.arc.specs.declared.Series.{Series}
-use Rattle.arc.specs.declared.Refusal.{Refusal}
-use Rattle.arc.specs.declared.Verdict.{Verdict}
-use Rattle.arc.specs.declared.SpacingAnswer.{SpacingAnswer}
-use Rattle.arc.specs.Refusals.{refusal, on_verdict}
+use Rattle.arc.specs.declared.series.Series.{Series}
+use Rattle.arc.specs.declared.refusal.Refusal.{Refusal}
+use Rattle.arc.specs.declared.series.Spacing.{Spacing}
+use Rattle.whole.specs.Results.{◌>>=◌}
 use Rattle.whole.specs.Whole.{outside}
 use Rattle.arc.specs.Zones.{is_polar}
 use Rattle.arc.specs.Spacing.{spacing_of}
@@ -24,10 +23,10 @@ use Rattle.card_text.specs.declared.Fields.{Fields}
 use Rattle.card_text.specs.declared.Reading.{Reading}
 use Rattle.card_text.specs.declared.Fill.{Fill}
 use Rattle.text.specs.Text.{angle_of}
-use Rattle.card_text.specs.Layout.{ARV, BRV, LSO, PSO, NUL, NUS, NLL, NLS, NFL, NFC, layout, bytes_of, walk}
+use Rattle.card_text.specs.Layout.{ARV, BRV, LSO, PSO, NUL, NUS, NLL, NLS, NFL, NFC, Judged, layout, bytes_of, walk}
 use Rattle.card_text.specs.Blanks.{total_blanks}
 use Rattle.card_text.specs.Extents.{extents_hold}
-use Rattle.card_text.specs.Read.{tile_storing, number_in, card_of, accepted_card, blanks_told, refused_card, with_origin, with_values, read_in, read_as, Accepted}
+use Rattle.card_text.specs.Read.{tile_storing, number_in, card_of, accepted_card, blanks_told, with_origin, with_values, read_in, read_as, Accepted}
 use Rattle.card_text.proofs.Found.{Stores, tile-stores, stores-tile}
 
 -- the tests on the bytes
@@ -50,10 +49,10 @@ pub record ReadTo (fill : Fill) (series : Series) (s : List ℕ) (k : Fields) (b
   pub b : ℕ
   pub n : ℤ
   pub m : ℤ
-  pub spacing : spacing_of series ≡ SpacingAnswer.Constants a b
+  pub spacing : spacing_of series ≡ Ok (record { a = a; b = b })
   pub not-polar : is_polar series.zone ≡ false
   pub long : length s ≡ 98
-  pub judged : walk fill layout s ≡ Verdict.Accepted
+  pub judged : walk fill layout s ≡ Ok tt
   pub arv : number_in ARV s ≡ a
   pub brv : number_in BRV s ≡ b
   pub n-stored : Stores b (b / 512) (angle_of 2 (bytes_of PSO s)) n
@@ -63,9 +62,8 @@ pub record ReadTo (fill : Fill) (series : Series) (s : List ℕ) (k : Fields) (b
   pub counted : total_blanks layout s ≡ blanks
 
 -- a refusal accepts no card
-never : {A : Type 0} (r : Refusal) (k : Fields) (blanks : ℕ) → refused_card r ≡ accepted_card k blanks → A
-never r k blanks e =
-    let x : ◌≡◌ {A = ℕ} 0 1 = cc in absurd (omega arith)
+never : {A : Type 0} (r : Refusal) (k : Fields) (blanks : ℕ) → ◌≡◌ {A = Result Reading Refusal} (Err r) (accepted_card k blanks) → A
+never r k blanks e = let x : ◌≡◌ {A = ℕ} 0 1 = cc in absurd (omega arith)
 
 -- what an accepted reading holds, k and n standing for a refusal's
 abbrev fields_or : Fields → Result Reading Refusal → Fields
@@ -74,19 +72,19 @@ fields_or k (Err r) = k
 
 module _ (fill : Fill) (series : Series) (s : List ℕ) (k : Fields) (blanks : ℕ) where
   -- by the tests in their order
-  by-origin : (a b : ℕ) → spacing_of series ≡ SpacingAnswer.Constants a b → is_polar series.zone ≡ false → eqb (length s) 98 ≡ true
-      → walk fill layout s ≡ Verdict.Accepted → constants_in a b s ≡ true
+  by-origin : (a b : ℕ) → spacing_of series ≡ Ok (record { a = a; b = b }) → is_polar series.zone ≡ false → eqb (length s) 98 ≡ true
+      → walk fill layout s ≡ Ok tt → constants_in a b s ≡ true
       → (n m : Option ℤ) → row_tile b s ≡ n → column_tile a s ≡ m
       → with_origin series a b s n m ≡ accepted_card k blanks → ReadTo fill series s k blanks
   unfolding card_of
-  by-origin a b sp po wh ju co none m f g e = never (refusal 10) k blanks e
-  by-origin a b sp po wh ju co (some n) none f g e = never (refusal 10) k blanks e
+  by-origin a b sp po wh ju co none m f g e = never Refusal.Origin k blanks e
+  by-origin a b sp po wh ju co (some n) none f g e = never Refusal.Origin k blanks e
   by-origin a b sp po wh ju co (some n) (some m) f g e = go (extents_in a b n s) refl e
     where
       go : (t : Bool) → extents_in a b n s ≡ t
-          → cond t (accepted_card (card_of series a b n m s) (total_blanks layout s)) (refused_card (refusal 11))
+          → (if not t then Err Refusal.Extent else accepted_card (card_of series a b n m s) (total_blanks layout s))
           ≡ accepted_card k blanks → ReadTo fill series s k blanks
-      go false t e = never (refusal 11) k blanks e
+      go false t e = never Refusal.Extent k blanks e
       go true t e =
           let c = (and-eq-true_iff (eqb (number_in ARV s) a) (eqb (number_in BRV s) b)).0 co in
           record {
@@ -107,28 +105,29 @@ module _ (fill : Fill) (series : Series) (s : List ℕ) (k : Fields) (blanks : �
             counted = ap blanks_told e;
           }
 
-  by_tests : (a b : ℕ) → spacing_of series ≡ SpacingAnswer.Constants a b → (p w c : Bool) (v : Verdict)
+  by_tests : (a b : ℕ) → spacing_of series ≡ Ok (record { a = a; b = b }) → (p w c : Bool) (v : Judged)
       → is_polar series.zone ≡ p → eqb (length s) 98 ≡ w
       → walk fill layout s ≡ v → constants_in a b s ≡ c
-      → cond p (refused_card (refusal 3))
-      (cond w (on_verdict v refused_card (cond c (with_origin series a b s (row_tile b s) (column_tile a s)) (refused_card (refusal 9))))
-      (refused_card (refusal 6)))
+      → (if p then Err Refusal.Polar
+        else (if not w then Err Refusal.Length
+        else ◌>>=◌ {B = Reading} v (λ _. if not c then Err Refusal.Spacing else with_origin series a b s (row_tile b s) (column_tile a s))))
       ≡ accepted_card k blanks
       → ReadTo fill series s k blanks
-  by_tests a b sp true w c v po wh ju co e = never (refusal 3) k blanks e
-  by_tests a b sp false false c v po wh ju co e = never (refusal 6) k blanks e
-  by_tests a b sp false true c (Verdict.Refused r) po wh ju co e = never r k blanks e
-  by_tests a b sp false true false Verdict.Accepted po wh ju co e = never (refusal 9) k blanks e
-  by_tests a b sp false true true Verdict.Accepted po wh ju co e = by-origin a b sp po wh ju co _ _ refl refl e
+  by_tests a b sp true w c v po wh ju co e = never Refusal.Polar k blanks e
+  by_tests a b sp false false c v po wh ju co e = never Refusal.Length k blanks e
+  by_tests a b sp false true c (Err r) po wh ju co e = never r k blanks e
+  by_tests a b sp false true false (Ok u) po wh ju co e = never Refusal.Spacing k blanks e
+  by_tests a b sp false true true (Ok u) po wh ju co e = by-origin a b sp po wh ju co _ _ refl refl e
 
   pub read-to : read_as fill series s ≡ accepted_card k blanks → ReadTo fill series s k blanks
   unfolding read_in with_values
   read-to e = go (spacing_of series) refl e
     where
-      go : (x : SpacingAnswer) → spacing_of series ≡ x → read_in fill series x s ≡ accepted_card k blanks → ReadTo fill series s k blanks
-      go (SpacingAnswer.Refused r) sp e = never r k blanks e
-      go (SpacingAnswer.Constants a b) sp e =
-          by_tests a b sp (is_polar series.zone) (eqb (length s) 98) (constants_in a b s) (walk fill layout s) refl refl refl refl e
+      go : (x : Result Spacing Refusal) → spacing_of series ≡ x → ◌>>=◌ {B = Reading} x (λ y. read_in fill series y s) ≡ accepted_card k blanks
+          → ReadTo fill series s k blanks
+      go (Err r) sp e = never r k blanks e
+      go (Ok x) sp e =
+          by_tests x.a x.b sp (is_polar series.zone) (eqb (length s) 98) (constants_in x.a x.b s) (walk fill layout s) refl refl refl refl e
 
   pub to_read : ReadTo fill series s k blanks → read_as fill series s ≡ accepted_card k blanks
   unfolding read_in with_values card_of
@@ -149,8 +148,8 @@ module _ (fill : Fill) (series : Series) (s : List ℕ) (k : Fields) (blanks : �
 
 -- bytes whose tests pass one by one are an accepted card; n and m are those that store the angles
 module _ (series : Series) (a b : ℕ) (n m : ℤ) (s : List ℕ) where
-  pub bytes-accepted : spacing_of series ≡ SpacingAnswer.Constants a b → is_polar series.zone ≡ false → length s ≡ 98
-      → walk Fill.Blanks layout s ≡ Verdict.Accepted → number_in ARV s ≡ a → number_in BRV s ≡ b
+  pub bytes-accepted : spacing_of series ≡ Ok (record { a = a; b = b }) → is_polar series.zone ≡ false → length s ≡ 98
+      → walk Fill.Blanks layout s ≡ Ok tt → number_in ARV s ≡ a → number_in BRV s ≡ b
       → outside (b / 512) n ≡ false → stored_angle b n ≡ angle_of 2 (bytes_of PSO s)
       → outside (a / 256) m ≡ false → stored_angle a m ≡ angle_of 3 (bytes_of LSO s)
       → extents_in a b n s ≡ true → Accepted series (card_of series a b n m s)

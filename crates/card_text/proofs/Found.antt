@@ -9,7 +9,7 @@ use borrow.Author.Tests.{eqb-true, eq-eqb}
 use lib.IntN.{ℤ, pos, negsuc, neg_ℤ, suc_ℤ}
 use Rattle.whole.specs.Whole.{outside, raise}
 use Rattle.whole.proofs.Signed.{Is, is_same, is-equal, is-nat, is-neg, is-raise, raise-high}
-use Rattle.arc.specs.Spacing.{Grid}
+use Rattle.arc.specs.Pixels.{Grid}
 use Rattle.origin.specs.Origin.{stored_angle}
 use Rattle.origin.proofs.Line.{is-inside}
 use Rattle.origin.proofs.Stored.{stored-unique}

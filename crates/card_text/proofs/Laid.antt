@@ -1,15 +1,18 @@
 -- An accepted card in naturals: its constants are on the grid, its origin is counted from the South Pole and from 180° west,
 -- and the extents bound its tiles and its chart. They are the tests that its reading passed. Assumes nothing.
-use mathlib.Core.Path.{◌≡◌, refl, subst}
+use mathlib.Core.Path.{◌≡◌, refl, sym, ap, ◌∙◌, subst}
 use mathlib.Core.List.{List}
 use Prim.Native.Nat.{ℕ, ◌+◌, ◌*◌, ◌/◌, ◌≤◌, ◌<◌}
 use native.Mathlib.Omega.{arith}
 use lib.IntN.{pos, neg_ℤ, ◌-ℤ◌}
 use Rattle.whole.specs.Whole.{raise}
 use Rattle.whole.proofs.Signed.{Is, is-nat, is-neg, is-minus, le_is, is-raise, raise-high}
-use Rattle.arc.specs.declared.Series.{Series}
-use Rattle.arc.specs.declared.SpacingAnswer.{SpacingAnswer}
-use Rattle.arc.specs.Spacing.{Grid, spacing_of}
+use Rattle.arc.specs.declared.series.Series.{Series}
+use Rattle.std.specs.Prelude.{Result, Ok, Err}
+use Rattle.arc.specs.declared.refusal.Refusal.{Refusal}
+use Rattle.arc.specs.declared.series.Spacing.{Spacing as Spaces}
+use Rattle.arc.specs.Pixels.{Grid}
+use Rattle.arc.specs.Spacing.{spacing_of}
 use Rattle.arc.proofs.Answered.{answered-grids}
 use Rattle.card_text.specs.declared.Fields.{Fields}
 use Rattle.card_text.specs.declared.Fill.{Fill}
@@ -88,7 +91,7 @@ known-laid k h = accepted-laid h.series k h.is_read
 
 -- a card's constants are those of its scale, factor and zone
 pub record Spacing (series : Series) (k : Fields) : Type 0 where
-  pub constants : spacing_of series ≡ SpacingAnswer.Constants k.a k.b
+  pub constants : spacing_of series ≡ Ok (record { a = k.a; b = k.b })
   pub same-series : k.series ≡ series
 
 pub accepted-spacing : (series : Series) (k : Fields) → Accepted series k → Spacing series k
@@ -97,9 +100,16 @@ accepted-spacing series k h =
     let r = read-to Fill.Blanks series h.bytes k h.blanks h.read in
     subst (Spacing series) r.card (record { constants = r.spacing; same-series = refl })
 
+abbrev a_of : Result Spaces Refusal → ℕ
+a_of (Ok x) = x.a
+a_of (Err r) = 0
+
+abbrev b_of : Result Spaces Refusal → ℕ
+b_of (Ok x) = x.b
+b_of (Err r) = 0
+
 -- two cards of one scale, factor and zone have the same
 pub same-spacing : (series : Series) (j k : Fields) → Accepted series j → Accepted series k → (k.a ≡ j.a) × (k.b ≡ j.b)
 same-spacing series j k p q =
-    let e = (accepted-spacing series j p).constants in
-    let f = (accepted-spacing series k q).constants in
-    (cc, cc)
+    let e = sym (accepted-spacing series j p).constants ∙ (accepted-spacing series k q).constants in
+    (sym (ap a_of e), sym (ap b_of e))

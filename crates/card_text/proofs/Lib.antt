@@ -4,8 +4,9 @@ pub mod Found
 pub mod Acceptance
 pub mod Laid
 pub mod Strict
-pub mod Blanks
 pub mod Table
+pub mod Runs
+pub mod Blanks
 pub mod Angles
 pub mod Axes
 pub mod Tiled

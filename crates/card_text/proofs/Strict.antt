@@ -1,21 +1,20 @@
 -- A card without blanks before its digits is walked alike whatever may fill its numbers, and its total is told only where it is
 -- accepted; the digits that its numbers need leave room for 37. Assumes nothing.
 use mathlib.Core.Path.{◌≡◌, refl, sym, ap, ap₂, ◌∙◌}
-use mathlib.Core.Bool.{Bool, true, false, cond, ◌&&◌, and-eq-true_iff}
+use mathlib.Core.Bool.{Bool, true, false, cond, not, ◌&&◌, and-eq-true_iff}
 use mathlib.Core.List.{List, [], ◌∷◌}
 use mathlib.Core.Option.{Option, some, none}
-use Rattle.std.specs.Prelude.{Result, Err}
+use Rattle.std.specs.Prelude.{if◌then◌else◌, Result, Ok, Err}
 use Prim.Native.Nat.{ℕ, ◌+◌, ◌^◌, ◌≤◌, ◌<◌}
 use native.Mathlib.Omega.{arith}
 use borrow.Author.Tests.{leb-true, eqb-true}
 use lib.Dec.{leb, eqb}
 use lib.IntN.{ℤ}
 use lib.ListN.{length, get_or}
-use Rattle.arc.specs.declared.Series.{Series}
-use Rattle.arc.specs.declared.Refusal.{Refusal}
-use Rattle.arc.specs.declared.Verdict.{Verdict}
-use Rattle.arc.specs.declared.SpacingAnswer.{SpacingAnswer}
-use Rattle.arc.specs.Refusals.{refusal, on_verdict}
+use Rattle.arc.specs.declared.series.Series.{Series}
+use Rattle.arc.specs.declared.refusal.Refusal.{Refusal}
+use Rattle.arc.specs.declared.series.Spacing.{Spacing}
+use Rattle.whole.specs.Results.{◌>>=◌}
 use Rattle.arc.specs.Zones.{is_polar}
 use Rattle.arc.specs.Spacing.{spacing_of}
 use Rattle.arc.proofs.Answered.{answered-least}
@@ -25,9 +24,9 @@ use Rattle.text.proofs.Blanks.{number-after, digits-none, none_filled, blanks-be
 use Rattle.card_text.specs.declared.Fields.{Fields}
 use Rattle.card_text.specs.declared.Fill.{Fill}
 use Rattle.card_text.specs.declared.Reading.{Reading}
-use Rattle.card_text.specs.Layout.{Kind, Subfield, STR, ARV, BRV, PNC, PNL, layout, bytes_of, right_kind, right_value, judge, judge_field, or_else, walk}
+use Rattle.card_text.specs.Layout.{Kind, Subfield, STR, ARV, BRV, PNC, PNL, layout, bytes_of, right_kind, right_value, Judged, judge, judge_field, or_else, walk}
 use Rattle.card_text.specs.Blanks.{blanks_of, blanks_in, total_blanks}
-use Rattle.card_text.specs.Read.{number_in, card_of, accepted_card, blanks_told, refused_card, with_origin, with_values, read_in, read_as}
+use Rattle.card_text.specs.Read.{number_in, card_of, accepted_card, blanks_told, with_origin, with_values, read_in, read_as}
 use Rattle.card_text.specs.Strict.{OneDigit, DigitsAlone, SameWithout, StrictAccepts, TolerantAccepts, RefusedNone, AtMost37}
 use Rattle.card_text.proofs.Walked.{between, or_else-both, judge-both, right-in}
 use Rattle.card_text.proofs.Acceptance.{row_tile, column_tile, extents_in, ReadTo, read-to}
@@ -78,7 +77,7 @@ module _ (s : List ℕ) where
       ap₂ or_else (ap (λ (b : Bool). judge b (right_value f.kind (bytes_of f s)) f.at) (kind-same f.kind (bytes_of f s) (omega arith) (omega arith)))
       (walk_same l fs p.1 (omega arith))
 
-  pub walk_none : (fs : List Subfield) → walk Fill.Zeros fs s ≡ Verdict.Accepted → total_blanks fs s ≡ 0
+  pub walk_none : (fs : List Subfield) → walk Fill.Zeros fs s ≡ Ok tt → total_blanks fs s ≡ 0
   unfolding judge_field blanks_in
   walk_none [] e = refl
   walk_none (f ∷ fs) e =
@@ -95,48 +94,48 @@ unfolding read_in
 same-reading series s e = go (spacing_of series)
   where
     past : (a b : ℕ) (t : Bool) → eqb (length s) 98 ≡ t
-        → cond t (on_verdict (walk Fill.Blanks layout s) refused_card (with_values series a b s)) (refused_card (refusal 6))
-        ≡ cond t (on_verdict (walk Fill.Zeros layout s) refused_card (with_values series a b s)) (refused_card (refusal 6))
+        → (if not t then Err Refusal.Length else ◌>>=◌ {B = Reading} (walk Fill.Blanks layout s) (λ _. with_values series a b s))
+        ≡ (if not t then Err Refusal.Length else ◌>>=◌ {B = Reading} (walk Fill.Zeros layout s) (λ _. with_values series a b s))
     past a b true t = rw (layout-same s (eqb-true (length s) 98 t) e)
     past a b false t = refl
 
-    go : (x : SpacingAnswer) → read_in Fill.Blanks series x s ≡ read_in Fill.Zeros series x s
-    go (SpacingAnswer.Constants a b) = ap (cond (is_polar series.zone) (refused_card (refusal 3))) (past a b (eqb (length s) 98) refl)
-    go (SpacingAnswer.Refused r) = refl
+    go : (x : Result Spacing Refusal) → ◌>>=◌ {B = Reading} x (λ y. read_in Fill.Blanks series y s) ≡ x >>= (λ y. read_in Fill.Zeros series y s)
+    go (Ok x) = ap (λ y. if is_polar series.zone then Err Refusal.Polar else y) (past x.a x.b (eqb (length s) 98) refl)
+    go (Err r) = refl
 
 -- ---- the total is told where a card is accepted, and only there
 
 data Told (s : List ℕ) : Result Reading Refusal → Type 0 where
-  refuses : (r : Refusal) → Told s (refused_card r)
+  refuses : (r : Refusal) → Told s (Err r)
   accepts : (k : Fields) → Told s (accepted_card k (total_blanks layout s))
 
 module _ {s : List ℕ} {x : Result Reading Refusal} (o : Told s x) (r : Refusal) where
-  unless : (t : Bool) → Told s (cond t (refused_card r) x)
+  unless : (t : Bool) → Told s (if t then Err r else x)
   unless true = refuses r
   unless false = o
 
-  where-right : (t : Bool) → Told s (cond t x (refused_card r))
+  where-right : (t : Bool) → Told s (if not t then Err r else x)
   where-right true = o
   where-right false = refuses r
 
 module _ (fill : Fill) (series : Series) (s : List ℕ) where
   told-origin : (a b : ℕ) (n m : Option ℤ) → Told s (with_origin series a b s n m)
   unfolding card_of
-  told-origin a b (some n) (some m) = where-right (accepts (card_of series a b n m s)) (refusal 11) (extents_in a b n s)
-  told-origin a b (some n) none = refuses (refusal 10)
-  told-origin a b none m = refuses (refusal 10)
+  told-origin a b (some n) (some m) = where-right (accepts (card_of series a b n m s)) Refusal.Extent (extents_in a b n s)
+  told-origin a b (some n) none = refuses Refusal.Origin
+  told-origin a b none m = refuses Refusal.Origin
 
-  told-walk : (a b : ℕ) (v : Verdict) → Told s (on_verdict v refused_card (with_values series a b s))
+  told-walk : (a b : ℕ) (v : Judged) → Told s (v >>= (λ _. with_values series a b s))
   unfolding with_values
-  told-walk a b (Verdict.Refused r) = refuses r
-  told-walk a b Verdict.Accepted =
-      where-right (told-origin a b (row_tile b s) (column_tile a s)) (refusal 9) (eqb (number_in ARV s) a && eqb (number_in BRV s) b)
+  told-walk a b (Err r) = refuses r
+  told-walk a b (Ok u) =
+      where-right (told-origin a b (row_tile b s) (column_tile a s)) Refusal.Spacing (eqb (number_in ARV s) a && eqb (number_in BRV s) b)
 
-  told_in : (x : SpacingAnswer) → Told s (read_in fill series x s)
+  told_in : (x : Result Spacing Refusal) → Told s (x >>= (λ y. read_in fill series y s))
   unfolding read_in
-  told_in (SpacingAnswer.Refused r) = refuses r
-  told_in (SpacingAnswer.Constants a b) =
-      unless (where-right (told-walk a b (walk fill layout s)) (refusal 6) (eqb (length s) 98)) (refusal 3) (is_polar series.zone)
+  told_in (Err r) = refuses r
+  told_in (Ok x) =
+      unless (where-right (told-walk x.a x.b (walk fill layout s)) Refusal.Length (eqb (length s) 98)) Refusal.Polar (is_polar series.zone)
 
   told : Told s (read_as fill series s)
   told = told_in (spacing_of series)

@@ -3,12 +3,13 @@
 --     Subfield, sub at width kind    a subfield: its offset, its width, what may stand in it
 --     STR .. TIF             the subfields, by the standard's tags
 --     layout                 all of them, left to right
+--     Judged                 accepted, or refused
 --     number_laid fill s     whether s is laid out as a number, with zeros (01) or with blanks too (02, E2) before its digits
 --     judge_field fill f s   7 before 8 in each, the subfield's offset as place
 --     walk fill layout s     the first refusal, left to right
-use Rattle.std.specs.Prelude.{ℕ, List, [], ◌∷◌, Bool, true, cond, ◌&&◌, leb, get_or}
-use Rattle.arc.specs.declared.Verdict.{Verdict}
-use Rattle.arc.specs.Refusals.{refusal_at, on_verdict}
+use Rattle.std.specs.Prelude.{ℕ, List, [], ◌∷◌, Bool, true, if◌then◌else◌, not, ◌&&◌, leb, get_or, Result, Ok, Err}
+use Rattle.whole.specs.Results.{◌>>=◌}
+use Rattle.arc.specs.declared.refusal.Refusal.{Refusal}
 use Rattle.text.specs.Text.{part, is_digit, all, number, filled, angle_laid, angle_valid, name_laid, is_flag}
 use Rattle.card_text.specs.declared.Fill.{Fill}
 
@@ -125,17 +126,23 @@ right_value (Angle d limit) s = angle_valid d limit s
 right_value Name s = true
 right_value Flag s = is_flag (get_or s 0 0)
 
-abbrev pub judge : Bool → Bool → ℕ → Verdict
-judge kind value place =
-    cond kind (cond value Verdict.Accepted (Verdict.Refused (refusal_at 8 place))) (Verdict.Refused (refusal_at 7 place))
+-- accepted, or refused
+abbrev pub Judged : Type 0
+Judged = Result (Unit {0}) Refusal
 
-unfoldable pub judge_field : Fill → Subfield → List ℕ → Verdict
+abbrev pub judge : Bool → Bool → ℕ → Judged
+judge kind value place =
+    if not kind then Err (Refusal.Kind place)
+    else (if not value then Err (Refusal.Value place)
+    else Ok tt)
+
+unfoldable pub judge_field : Fill → Subfield → List ℕ → Judged
 judge_field fill f s = judge (right_kind fill f.kind (bytes_of f s)) (right_value f.kind (bytes_of f s)) f.at
 
 -- the first of two that refuses
-abbrev pub or_else : Verdict → Verdict → Verdict
-or_else v w = on_verdict v Verdict.Refused w
+abbrev pub or_else : Judged → Judged → Judged
+or_else v w = v >>= (λ _. w)
 
-abbrev pub walk : Fill → List Subfield → List ℕ → Verdict
-walk fill [] s = Verdict.Accepted
+abbrev pub walk : Fill → List Subfield → List ℕ → Judged
+walk fill [] s = Ok tt
 walk fill (f ∷ fs) s = or_else (judge_field fill f s) (walk fill fs s)

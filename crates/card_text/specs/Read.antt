@@ -6,19 +6,18 @@
 --     read_of series s        what reading answers: blanks may stand before a number's digits, and the total of them is told (02, E2)
 --     read_strict series s    what reading answers where none may: 01 as it stands
 --     Accepted, Known         some bytes are read to this card
---     on_card x f g           a question on a card as it was read: reading's refusal first, then the question's own answer
 --     blanks_told x           the total of blanks that reading met, 0 where it refuses
---     told_on_card t x f g    what is told of it: its report and the total of blanks (02, E2)
-use Rattle.std.specs.Prelude.{◌≡◌, ℕ, ◌+◌, ◌*◌, ◌/◌, List, Bool, false, cond, ◌&&◌, eqb, length, get_or, ℤ, pos, negsuc, neg_ℤ, Result, Ok, Err}
+--     told_on_card t x g      what is told of the question g on a card as it was read: its report and the total of blanks (02, E2)
+use Rattle.std.specs.Prelude.{◌≡◌, ℕ, ◌+◌, ◌*◌, ◌/◌, List, Bool, false, if◌then◌else◌, not, ◌&&◌, eqb, length, get_or, ℤ, pos, negsuc, neg_ℤ, Result, Ok, Err}
 use Rattle.std.proofs.Math.Option.{Option, some, none}
 use Rattle.std.proofs.Math.IntN.{suc_ℤ}
 use Rattle.whole.specs.Whole.{raise}
 use Rattle.whole.specs.Lists.{first_from}
-use Rattle.arc.specs.declared.Series.{Series}
-use Rattle.arc.specs.declared.Refusal.{Refusal}
-use Rattle.arc.specs.declared.Verdict.{Verdict}
-use Rattle.arc.specs.declared.SpacingAnswer.{SpacingAnswer}
-use Rattle.arc.specs.Refusals.{Report, refusal, on_verdict}
+use Rattle.arc.specs.declared.series.Series.{Series}
+use Rattle.arc.specs.declared.refusal.Refusal.{Refusal}
+use Rattle.arc.specs.declared.series.Spacing.{Spacing}
+use Rattle.whole.specs.Results.{◌>>=◌}
+use Rattle.arc.specs.Refusals.{Report}
 use Rattle.arc.specs.Zones.{is_polar}
 use Rattle.arc.specs.Spacing.{spacing_of}
 use Rattle.origin.specs.Origin.{stored_angle}
@@ -68,37 +67,36 @@ card_of series a b n m s =
 abbrev pub accepted_card : Fields → ℕ → Result Reading Refusal
 accepted_card k total = Ok (record { fields = k; blanks = total })
 
-abbrev pub refused_card : Refusal → Result Reading Refusal
-refused_card r = Err r
-
 -- 11
 abbrev pub with_extents : Fields → ℕ → Result Reading Refusal
 with_extents k total =
-    cond (extents_hold k.a k.b k.n k.nul k.nus k.nll k.nls k.nfl k.nfc) (accepted_card k total) (refused_card (refusal 11))
+    if not (extents_hold k.a k.b k.n k.nul k.nus k.nll k.nls k.nfl k.nfc) then Err Refusal.Extent
+    else accepted_card k total
 
 -- 10, 11
 abbrev pub with_origin : Series → ℕ → ℕ → List ℕ → Option ℤ → Option ℤ → Result Reading Refusal
 with_origin series a b s (some n) (some m) = with_extents (card_of series a b n m s) (total_blanks layout s)
-with_origin series a b s (some n) none = refused_card (refusal 10)
-with_origin series a b s none m = refused_card (refusal 10)
+with_origin series a b s (some n) none = Err Refusal.Origin
+with_origin series a b s none m = Err Refusal.Origin
 
 -- 9, 10, 11
 unfoldable pub with_values : Series → ℕ → ℕ → List ℕ → Result Reading Refusal
 with_values series a b s =
-    cond (eqb (number_in ARV s) a && eqb (number_in BRV s) b)
-    (with_origin series a b s (tile_storing b (b / 512) (angle_of 2 (bytes_of PSO s))) (tile_storing a (a / 256) (angle_of 3 (bytes_of LSO s))))
-    (refused_card (refusal 9))
+    if not (eqb (number_in ARV s) a && eqb (number_in BRV s) b) then Err Refusal.Spacing
+    else with_origin series a b s (tile_storing b (b / 512) (angle_of 2 (bytes_of PSO s))) (tile_storing a (a / 256) (angle_of 3 (bytes_of LSO s)))
 
 -- 3, 6, then 7, 8, then these
-unfoldable pub read_in : Fill → Series → SpacingAnswer → List ℕ → Result Reading Refusal
-read_in fill series (SpacingAnswer.Constants a b) s =
-    cond (is_polar series.zone) (refused_card (refusal 3))
-    (cond (eqb (length s) 98) (on_verdict (walk fill layout s) refused_card (with_values series a b s)) (refused_card (refusal 6)))
-read_in fill series (SpacingAnswer.Refused r) s = refused_card r
+unfoldable pub read_in : Fill → Series → Spacing → List ℕ → Result Reading Refusal
+read_in fill series x s =
+    if is_polar series.zone then Err Refusal.Polar
+    else (if not (eqb (length s) 98) then Err Refusal.Length
+    else walk fill layout s >>= (λ _. with_values series x.a x.b s))
 
 -- 1, 17, 1, 2, then these
 abbrev pub read_as : Fill → Series → List ℕ → Result Reading Refusal
-read_as fill series s = read_in fill series (spacing_of series) s
+read_as fill series s = do
+  x ← spacing_of series
+  read_in fill series x s
 
 abbrev pub read_of : Series → List ℕ → Result Reading Refusal
 read_of series s = read_as Fill.Blanks series s
@@ -117,14 +115,10 @@ pub record Known (k : Fields) : Type 0 where
   pub series : Series
   pub is_read : Accepted series k
 
-abbrev pub on_card : {A : Type 0} → Result Reading Refusal → (Refusal → A) → (Fields → A) → A
-on_card (Ok x) f g = g x.fields
-on_card (Err r) f g = f r
-
 -- 0 in a refusal
 abbrev pub blanks_told : Result Reading Refusal → ℕ
 blanks_told (Ok x) = x.blanks
 blanks_told (Err r) = 0
 
-abbrev pub told_on_card : {A : Type 0} → (A → Report) → Result Reading Refusal → (Refusal → A) → (Fields → A) → Report
-told_on_card report x f g = with_total (blanks_told x) (report (on_card x f g))
+abbrev pub told_on_card : {A : Type 0} → (Result A Refusal → Report) → Result Reading Refusal → (Fields → Result A Refusal) → Report
+told_on_card {A} report x g = with_total (blanks_told x) (report (x >>= (λ y. g y.fields)))

@@ -10,11 +10,10 @@
 --     TextReadBack       at every scale that is read, a card's text is read back to its record
 --     ReadIsText         at every scale that is read, what was read is the text of its record exactly where no blanks were met
 --     TextIsRead         at every scale that is read, the text of what was read is read to the same card, with no blanks
-use Rattle.std.specs.Prelude.{◌≡◌, false, List, ◌↔◌, ℕ, ◌≤◌, ◌<◌, length, take}
-use Rattle.arc.specs.declared.Series.{Series}
-use Rattle.arc.specs.declared.Verdict.{Verdict}
-use Rattle.arc.specs.declared.SpacingAnswer.{SpacingAnswer}
-use Rattle.arc.specs.Refusals.{refusal}
+use Rattle.std.specs.Prelude.{◌≡◌, false, List, ◌↔◌, ℕ, ◌≤◌, ◌<◌, length, take, Ok, Err}
+use Rattle.arc.specs.declared.series.Series.{Series}
+use Rattle.arc.specs.declared.series.Spacing.{Spacing}
+use Rattle.arc.specs.declared.refusal.Refusal.{Refusal}
 use Rattle.arc.specs.Zones.{is_polar}
 use Rattle.arc.specs.Spacing.{spacing_of}
 use Rattle.card_text.specs.declared.Fields.{Fields}
@@ -47,12 +46,12 @@ pub record ReadBack (series : Series) (r : Record) (s : List ℕ) : Type 0 where
 -- BAD has twelve bytes, as the record's array holds it
 abbrev pub ReadsBack : Type 0
 ReadsBack =
-    (series : Series) (r : Record) (out : List ℕ) → length r.bad ≡ 12 → write_of series r out ≡ Verdict.Accepted
+    (series : Series) (r : Record) (out : List ℕ) → length r.bad ≡ 12 → write_of series r out ≡ Ok tt
     → ReadBack series r (take 98 (out_of series r out))
 
 -- written into any output of 98 bytes or more, the total of blanks being 0 or not (02, E2)
 pub record WrittenBack (series : Series) (k : Fields) (total : ℕ) (s out : List ℕ) : Type 0 where
-  pub written : write_of series (record_of k) out ≡ Verdict.Accepted
+  pub written : write_of series (record_of k) out ≡ Ok tt
   pub same : take 98 (out_of series (record_of k) out) ≡ s ↔ total ≡ 0
   pub again : read_of series (take 98 (out_of series (record_of k) out)) ≡ accepted_card k 0
 
@@ -65,11 +64,11 @@ WritesBack =
 -- ---- the scales that are written (02, E13)
 
 abbrev pub WrittenScale : Type 0
-WrittenScale = (series : Series) (r : Record) (out : List ℕ) → write_of series r out ≡ Verdict.Accepted → 10000 ≤ series.scale
+WrittenScale = (series : Series) (r : Record) (out : List ℕ) → write_of series r out ≡ Ok tt → 10000 ≤ series.scale
 
 -- writing is refused with 24, and the output stays
 pub record NotWritten (series : Series) (r : Record) (out : List ℕ) : Type 0 where
-  pub refused : write_of series r out ≡ Verdict.Refused (refusal 24)
+  pub refused : write_of series r out ≡ Err Refusal.TownScale
   pub left : out_of series r out ≡ out
 
 -- any record, factor, zone and output
@@ -86,8 +85,8 @@ HeldNotWritten =
 
 abbrev pub TextReadBack : Type 0
 TextReadBack =
-    (series : Series) (a b : ℕ) (r : Record) → length r.bad ≡ 12 → spacing_of series ≡ SpacingAnswer.Constants a b → is_polar series.zone ≡ false
-    → first (record_tests a b r) ≡ Verdict.Accepted → ReadBack series r (card_text a b r)
+    (series : Series) (a b : ℕ) (r : Record) → length r.bad ≡ 12 → spacing_of series ≡ Ok (record { a = a; b = b }) → is_polar series.zone ≡ false
+    → first (record_tests a b r) ≡ Ok tt → ReadBack series r (card_text a b r)
 
 abbrev pub ReadIsText : Type 0
 ReadIsText =

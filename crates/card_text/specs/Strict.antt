@@ -7,8 +7,8 @@
 --     RefusedNone        in a refusal the total is 0
 --     AtMost37           the total is at most 37
 use Rattle.std.specs.Prelude.{◌≡◌, List, ℕ, ◌≤◌, length, drop, Err}
-use Rattle.arc.specs.declared.Series.{Series}
-use Rattle.arc.specs.declared.Refusal.{Refusal}
+use Rattle.arc.specs.declared.series.Series.{Series}
+use Rattle.arc.specs.declared.refusal.Refusal.{Refusal}
 use Rattle.text.specs.Text.{number, blanks}
 use Rattle.card_text.specs.declared.Fields.{Fields}
 use Rattle.card_text.specs.declared.Fill.{Fill}

@@ -4,18 +4,18 @@
 --     card_text a b r        the 98 bytes
 --     write_of series r out  what writing answers
 --     out_of series r out    what the output then holds
-use Rattle.std.specs.Prelude.{ℕ, List, [], ◌∷◌, ◌++◌, Bool, cond, ◌&&◌, leb, length, ℤ}
+use Rattle.std.specs.Prelude.{ℕ, List, [], ◌∷◌, ◌++◌, Bool, cond, if◌then◌else◌, not, ◌&&◌, leb, length, ℤ, Result, Ok, Err}
+use Rattle.whole.specs.Results.{◌>>=◌}
 use Rattle.whole.specs.Lists.{over}
 use Rattle.text.specs.Text.{name_laid, digits, angle_text}
-use Rattle.arc.specs.declared.Series.{Series}
-use Rattle.arc.specs.declared.Verdict.{Verdict}
-use Rattle.arc.specs.declared.SpacingAnswer.{SpacingAnswer}
-use Rattle.arc.specs.Refusals.{refusal, refusal_at}
+use Rattle.arc.specs.declared.series.Series.{Series}
+use Rattle.arc.specs.declared.series.Spacing.{Spacing}
+use Rattle.arc.specs.declared.refusal.Refusal.{Refusal}
 use Rattle.arc.specs.Zones.{is_polar}
 use Rattle.arc.specs.TownScales.{spacing_for_writing}
 use Rattle.origin.specs.Origin.{stored_angle, on_grid}
 use Rattle.card_text.specs.declared.Record.{Record}
-use Rattle.card_text.specs.Layout.{Subfield, NFL, NFC, BAD, layout, or_else}
+use Rattle.card_text.specs.Layout.{Subfield, NFL, NFC, BAD, Judged, layout, or_else}
 use Rattle.card_text.specs.Extents.{extents_hold}
 
 pub data Value : Type 0 where
@@ -47,43 +47,45 @@ values_of a b r =
 unfoldable pub card_text : ℕ → ℕ → Record → List ℕ
 card_text a b r = written layout (values_of a b r)
 
-abbrev pub test : Bool → ℕ → ℕ → Verdict
-test ok number place = cond ok Verdict.Accepted (Verdict.Refused (refusal_at number place))
+abbrev pub test : Bool → Refusal → Judged
+test ok e = if not ok then Err e else Ok tt
 
 -- the first of several that refuses
-abbrev pub first : List Verdict → Verdict
-first [] = Verdict.Accepted
+abbrev pub first : List (Judged) → Judged
+first [] = Ok tt
 first (v ∷ vs) = or_else v (first vs)
 
 -- NFL, NFC (8), BAD (7), 10, 11
-unfoldable pub record_tests : ℕ → ℕ → Record → List Verdict
+unfoldable pub record_tests : ℕ → ℕ → Record → List (Judged)
 record_tests a b r =
-    test (leb 1 r.nfl && leb r.nfl 999) 8 NFL.at ∷
-    test (leb 1 r.nfc && leb r.nfc 999) 8 NFC.at ∷
-    test (name_laid r.bad) 7 BAD.at ∷
-    test (on_grid a b r.n r.m) 10 0 ∷
-    test (extents_hold a b r.n r.nul r.nus r.nll r.nls r.nfl r.nfc) 11 0 ∷
+    test (leb 1 r.nfl && leb r.nfl 999) (Refusal.Value NFL.at) ∷
+    test (leb 1 r.nfc && leb r.nfc 999) (Refusal.Value NFC.at) ∷
+    test (name_laid r.bad) (Refusal.Kind BAD.at) ∷
+    test (on_grid a b r.n r.m) Refusal.Origin ∷
+    test (extents_hold a b r.n r.nul r.nus r.nll r.nls r.nfl r.nfc) Refusal.Extent ∷
     []
 
 -- 3, 6, then these, the output having n bytes
-abbrev pub write_in : ℕ → SpacingAnswer → Record → ℕ → Verdict
-write_in zone (SpacingAnswer.Constants a b) r n =
-    cond (is_polar zone) (Verdict.Refused (refusal 3))
-    (cond (leb 98 n) (first (record_tests a b r)) (Verdict.Refused (refusal 6)))
-write_in zone (SpacingAnswer.Refused e) r n = Verdict.Refused e
+abbrev pub write_in : ℕ → Spacing → Record → ℕ → Judged
+write_in zone x r n =
+    if is_polar zone then Err Refusal.Polar
+    else (if not (leb 98 n) then Err Refusal.Length
+    else first (record_tests x.a x.b r))
 
 -- 1, 24, 17, 1, 2, then these (02, E13, E4)
-unfoldable pub write_of : Series → Record → List ℕ → Verdict
-write_of series r out = write_in series.zone (spacing_for_writing series) r (length out)
+unfoldable pub write_of : Series → Record → List ℕ → Judged
+write_of series r out = do
+  x ← spacing_for_writing series
+  write_in series.zone x r (length out)
 
-abbrev pub text_for : SpacingAnswer → Record → List ℕ
-text_for (SpacingAnswer.Constants a b) r = card_text a b r
-text_for (SpacingAnswer.Refused e) r = []
+abbrev pub text_for : Result Spacing Refusal → Record → List ℕ
+text_for (Ok x) r = card_text x.a x.b r
+text_for (Err e) r = []
 
 -- everything unchanged on a refusal
-abbrev pub out_after : Verdict → List ℕ → List ℕ → List ℕ
-out_after Verdict.Accepted card out = over card out
-out_after (Verdict.Refused e) card out = out
+abbrev pub out_after : Judged → List ℕ → List ℕ → List ℕ
+out_after (Ok done) card out = over card out
+out_after (Err e) card out = out
 
 unfoldable pub out_of : Series → Record → List ℕ → List ℕ
 out_of series r out = out_after (write_of series r out) (text_for (spacing_for_writing series) r) out

@@ -10,9 +10,8 @@ use lib.Dec.{eqb}
 use lib.IntN.{ℤ, nat_abs}
 use lib.ListN.{length, get_or}
 use Rattle.whole.specs.Whole.{outside}
-use Rattle.arc.specs.declared.Series.{Series}
-use Rattle.arc.specs.declared.Verdict.{Verdict}
-use Rattle.arc.specs.declared.SpacingAnswer.{SpacingAnswer}
+use Rattle.arc.specs.declared.series.Series.{Series}
+use Rattle.arc.specs.declared.series.Spacing.{Spacing}
 use Rattle.arc.specs.Zones.{half, quarter, is_polar}
 use Rattle.arc.specs.Spacing.{spacing_of, Grids}
 use Rattle.arc.proofs.Answered.{answered-grids}

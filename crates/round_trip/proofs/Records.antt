@@ -10,9 +10,8 @@ use lib.ListN.{length, take, drop}
 use lib.Seq.{take_at}
 use borrow.Author.Tests.{leb-true, le-leb, not-true}
 use Rattle.whole.specs.Whole.{outside, raise}
-use Rattle.arc.specs.declared.Series.{Series}
-use Rattle.arc.specs.declared.Verdict.{Verdict}
-use Rattle.arc.specs.declared.SpacingAnswer.{SpacingAnswer}
+use Rattle.arc.specs.declared.series.Series.{Series}
+use Rattle.arc.specs.declared.series.Spacing.{Spacing}
 use Rattle.arc.specs.Refusals.{refusal}
 use Rattle.arc.specs.Zones.{is_polar}
 use Rattle.arc.specs.TownScales.{spacing_for_writing}

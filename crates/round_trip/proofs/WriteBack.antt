@@ -8,9 +8,8 @@ use native.Mathlib.Omega.{arith}
 use lib.Dec.{leb, eqb}
 use lib.ListN.{length, get_or, take}
 use borrow.Author.Tests.{eqb-true}
-use Rattle.arc.specs.declared.Series.{Series}
+use Rattle.arc.specs.declared.series.Series.{Series}
 use Rattle.arc.specs.Zones.{half, quarter}
-use Rattle.arc.specs.declared.Verdict.{Verdict}
 use Rattle.arc.specs.Spacing.{Grids}
 use Rattle.arc.proofs.Answered.{answered-grids}
 use Rattle.arc.proofs.TownScales.{written_from}

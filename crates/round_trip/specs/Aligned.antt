@@ -4,9 +4,8 @@
 --     Carried ..         it is written, and read back to the same n and m; LSO and PSO are the texts of o's angles
 --     AlignedBack        the claim
 use Rattle.std.specs.Prelude.{◌≡◌, List, true, ℕ, ◌≤◌, ℤ, length, take}
-use Rattle.arc.specs.declared.Series.{Series}
-use Rattle.arc.specs.declared.Verdict.{Verdict}
-use Rattle.arc.specs.declared.SpacingAnswer.{SpacingAnswer}
+use Rattle.arc.specs.declared.series.Series.{Series}
+use Rattle.arc.specs.declared.series.Spacing.{Spacing}
 use Rattle.arc.specs.Spacing.{spacing_of}
 use Rattle.origin.specs.declared.Origin.{Origin}
 use Rattle.origin.specs.declared.OriginAnswer.{OriginAnswer}

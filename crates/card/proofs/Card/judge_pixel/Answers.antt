@@ -1,6 +1,5 @@
 -- The two tests decide as `verdict_of` does: a pixel of the chart is one of the tiles. Assumes nothing.
 use Rattle.std.proofs.Common.{◌≡◌, Bool, ap, sym, ◌∙◌}
-use Rattle.arc.specs.declared.Verdict.{Verdict}
 use Rattle.card_text.proofs.Laid.{known-laid}
 use Rattle.card.proofs.Regions.{chart-tiles}
 use Rattle.card.proofs.Card.judge_pixel.Goals as goal

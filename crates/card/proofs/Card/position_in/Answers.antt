@@ -1,7 +1,6 @@
 -- The verdict decides as `position_of` does; an accepted pixel is one of naturals, and its angles are those of its axes. Assumes nothing.
 use Rattle.std.proofs.Common.{◌≡◌, ap, ap₂, sym, ◌∙◌}
 use Rattle.whole.proofs.Machine.{result-is}
-use Rattle.arc.specs.declared.Verdict.{Verdict}
 use Rattle.card.specs.declared.PositionAnswer.{PositionAnswer}
 use Rattle.card.specs.Grid.{latitude_of, longitude_of, position_of}
 use Rattle.card.proofs.Regions.{tiles-inside}
