@@ -1,18 +1,16 @@
 // Origins as a card stores them, counted in tiles from the low end of their axis.
 ghost use Rattle.std.specs.Prelude.{◌≡◌, ◌+◌, ◌*◌, ◌≤◌, pos, ◌-ℤ◌, leb, ltb, ◌&&◌};
 ghost use Rattle.whole.specs.Whole.{near};
-ghost use Rattle.arc.specs.Pixels.{Grid};
 ghost use Rattle.card_text.specs.StepsRead.{found_at};
 
 use arc::{Pixels, Tile};
 
 /// The angle stored for a count of tiles, the axis' low end being at −limit.
 pub fn angle_at(tiles: u64, pixels: Pixels, limit: u32) -> i64
-    requires on_grid { Grid pixels }
-    requires in_circle { 128 * tiles ≤ pixels }
+    requires { 128 * tiles ≤ pixels }
     ensures { result ≡ pos (near (tiles * 16588800000) pixels) -ℤ pos limit }
 {
-    whole::difference(origin::stored_at(tiles, pixels) as u32, limit)
+    whole::difference(origin::stored_at(tiles, pixels.count()) as u32, limit)
 }
 
 /// Whether an angle is the nearest hundredth to a tile's, all three times the spacing.

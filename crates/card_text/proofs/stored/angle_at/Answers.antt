@@ -5,9 +5,14 @@ use Rattle.card_text.proofs.Axes.{stored-near, stored-few}
 use Rattle.card_text.proofs.stored.angle_at.Goals as goal
 
 pub overflow_cast-stored_at : goal.overflow_cast-stored_at
-overflow_cast-stored_at c = omega (arith, stored-few c.requires.on_grid c.args.tiles c.requires.in_circle c.stored_at.ensures)
+overflow_cast-stored_at c =
+    let n = c.count.ensures in
+    let e = rw n.value at c.stored_at.ensures in
+    omega (arith, stored-few (rw n.value at n.on_grid) c.args.tiles c.requires e)
 
 pub returns : goal.returns
 returns c =
+    let n = c.count.ensures in
+    let e = rw n.value at c.stored_at.ensures in
     result-is c.difference.type_inv
-    (c.difference.ensures ∙ ap (λ (n : ℕ). pos n -ℤ pos c.args.limit) (stored-near c.requires.on_grid c.args.tiles c.requires.in_circle c.stored_at.ensures))
+    (c.difference.ensures ∙ ap (λ (n : ℕ). pos n -ℤ pos c.args.limit) (stored-near (rw n.value at n.on_grid) c.args.tiles c.requires e))
