@@ -1,6 +1,6 @@
 -- S × 1 is S, and every question reads its scale from there. Assumes nothing.
 use Rattle.arc.proofs.ScaleLaws.{scale-at-one}
-use Rattle.card.specs.Write.{write_of, out_of}
+use Rattle.card_text.specs.Write.{write_of, out_of}
 use Rattle.fordcask.specs.FactorOne.{FactorOne}
 
 pub factor-one : FactorOne

@@ -1,4 +1,6 @@
+pub mod Plain
 pub mod Entry
-pub mod Bits
+pub mod Tiles
+pub mod InStore
 pub mod Steps
 pub mod FactorOne
