@@ -1,4 +1,4 @@
--- Which scales are written: what was written has a scale from 10,000 up, and at a town scale writing is refused with 24, also of what was read.
+-- Which scales are written: what was written has a scale from 10,000 up, and at a town scale writing is refused, also of what was read.
 -- Assumes nothing.
 use Rattle.arc.proofs.ScaleLaws.{scale-least}
 use Rattle.arc.proofs.Answered.{answered-from}
@@ -23,3 +23,5 @@ held-not-written series s k blanks out e q =
     let d = read-to Fill.Blanks series s k blanks e in
     let least = scale-least series.scale (answered-from series d.a d.b d.spacing).of.good_scale in
     town-not-written series (record_of k) out least q
+
+pub ruleset claims = (written-scale, town-not-written, held-not-written)
