@@ -9,10 +9,8 @@ use lib.IntN.{ℤ}
 use lib.ListN.{length, take}
 use borrow.Author.Tests.{le-leb}
 use Rattle.std.specs.Prelude.{if◌then◌else◌, Result, Ok, Err}
-use Rattle.whole.specs.Results.{◌>>=◌}
 use Rattle.whole.specs.Whole.{outside}
 use Rattle.arc.specs.declared.series.Series.{Series}
-use Rattle.arc.specs.declared.series.Spacing.{Spacing}
 use Rattle.arc.specs.declared.refusal.Refusal.{Refusal}
 use Rattle.arc.specs.Zones.{half, quarter, is_polar}
 use Rattle.arc.specs.Spacing.{spacing_of, Grids}
@@ -43,11 +41,11 @@ answered zone a b lat lon o e = go (is_polar zone) (outside quarter lat) (outsid
   where
     go : (p q t : Bool) → is_polar zone ≡ p → outside quarter lat ≡ q → outside half lon ≡ t
         → ◌≡◌ {A = Result Origin Refusal}
-            (if p then Err Refusal.Polar
-            else (if q then Err Refusal.Latitude
-            else (if t then Err Refusal.Longitude
-            else Ok (origin_of a b lat lon))))
-            (Ok o)
+        (if p then Err Refusal.Polar
+        else (if q then Err Refusal.Latitude
+        else (if t then Err Refusal.Longitude
+        else Ok (origin_of a b lat lon))))
+        (Ok o)
         → Answered zone a b lat lon o
     go true q t x y z e = let w : ◌≡◌ {A = ℕ} 0 1 = cc in absurd (omega arith)
     go false true t x y z e = let w : ◌≡◌ {A = ℕ} 0 1 = cc in absurd (omega arith)
@@ -103,5 +101,3 @@ pub aligned-back : AlignedBack
 aligned-back series a b lat lon o r out s e f h =
     let l = aligned-scale series lat lon o e in
     carried series a b lat lon o r s l (answered series.zone a b lat lon o (rw (written_from series l ∙ s) at e)) f out h
-
-pub ruleset claims = (aligned-back)

@@ -23,5 +23,3 @@ held-not-written series s k blanks out e q =
     let d = read-to Fill.Blanks series s k blanks e in
     let least = scale-least series.scale (answered-from series d.a d.b d.spacing).of.good_scale in
     town-not-written series (record_of k) out least q
-
-pub ruleset claims = (written-scale, town-not-written, held-not-written)

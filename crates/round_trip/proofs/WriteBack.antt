@@ -10,7 +10,6 @@ use lib.ListN.{length, get_or, take}
 use borrow.Author.Tests.{eqb-true}
 use Rattle.std.specs.Prelude.{Ok}
 use Rattle.arc.specs.declared.series.Series.{Series}
-use Rattle.arc.specs.declared.series.Spacing.{Spacing}
 use Rattle.arc.specs.Zones.{half, quarter}
 use Rattle.arc.specs.Spacing.{Grids}
 use Rattle.arc.proofs.Answered.{answered-grids}
@@ -172,5 +171,3 @@ writes-back series s k n out e g h =
       same = (λ q. t.0 (sym o.1 ∙ q), λ z. o.1 ∙ t.1 z);
       again = rw o.1 (text-is-read series s k n e);
     }
-
-pub ruleset claims = (writes-back, read-is-text, text-is-read)

@@ -11,7 +11,6 @@ pub fn written_cards_are_read_back()
 {}
 
 /// What was read is written back: the same bytes exactly where no blanks were met, and the same card always.
-#[tactic(auto, using(crate::proofs::WriteBack::claims))]
 pub fn read_cards_are_written_back()
     ensures card { WritesBack }
     ensures text { ReadIsText }
@@ -19,7 +18,6 @@ pub fn read_cards_are_written_back()
 {}
 
 /// Cards are written from 1:10,000 up, and refused at a town scale even where they were read.
-#[tactic(auto, using(crate::proofs::Town::claims))]
 pub fn town_scales_are_not_written()
     ensures scale { WrittenScale }
     ensures town { TownNotWritten }
@@ -27,7 +25,6 @@ pub fn town_scales_are_not_written()
 {}
 
 /// Every aligned origin can stand on a card, and is read back from it.
-#[tactic(auto, using(crate::proofs::Aligned::claims))]
 pub fn aligned_origins_are_read_back()
     ensures { AlignedBack }
 {}
