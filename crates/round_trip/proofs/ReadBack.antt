@@ -9,9 +9,9 @@ use native.Mathlib.Omega.{arith}
 use lib.Dec.{eqb}
 use lib.IntN.{ℤ, nat_abs}
 use lib.ListN.{length, get_or}
+use Rattle.std.specs.Prelude.{Ok}
 use Rattle.whole.specs.Whole.{outside}
 use Rattle.arc.specs.declared.series.Series.{Series}
-use Rattle.arc.specs.declared.series.Spacing.{Spacing}
 use Rattle.arc.specs.Zones.{half, quarter, is_polar}
 use Rattle.arc.specs.Spacing.{spacing_of, Grids}
 use Rattle.arc.proofs.Answered.{answered-grids}
@@ -75,7 +75,7 @@ module _ (a b : ℕ) (r : Record) (g : Grids a b) (ok : Good a b r) (twelve : le
   unfolding card_text layout
   all-texts = texts card 0 [] refl refl refl held
 
-  walked : walk Fill.Zeros layout card ≡ Verdict.Accepted
+  walked : walk Fill.Zeros layout card ≡ Ok tt
   walked = walks card held all-texts
 
   text : (i : ℕ) → i < 20 → Text card (get_or layout i STR) (get_or (values_of a b r) i (counted 0))
@@ -134,8 +134,8 @@ module _ (a b : ℕ) (r : Record) (g : Grids a b) (ok : Good a b r) (twelve : le
     unfolding card_of
     extents-back = ap (extents a b) same ∙ ok.in_extents
 
-    -- as 01 reads it, and so with no blanks
-    is_read : spacing_of series ≡ SpacingAnswer.Constants a b → is_polar series.zone ≡ false → read_of series card ≡ accepted_card k 0
+    -- as it is read where no blanks may stand, and so with none
+    is_read : spacing_of series ≡ Ok (record { a = a; b = b }) → is_polar series.zone ≡ false → read_of series card ≡ accepted_card k 0
     unfolding card_of
     is_read e p =
         (strict-accepts series card k (total_blanks layout card)
@@ -159,12 +159,12 @@ module _ (a b : ℕ) (r : Record) (g : Grids a b) (ok : Good a b r) (twelve : le
         }))
         ).1
 
-    pub read_back : spacing_of series ≡ SpacingAnswer.Constants a b → is_polar series.zone ≡ false → ReadBack series r card
+    pub read_back : spacing_of series ≡ Ok (record { a = a; b = b }) → is_polar series.zone ≡ false → ReadBack series r card
     unfolding card_of
     read_back e p = record { fields = k; read = is_read e p; of_series = refl; same = same }
 
     -- the card is the record's
-    pub read-with : spacing_of series ≡ SpacingAnswer.Constants a b → is_polar series.zone ≡ false
+    pub read-with : spacing_of series ≡ Ok (record { a = a; b = b }) → is_polar series.zone ≡ false
         → read_of series card ≡ accepted_card (card_with series a b r) 0
     unfolding card_of
     read-with e p = is_read e p ∙ ap (λ (x : Record). accepted_card (card_with series a b x) 0) same
@@ -180,3 +180,5 @@ reads-back series r out twelve e =
 
 pub text-read-back : TextReadBack
 text-read-back series a b r twelve s p e = read_back a b r (answered-grids series a b s) (good a b r e) twelve series s p
+
+pub ruleset claims = (reads-back, text-read-back)

@@ -10,6 +10,7 @@ use lib.Dec.{eqb}
 use lib.IntN.{ℤ, nat_abs}
 use lib.ListN.{length, get_or, drop, length-append, drop_of_length-le}
 use borrow.Author.Tests.{le-leb, eqb-true}
+use Rattle.std.specs.Prelude.{Ok}
 use Rattle.text.specs.Text.{is_flag, name_laid, part}
 use Rattle.card_text.specs.declared.Fill.{Fill}
 use Rattle.card_text.specs.Layout.{Kind, Subfield, STR, bytes_of, right_kind, right_value, judge_field, walk}
@@ -113,7 +114,7 @@ module _ (s : List ℕ) where
       let q : Text s f v = rw (starts o f fs c, e) (part_at pre t (written fs vs) o f.width l k) in
       next q (texts (o + f.width) (pre ++ t) (goes_on o f fs c) (length-append pre t ∙ rw (l, k)) (e ∙ sym (append_assoc pre t (written fs vs))) a)
 
-  pub walks : {fs : List Subfield} {vs : List Value} → Along Held fs vs → Along (Text s) fs vs → walk Fill.Zeros fs s ≡ Verdict.Accepted
+  pub walks : {fs : List Subfield} {vs : List Value} → Along Held fs vs → Along (Text s) fs vs → walk Fill.Zeros fs s ≡ Ok tt
   unfolding judge_field
   walks done t = refl
   walks (next p a) (next e t) = rw (e, (passes p).right-kind, (passes p).right-value) (walks a t)

@@ -1,4 +1,4 @@
--- Which scales are written: what was written has a scale from 10,000 up, and at a town scale writing is refused with 24, also of what was read.
+-- Which scales are written: what was written has a scale from 10,000 up, and at a town scale writing is refused, also of what was read.
 -- Assumes nothing.
 use Rattle.arc.proofs.ScaleLaws.{scale-least}
 use Rattle.arc.proofs.Answered.{answered-from}

@@ -1,2 +1,4 @@
-// Both round trips of the image card (01, "The image card, 98 bytes"): theorems, no code.
+//! Both round trips of the image card (MIL-A-89007, 3.17.1): laws alone.
 #![tactic(auto)]
+
+pub mod laws;
