@@ -17,9 +17,9 @@ use Rattle.arc.specs.Refusals.{number_of, place_of}
 use Rattle.card_text.specs.declared.Fields.{Fields}
 use Rattle.card_text.specs.declared.Record.{Record}
 use Rattle.card.specs.declared.Reading.{Reading}
-use Rattle.card.specs.declared.grid.Place.{Place}
-use Rattle.card.specs.declared.grid.Position.{Position}
-use Rattle.card.specs.declared.grid.Pixel.{Pixel}
+use Rattle.card.specs.declared.Place.{Place}
+use Rattle.card.specs.declared.Position.{Position}
+use Rattle.card.specs.declared.Pixel.{Pixel}
 use Rattle.card.specs.Overview.{overview_pixel_of}
 use Rattle.fordcask.specs.declared.read.OnCard.{OnCard}
 use Rattle.fordcask.specs.declared.read.OnCards.{OnCards}

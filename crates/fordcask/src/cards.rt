@@ -7,12 +7,12 @@ ghost use Rattle.card.specs.Grid.{place_of, position_of, pixel_of};
 ghost use Rattle.fordcask.specs.Entry.{asked, asked_over, card_block, record_from, refusal_block, place_block, position_block, pixel_block, overview_block};
 
 use crate::parts::{
-    CardParts, OnCards, OverviewOnCards, PixelOnCard, PlaceOnCard, PositionOnCard, RecordParts,
+    CardParts, OverviewOnCards, PixelOnCard, PlaceOnCard, PositionOnCard, RecordParts,
     RefusalParts,
 };
-use crate::read::on_card;
+use crate::read::{OnCards, on_card};
 use arc::{Refusal, Series};
-use card::{Card, Pair, Pixel, Reading};
+use card::{Card, Pair, Pixel};
 use card_text::Record;
 
 /// Reads a card, in which blanks may stand before a number's digits. Refuses 1, 17, 1, 2, 3, 6, the subfields' 7 and 8, 9, 10, 11.

@@ -12,7 +12,6 @@ pub fn blocks_name_parts()
 {}
 
 /// A factor of 1 is a chart: each question answers as by the scale alone.
-#[tactic(auto, using(crate::proofs::FactorOne::factor-one))]
 pub fn factor_one_is_a_chart()
     ensures { FactorOne }
 {}

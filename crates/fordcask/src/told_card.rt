@@ -18,6 +18,7 @@ impl From<Result<Reading, Refusal>> for CardParts {
         match answer {
             Ok(Reading { card, blanks }) => {
                 let k = card.fields();
+                let bad = k.bad;
                 CardParts {
                     number: 0,
                     at: 0,
@@ -31,7 +32,7 @@ impl From<Result<Reading, Refusal>> for CardParts {
                     nls: k.nls,
                     nfl: k.nfl,
                     nfc: k.nfc,
-                    bad: k.bad,
+                    bad,
                     tif: u8::from(k.tif),
                     blanks,
                 }
@@ -61,6 +62,7 @@ impl From<RecordParts> for Record {
     ghost from_gives = { λ parts r. r ≡ record_from parts };
 
     fn from(r: RecordParts) -> Self {
+        let bad = r.bad;
         Record {
             n: r.n,
             m: r.m,
@@ -70,7 +72,7 @@ impl From<RecordParts> for Record {
             nls: r.nls,
             nfl: r.nfl,
             nfc: r.nfc,
-            bad: r.bad,
+            bad,
             tif: r.tif != 0,
         }
     }
