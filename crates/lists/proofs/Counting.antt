@@ -3,8 +3,8 @@ use mathlib.Core.Path.{◌≡◌, ap, ◌∙◌}
 use Prim.Native.Nat.{ℕ, ◌+◌, ◌-◌, ◌*◌, ◌/◌, ◌≤◌, ◌<◌}
 use native.Mathlib.Nat.{mul_comm, mul-le-mul_left, div-mul-le_self, add-mul-div_right}
 use native.Mathlib.Omega.{arith}
-use Rattle.lists.specs.declared.engine.Span.{Span}
-use Rattle.lists.specs.Steps.{scale_up, fine, span_of}
+use Rattle.lists.specs.declared.axis.Span.{Span}
+use Rattle.lists.specs.Axes.{scale_up, fine, span_of}
 use Rattle.lists.proofs.Fixed.{fixed}
 
 module _ (u first rest low n : ℕ) (some : 0 < u) (few : u ≤ 156400) (begun : rest < 253125) (pixels : 1 ≤ n) (most : low + n ≤ 127872)

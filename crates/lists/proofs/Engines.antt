@@ -15,9 +15,10 @@ use Rattle.card.specs.Steps.{inward}
 use Rattle.card.proofs.Laid.{Laid, known-laid}
 use Rattle.card.proofs.Pairs.{inward-high}
 use Rattle.card.proofs.Axes.{north-high, down-high, east-high}
-use Rattle.lists.specs.declared.engine.Axis.{Axis}
-use Rattle.lists.specs.declared.engine.Engine.{Engine}
-use Rattle.lists.specs.Steps.{scale_up, coarse, start_of, shift_of, row_axis, column_axis, down_span, across_span, engine_of, Made}
+use Rattle.lists.specs.declared.axis.Axis.{Axis}
+use Rattle.lists.specs.declared.engine.Engine.TheInside.{Inside}
+use Rattle.lists.specs.Axes.{scale_up, coarse, start_of, shift_of, row_axis, column_axis, down_span, across_span}
+use Rattle.lists.specs.Steps.{engine_of, Made}
 use Rattle.lists.proofs.Fixed.{scale-high, fixed}
 use Rattle.lists.proofs.Units.{angle-unit, quotient-under, quotient-down}
 
@@ -29,6 +30,9 @@ shift_is Pair.Centre = omega arith
 pub shift-high : (p : Pair) → shift_of p ≤ 253125
 shift-high Pair.Corner = omega arith
 shift-high Pair.Centre = omega arith
+
+pub shift_low : (p : Pair) {n : ℕ} → n ≡ inward p → n / 256 ≤ 253125
+shift_low p h = rw h (shift-high p)
 
 -- ---- what a rounding starts from is below one
 pub start-low : (rest d : ℕ) (off : Bool) → rest < d → start_of rest d off < d
@@ -71,22 +75,8 @@ module _ (x : ℕ) (g : Grid x) where
       let s : start * n < R * 68719476736 + n = scale-high coarse n some R in
       lt_of_mul-lt-mul_right n (omega (arith, most))
 
--- ---- what `engine_of` answered
-pub engine-card : (p : Pair) (k : Card) {e : Engine} → e ≡ engine_of p k → e.card ≡ k
-unfolding engine_of
-engine-card p k same = ap (λ (x : Engine). x.card) same
-
-pub engine-pair : (p : Pair) (k : Card) {e : Engine} → e ≡ engine_of p k → e.pair ≡ p
-unfolding engine_of
-engine-pair p k same = ap (λ (x : Engine). x.pair) same
-
-pub engine-made : (p : Pair) (k : Card) {e : Engine} → Known k → e ≡ engine_of p k → Made e
-engine-made p k known same =
-    let card = engine-card p k same in
-    record { known = subst⁻¹ Known card known; same = same ∙ ap₂ engine_of (sym (engine-pair p k same)) (sym card) }
-
 -- ---- an engine's answers
-module _ (e : Engine) (made : Made e) where
+module _ (e : Inside) (made : Made e) where
   abbrev k : Card
   k = e.card
 
@@ -98,19 +88,19 @@ module _ (e : Engine) (made : Made e) where
 
   rows_are : e.rows ≡ row_axis e.pair k
   unfolding engine_of
-  rows_are = ap (λ (x : Engine). x.rows) made.same
+  rows_are = ap (λ (x : Inside). x.rows) made.same
 
   columns-are : e.columns ≡ column_axis e.pair k
   unfolding engine_of
-  columns-are = ap (λ (x : Engine). x.columns) made.same
+  columns-are = ap (λ (x : Inside). x.columns) made.same
 
   pub down_is : e.down ≡ down_span e.pair e.card
   unfolding engine_of
-  down_is = ap (λ (x : Engine). x.down) made.same
+  down_is = ap (λ (x : Inside). x.down) made.same
 
   pub across-is : e.across ≡ across_span e.pair e.card
   unfolding engine_of
-  across-is = ap (λ (x : Engine). x.across) made.same
+  across-is = ap (λ (x : Inside). x.across) made.same
 
   -- ---- the latitude of a row, from the South Pole
   module _ (r : ℕ) (h : r < 128 * e.card.nfl) where

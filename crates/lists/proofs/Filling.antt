@@ -11,9 +11,6 @@ use lib.Dec.{leb, eqb}
 use lib.ListN.{length, set, drop, length-append, length-drop}
 use lib.Seq.{drop-cons, append_snoc, set-append_seam}
 use lib.IntN.{ℤ, pos}
-use mir.Syntax.{w64}
-use mir.Val.{SFits, to_z, of_z}
-use mir.ValLaws.{to_z-of_z}
 use Rattle.arc.specs.Refusals.{Report}
 use Rattle.card.specs.declared.Card.{Card}
 use Rattle.card.specs.declared.Pair.{Pair}
@@ -42,8 +39,8 @@ module _ {A : Type 0} where
       ∙ ap (λ (n : ℕ). (xs ++ a ∷ []) ++ drop n out) (sym l)
 
 -- ---- the lengths fit
-pub lists-fit : (p o n : ℕ) → lists_fit p o n ≡ true → (p ≤ o) × (entries p ≤ n)
-lists-fit p o n e =
+pub room : (p o n : ℕ) → lists_fit p o n ≡ true → (p ≤ o) × (entries p ≤ n)
+room p o n e =
     let t = (and-eq-true_iff (eqb (p % 2) 0 && leb p o) (leb (entries p) n)).0 e in
     (leb-true p o ((and-eq-true_iff (eqb (p % 2) 0) (leb p o)).0 t.0).1, leb-true (entries p) n t.1)
 
@@ -55,18 +52,17 @@ module _ (f : ℕ → Report) where
   pub numbers-length : (i : ℕ) → length (report_numbers i f) ≡ i * 1
   numbers-length i = length-each 1 i (λ (j : ℕ). (f j).number ∷ []) (λ j. refl)
 
-  -- its values, as the machine holds them
+  -- its values
   pub values-next : ((i : ℕ) → length (f i).values ≡ 2) → (out : List ℤ) {now : List ℤ} (i : ℕ) → now ≡ over (report_values i f) out → 2 * i + 1 < length out
-      → (x y : ℤ) → SFits w64 x → SFits w64 y → (f i).values ≡ x ∷ y ∷ []
-      → set (set now (2 * i) (to_z w64 (of_z w64 x))) (2 * i + 1) (to_z w64 (of_z w64 y)) ≡ over (report_values (i + 1) f) out
-  values-next two out {now} i t h x y fx fy ev =
+      → (x y : ℤ) → (f i).values ≡ x ∷ y ∷ []
+      → set (set now (2 * i) x) (2 * i + 1) y ≡ over (report_values (i + 1) f) out
+  values-next two out {now} i t h x y ev =
       let vs : List ℤ = report_values i f in
       let first : set (over vs out) (2 * i) x ≡ over (vs ++ x ∷ []) out =
       over-next vs out (2 * i) x (pos 0) (omega (arith, values_length two i)) (omega arith) in
       let second : set (over (vs ++ x ∷ []) out) (2 * i + 1) y ≡ over ((vs ++ x ∷ []) ++ y ∷ []) out =
       over-next (vs ++ x ∷ []) out (2 * i + 1) y (pos 0) (omega (arith, values_length two i, length-append vs (x ∷ []))) (omega arith) in
-      ap₂ (λ (a b : ℤ). set (set now (2 * i) a) (2 * i + 1) b) (to_z-of_z w64 x fx) (to_z-of_z w64 y fy)
-      ∙ ap (λ (s : List ℤ). set (set s (2 * i) x) (2 * i + 1) y) t
+      ap (λ (s : List ℤ). set (set s (2 * i) x) (2 * i + 1) y) t
       ∙ ap (λ (s : List ℤ). set s (2 * i + 1) y) first
       ∙ second
       ∙ ap (λ (s : List ℤ). over s out)

@@ -1,10 +1,12 @@
 -- An engine's spans give the plain rule's pixel in its pair for positions on the chart. Assumes nothing.
-use mathlib.Core.Path.{◌≡◌, refl, sym, ap, ap₂, ◌∙◌}
-use mathlib.Core.Bool.{Bool, true, false, cond}
+use mathlib.Core.Path.{◌≡◌, refl, sym, ap, ap₂, ◌∙◌, subst⁻¹}
+use mathlib.Core.Bool.{Bool, true, false}
 use Prim.Native.Nat.{ℕ, ◌+◌, ◌-◌, ◌*◌, ◌/◌, ◌%◌, ◌≤◌, ◌<◌}
 use native.Mathlib.Nat.{mul-add, mul_comm, mul_left_comm, mul-le-mul_left, mod-lt, mod-eq_of_lt, mod-add-mod}
 use native.Mathlib.Nat.{add-mul-mod_self_right, div-add-mod', div-mul-le_self}
 use native.Mathlib.Omega.{arith}
+use Rattle.std.proofs.Math.Nat.{min-le_left, min-le_right, min-eq_left, min-eq_right}
+use Rattle.std.specs.Prelude.{min}
 use borrow.Author.Tests.{ltb-true, ltb-false, le-leb}
 use lib.Dec.{ltb}
 use lib.IntN.{pos, ◌-ℤ◌}
@@ -17,29 +19,20 @@ use Rattle.card.specs.Steps.{inward}
 use Rattle.card.proofs.Laid.{Laid}
 use Rattle.card.proofs.Regions.{chart-tiles}
 use Rattle.card.proofs.Axes.{north-high, down-high, east-high, row_fits, row_at, column-at}
-use Rattle.lists.specs.declared.engine.Engine.{Engine}
-use Rattle.lists.specs.declared.engine.Span.{Span}
-use Rattle.lists.specs.Steps.{fine, lesser, up_of, Made}
+use Rattle.lists.specs.declared.engine.Engine.TheInside.{Inside}
+use Rattle.lists.specs.declared.axis.Span.{Span}
+use Rattle.lists.specs.Axes.{fine, up_of}
+use Rattle.lists.specs.Steps.{Made}
 use Rattle.lists.proofs.Counting.{within, counted, fits}
 use Rattle.lists.proofs.Engines.{shift_is, shift-high, by-unit, laid, down_is, across-is}
 
 -- ---- the lesser of two numbers
-lesser-cases : (x y : ℕ) (P : ℕ → Type 0) → P x → (y ≤ x → P y) → P (lesser x y)
-lesser-cases x y P f g = go (ltb x y) refl
+min-cases : (x y : ℕ) (P : ℕ → Type 0) → P x → (y ≤ x → P y) → P (min x y)
+min-cases x y P f g = go (ltb x y) refl
   where
-    go : (t : Bool) → ltb x y ≡ t → P (cond t x y)
-    go true e = f
-    go false e = g (ltb-false x y e)
-
-lesser-left : (x y : ℕ) → lesser x y ≤ x
-lesser-left x y = lesser-cases x y (λ (n : ℕ). n ≤ x) (omega arith) (λ h. h)
-
-lesser-right : (x y : ℕ) → lesser x y ≤ y
-lesser-right x y = go (ltb x y) refl
-  where
-    go : (t : Bool) → ltb x y ≡ t → cond t x y ≤ y
-    go true e = omega (arith, ltb-true x y e)
-    go false e = omega arith
+    go : (t : Bool) → ltb x y ≡ t → P (min x y)
+    go true e = let h = ltb-true x y e in subst⁻¹ P (min-eq_left (omega arith)) f
+    go false e = let h = ltb-false x y e in subst⁻¹ P (min-eq_right h) (g h)
 
 -- ---- the chart's first latitude, no farther north than the pole
 module _ (c : Card) (g : Laid c) (up : ℕ) (h : up ≤ 126562) where
@@ -52,17 +45,17 @@ module _ (c : Card) (g : Laid c) (up : ℕ) (h : up ≤ 126562) where
   unit-some : 0 < unit
   unit-some = omega (arith, g.rows.some, g.rows.whole)
 
-  pub first_part : unit * lesser (from / unit) half ≤ from
-  first_part = omega (arith, mul-le-mul_left unit (lesser-left (from / unit) half), div-mul-le_self from unit, mul_comm unit (from / unit))
+  pub first_part : unit * min (from / unit) half ≤ from
+  first_part = omega (arith, mul-le-mul_left unit (min-le_left (from / unit) half), div-mul-le_self from unit, mul_comm unit (from / unit))
 
   -- what it has is less than a pixel
-  pub first_rest : from - unit * lesser (from / unit) half < 253125
+  pub first_rest : from - unit * min (from / unit) half < 253125
   first_rest =
-      lesser-cases (from / unit) half (λ (n : ℕ). from - unit * n < 253125)
+      min-cases (from / unit) half (λ (n : ℕ). from - unit * n < 253125)
       (omega (arith, mod-lt from unit-some, div-add-mod' from unit, mul_comm unit (from / unit), g.rows.most))
       (λ y. omega (arith, north-high c g, g.rows.whole))
 
-module _ (e : Engine) (made : Made e) where
+module _ (e : Inside) (made : Made e) where
   abbrev k : Card
   k = e.card
 
@@ -83,13 +76,13 @@ module _ (e : Engine) (made : Made e) where
   chart-north = omega (arith, l.top-down, l.bottom, down-high k l)
 
   abbrev top : ℕ
-  top = lesser (F / u) half
+  top = min (F / u) half
 
   top-is : e.down.first ≡ top
   top-is = ap (λ (x : Span). x.first) (down_is e made)
 
   pub top-low : e.down.first ≤ 64800000
-  top-low = rw top-is (lesser-right (F / u) half)
+  top-low = rw top-is (min-le_right (F / u) half)
 
   rest-is : u * top + (F - u * top) ≡ F
   rest-is = omega (arith, first_part k l (up_of e.pair) (omega arith))

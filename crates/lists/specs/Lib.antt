@@ -1,3 +1,5 @@
+pub mod Axes
+pub mod Chart
+pub mod Entries
 pub mod Lists
 pub mod Steps
-pub mod Entries

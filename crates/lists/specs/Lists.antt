@@ -1,4 +1,4 @@
--- Lists of pixels and of positions of one card, in either pair (01, "Origins and the zone grid"; 02, E8). Definitions only.
+-- Lists of pixels and of positions of one card, in either pair. Definitions only.
 --     entries n              the entries in a list of length n: a row and a column, or a latitude and a longitude each
 --     lists_fit h o n        the length h handed in is even, the list to fill, of length o, is no shorter, and there is a number for each entry
 --     lists_verdict h o n    6 where they do not fit
@@ -9,9 +9,9 @@
 --     pixel_report_at p k qs i     the report of position i of the list
 --     report_values, report_numbers  the value parts, and the numbers, of the first n reports
 --     values_left, numbers_left    what the list to fill and the numbers hold at the end
-use Rattle.std.specs.Prelude.{ℕ, ◌+◌, ◌*◌, ◌/◌, ◌%◌, List, [], ◌∷◌, Bool, cond, ◌&&◌, leb, eqb, length, get_or, ℤ, pos}
+use Rattle.std.specs.Prelude.{ℕ, ◌+◌, ◌*◌, ◌/◌, ◌%◌, List, [], ◌∷◌, Bool, cond, Result, Ok, Err, ◌&&◌, leb, eqb, length, get_or, ℤ, pos}
 use Rattle.whole.specs.Lists.{each, over}
-use Rattle.arc.specs.declared.Verdict.{Verdict}
+use Rattle.arc.specs.declared.Refusal.{Refusal}
 use Rattle.arc.specs.Refusals.{refusal, Report}
 use Rattle.card.specs.declared.Card.{Card}
 use Rattle.card.specs.declared.Pair.{Pair}
@@ -25,8 +25,8 @@ entries n = n / 2
 abbrev pub lists_fit : ℕ → ℕ → ℕ → Bool
 lists_fit h o n = eqb (h % 2) 0 && leb h o && leb (entries h) n
 
-abbrev pub lists_verdict : ℕ → ℕ → ℕ → Verdict
-lists_verdict h o n = cond (lists_fit h o n) Verdict.Accepted (Verdict.Refused (refusal 6))
+abbrev pub lists_verdict : ℕ → ℕ → ℕ → Result Unit Refusal
+lists_verdict h o n = cond (lists_fit h o n) (Ok tt) (Err (refusal 6))
 
 abbrev pub entry_at : List ℤ → ℕ → Entry
 entry_at ps i = record { first = get_or ps (2 * i) (pos 0); second = get_or ps (2 * i + 1) (pos 0) }
