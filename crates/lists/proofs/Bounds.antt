@@ -1,6 +1,5 @@
 -- An accepted card in naturals: what the engine is made from is bounded. Assumes nothing.
-use Prim.Native.Nat.{◌+◌, ◌*◌, ◌≤◌, ◌<◌}
-use native.Mathlib.Omega.{arith}
+use Prim.Native.Nat.{◌*◌, ◌≤◌, ◌<◌}
 use Rattle.arc.specs.Spacing.{Grid}
 use Rattle.card.specs.declared.Card.{Card}
 use Rattle.card.specs.Read.{Known}

@@ -8,7 +8,7 @@ use lib.Signed.{lt_z}
 use mir.Syntax.{w64}
 use mir.Val.{SFits, to_z, of_z}
 use mir.ValLaws.{to_z-of_z}
-use Rattle.std.specs.Prelude.{Option, Some, None}
+use Rattle.std.specs.Prelude.{Some, None}
 use Rattle.whole.specs.Whole.{near, outside, raise}
 use Rattle.whole.proofs.Signed.{is-unique, is-difference, is-raise, is-size, equal_is, raise-high, inside-size}
 use Rattle.arc.specs.Zones.{circle, half, quarter}

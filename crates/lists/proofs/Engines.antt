@@ -1,5 +1,5 @@
 -- An engine's axes give the plain rule's angles in its pair, for every row and column of its card's tiles. Assumes nothing.
-use mathlib.Core.Path.{◌≡◌, sym, ap, ap₂, ◌∙◌, subst⁻¹}
+use mathlib.Core.Path.{◌≡◌, sym, ap, ap₂, ◌∙◌}
 use mathlib.Core.Bool.{Bool, true, false}
 use Prim.Native.Nat.{ℕ, ◌+◌, ◌-◌, ◌*◌, ◌/◌, ◌%◌, ◌≤◌, ◌<◌}
 use native.Mathlib.Nat.{mul-le-mul, mul-le-mul_right, lt_of_mul-lt-mul_right, mod-lt, mul-add-div_right, div-add-mod', div-mul-le_self}
@@ -10,7 +10,6 @@ use Rattle.arc.specs.Zones.{circle}
 use Rattle.arc.specs.Spacing.{Grid}
 use Rattle.card.specs.declared.Card.{Card}
 use Rattle.card.specs.declared.Pair.{Pair}
-use Rattle.card.specs.Read.{Known}
 use Rattle.card.specs.Steps.{inward}
 use Rattle.card.proofs.Laid.{Laid, known-laid}
 use Rattle.card.proofs.Pairs.{inward-high}

@@ -19,7 +19,7 @@ use Rattle.card.specs.declared.Pair.{Pair}
 use Rattle.lists.specs.declared.Asked.{Asked}
 use Rattle.lists.specs.Lists.{entries, lists_fit, entry_at, report_at, report_values, report_numbers}
 use Rattle.lists.specs.Entries.{ChartedEntries, AskedEntries}
-use Rattle.lists.proofs.Filling.{length_over, room, values_length, numbers-length, values-next, numbers-next, report-values}
+use Rattle.lists.proofs.Filling.{room, numbers-length, values-next, numbers-next, report-values}
 
 -- ---- numbers over zeros: a report that refuses nothing changes none
 module _ (f : ℕ → Report) (n : ℕ) (num : List ℕ) (room : n ≤ length num) where

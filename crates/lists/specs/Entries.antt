@@ -8,7 +8,7 @@
 --     ChartedEntries f n from to before after   of n entries, where the values of those before `from` are those of the reports f, so are those of the
 --                        entries before `to`; and no report between them refuses
 --     AskedEntries f n from to before after counts then   the same of values and of numbers, also where reports refuse
-use Rattle.std.specs.Prelude.{◌≡◌, ℕ, ◌+◌, ◌*◌, ◌≤◌, ◌<◌, cond, ◌||◌, List, [], ◌∷◌, length, ℤ, pos, neg_ℤ, nat_abs, ◌+ℤ◌, ◌-ℤ◌}
+use Rattle.std.specs.Prelude.{◌≡◌, ℕ, ◌*◌, ◌≤◌, ◌<◌, cond, ◌||◌, List, [], ◌∷◌, length, ℤ, pos, neg_ℤ, nat_abs, ◌+ℤ◌, ◌-ℤ◌}
 use Rattle.std.specs.Prelude.{Option, Some, None, IfSome, Result, Ok, Err}
 use Rattle.std.specs.Int.Signed.{lt_z}
 use Rattle.whole.specs.Whole.{outside}

@@ -1,4 +1,4 @@
-use Rattle.std.proofs.Common.{arith, mod-lt, ◌+◌, ◌-◌, ◌*◌, ◌/◌}
+use Rattle.std.proofs.Common.{arith}
 use Rattle.lists.proofs.Bounds.{known_bounds}
 use Rattle.lists.proofs.engine.across_of.Goals as goal
 

@@ -1,4 +1,4 @@
-use Rattle.std.proofs.Common.{arith, ap, rules}
+use Rattle.std.proofs.Common.{arith}
 use Rattle.lists.specs.Steps.{engine_of}
 use Rattle.lists.proofs.Bounds.{known_bounds}
 use Rattle.lists.proofs.Engines.{shift_low}
