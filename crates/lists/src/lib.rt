@@ -58,10 +58,11 @@ fn put_entry(list: &mut [i64], i: usize, entry: Entry)
 
 impl Asked {
     // What the card tells of an entry.
-    fn of_card(self, pair: Pair, card: Card, entry: Entry) -> Result<Entry, Refusal>
-        requires { Known card }
-        ensures { entry_told result ≡ asked_report pair self card entry.first entry.second }
+    fn of_card(self, engine: Engine, entry: Entry) -> Result<Entry, Refusal>
+        ensures { entry_told result ≡ asked_report engine.pair self engine.card entry.first entry.second }
     {
+        let pair = engine.pair();
+        let card = engine.card();
         match self {
             Asked::Positions => match card.position_in(pair, entry.first, entry.second) {
                 PositionAnswer::At { lat, lon } => Ok(Entry {
@@ -80,8 +81,8 @@ impl Asked {
         }
     }
 
-    // The same by the engine, where it answers.
-    fn of_engine(self, engine: Engine, entry: Entry) -> Option<Entry>
+    // The same without a division, where the entry is on the chart.
+    fn on_chart(self, engine: Engine, entry: Entry) -> Option<Entry>
         ensures { Agrees result (asked_report engine.pair self engine.card entry.first entry.second) }
     {
         match self {
@@ -105,33 +106,31 @@ fn fill_charted(
         values.old values.new }
 {
     for i in from..list.len() / 2 {
-        match asked.of_engine(engine, entry_at(list, i)) {
-            Some(answer) => put_entry(values, i, answer),
-            None => return i,
-        }
+        let Some(charted) = asked.on_chart(engine, entry_at(list, i)) else {
+            return i;
+        };
+        put_entry(values, i, charted);
     }
     list.len() / 2
 }
 
 // The entries of the list from one on, asked of the card up to the first that it does not refuse; the entry after them.
 fn fill_asked(
-    pair: Pair,
-    card: Card,
+    engine: Engine,
     asked: Asked,
     list: &[i64],
     values: &mut [i64],
     numbers: &mut [u32],
     from: usize,
 ) -> usize
-    requires known { Known card }
     requires fit { lists_fit (length list.now) (length values.old) (length numbers.old) ≡ true }
     requires from_within { from < entries (length list.now) }
-    ensures told { AskedEntries (report_at pair asked card list.now) (entries (length list.now)) from result
+    ensures told { AskedEntries (report_at engine.pair asked engine.card list.now) (entries (length list.now)) from result
         values.old values.new numbers.old numbers.new }
     ensures further { from < result }
 {
     for i in from..list.len() / 2 {
-        match asked.of_card(pair, card, entry_at(list, i)) {
+        match asked.of_card(engine, entry_at(list, i)) {
             Ok(answer) => {
                 put_entry(values, i, answer);
                 numbers[i] = 0;
@@ -158,13 +157,11 @@ fn fill(engine: Engine, asked: Asked, list: &[i64], values: &mut [i64], numbers:
     ensures numbers { numbers.new
         ≡ numbers_left (report_at engine.pair asked engine.card) list.now values.old numbers.old }
 {
-    let pair = engine.pair();
-    let card = engine.card();
     let n = list.len() / 2;
     numbers[..n].fill(0);
     let mut i = fill_charted(engine, asked, list, values, 0);
     while i < n {
-        i = fill_asked(pair, card, asked, list, values, numbers, i);
+        i = fill_asked(engine, asked, list, values, numbers, i);
         i = fill_charted(engine, asked, list, values, i);
     }
 }

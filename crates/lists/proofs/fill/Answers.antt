@@ -15,7 +15,7 @@ loop-i-init c =
 
 pub loop-i-preserved : goal.loop-i-preserved
 loop-i-preserved c =
-    filled_next _ _ _ _ c.requires c.loop-i.invariant (rw (c.pair-pair.ensures, c.card-card.ensures.card) at c.fill_asked-i.ensures.told)
+    filled_next _ _ _ _ c.requires c.loop-i.invariant c.fill_asked-i.ensures.told
     c.fill_charted-i-in-loop-i.ensures
 
 pub returns-clause-numbers : goal.returns-clause-numbers

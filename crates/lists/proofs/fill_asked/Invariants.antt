@@ -6,4 +6,4 @@ use Rattle.lists.proofs.fill_asked.Given as goal
 -- what is ensured, as far as the entry
 abbrev pub invariant-loop-i : goal.invariant-loop-i
 invariant-loop-i l =
-    AskedEntries (report_at l.pair l.asked l.card l.list) (entries (length l.list)) l.fn.from l.i l.fn.values l.values l.fn.numbers l.numbers
+    AskedEntries (report_at l.engine.pair l.asked l.engine.card l.list) (entries (length l.list)) l.fn.from l.i l.fn.values l.values l.fn.numbers l.numbers
