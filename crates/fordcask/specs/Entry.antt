@@ -2,12 +2,14 @@
 --     cover_parts, rectangle_parts    number, place, and the zones: the first `length` slots, the others 0
 --     card_parts              number, place, what the card holds, and the total of its blanks; all 0 in a refusal
 --     record_from               the record to be written; TIF is Y where its number is not 0
+--     verdict_told            the verdict of an answer that is no more than yes or a refusal
 --     verdict_parts           number, place, and the total of blanks of the card
 --     place_block, .., window_block    number, place and values of a block, the total of blanks of the card last
 --     tile_parts              number, place, the stored number, where its bytes stand in the store, and the total of blanks of the card
 --     held_tile, corrected_tile    the same with the store that holds the tile, 0 for the base store or 1 for the corrections store (02, E1)
-use Rattle.std.specs.Prelude.{◌≡◌, ℕ, ◌-◌, ◌*◌, List, [], ◌∷◌, cond, not, eqb, take, drop, ℤ, pos}
+use Rattle.std.specs.Prelude.{◌≡◌, ℕ, ◌-◌, ◌*◌, List, [], ◌∷◌, cond, not, eqb, take, drop, ℤ, pos, Result, Ok, Err}
 use Rattle.arc.specs.declared.Refusal.{Refusal}
+use Rattle.arc.specs.declared.Verdict.{Verdict}
 use Rattle.arc.specs.Refusals.{Report, refusal_of}
 use Rattle.zones.specs.declared.CoverAnswer.{CoverAnswer}
 use Rattle.rectangle.specs.declared.RectangleAnswer.{RectangleAnswer}
@@ -77,6 +79,11 @@ record_from r =
     }
 
 -- ---- on a card as it was read: the total of its blanks is the last number (02, E2)
+
+-- an answer that is no more than yes or a refusal
+abbrev pub verdict_told : Result Unit Refusal → Verdict
+verdict_told (Ok x) = Verdict.Accepted
+verdict_told (Err r) = Verdict.Refused r
 
 abbrev pub verdict_parts : ℕ → Refusal → VerdictParts
 verdict_parts total e = record { number = e.number; at = e.at; blanks = passed total e.number }

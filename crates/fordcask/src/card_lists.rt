@@ -6,7 +6,7 @@ ghost use Rattle.arc.specs.declared.Verdict.{Verdict};
 ghost use Rattle.arc.specs.Refusals.{refusal_of};
 ghost use Rattle.card.specs.declared.Pair.{Pair};
 ghost use Rattle.card.specs.Read.{read_of, on_card};
-ghost use Rattle.fordcask.specs.Entry.{verdict_parts};
+ghost use Rattle.fordcask.specs.Entry.{verdict_parts, verdict_told};
 ghost use Rattle.lists.specs.Lists.{lists_verdict, report_at, position_report_at, pixel_report_at, values_left, numbers_left};
 
 use crate::on_card;
@@ -26,7 +26,7 @@ fn list_on_card(
     numbers: &mut [u32],
 ) -> VerdictParts
     ensures answer { result ≡ verdict_parts (read_of series card.now).blanks (refusal_of (on_card (read_of series card.now) Verdict.Refused
-        (λ k. lists_verdict (length list.now) (length values.old) (length numbers.old)))) }
+        (λ k. verdict_told (lists_verdict (length list.now) (length values.old) (length numbers.old))))) }
     ensures values { values.new ≡ on_card (read_of series card.now) (λ e. values.old)
         (λ k. values_left (report_at pair asked k) list.now values.old numbers.old) }
     ensures numbers { numbers.new ≡ on_card (read_of series card.now) (λ e. numbers.old)
@@ -36,10 +36,13 @@ fn list_on_card(
     let verdict = reading.verdict;
     let k = reading.card;
     match verdict {
-        Verdict::Accepted => on_card::verdict_on(
-            lists::answer_list(pair, k, asked, list, values, numbers).refusal(),
-            reading.blanks,
-        ),
+        Verdict::Accepted => {
+            let refusal = match lists::answer_list(pair, k, asked, list, values, numbers) {
+                Ok(()) => Verdict::Accepted.refusal(),
+                Err(e) => e,
+            };
+            on_card::verdict_on(refusal, reading.blanks)
+        }
         Verdict::Refused(e) => on_card::verdict_on(e, reading.blanks),
     }
 }
@@ -53,7 +56,7 @@ pub fn fordcask_positions(
     numbers: &mut [u32],
 ) -> VerdictParts
     ensures answer { result ≡ verdict_parts (read_of series card.now).blanks (refusal_of (on_card (read_of series card.now) Verdict.Refused
-        (λ k. lists_verdict (length pixels.now) (length positions.old) (length numbers.old)))) }
+        (λ k. verdict_told (lists_verdict (length pixels.now) (length positions.old) (length numbers.old))))) }
     ensures positions { positions.new ≡ on_card (read_of series card.now) (λ e. positions.old)
         (λ k. values_left (position_report_at Pair.Centre k) pixels.now positions.old numbers.old) }
     ensures numbers { numbers.new ≡ on_card (read_of series card.now) (λ e. numbers.old)
@@ -79,7 +82,7 @@ pub fn fordcask_corner_positions(
     numbers: &mut [u32],
 ) -> VerdictParts
     ensures answer { result ≡ verdict_parts (read_of series card.now).blanks (refusal_of (on_card (read_of series card.now) Verdict.Refused
-        (λ k. lists_verdict (length pixels.now) (length positions.old) (length numbers.old)))) }
+        (λ k. verdict_told (lists_verdict (length pixels.now) (length positions.old) (length numbers.old))))) }
     ensures positions { positions.new ≡ on_card (read_of series card.now) (λ e. positions.old)
         (λ k. values_left (position_report_at Pair.Corner k) pixels.now positions.old numbers.old) }
     ensures numbers { numbers.new ≡ on_card (read_of series card.now) (λ e. numbers.old)
@@ -105,7 +108,7 @@ pub fn fordcask_pixels(
     numbers: &mut [u32],
 ) -> VerdictParts
     ensures answer { result ≡ verdict_parts (read_of series card.now).blanks (refusal_of (on_card (read_of series card.now) Verdict.Refused
-        (λ k. lists_verdict (length positions.now) (length pixels.old) (length numbers.old)))) }
+        (λ k. verdict_told (lists_verdict (length positions.now) (length pixels.old) (length numbers.old))))) }
     ensures pixels { pixels.new ≡ on_card (read_of series card.now) (λ e. pixels.old)
         (λ k. values_left (pixel_report_at Pair.Centre k) positions.now pixels.old numbers.old) }
     ensures numbers { numbers.new ≡ on_card (read_of series card.now) (λ e. numbers.old)
@@ -131,7 +134,7 @@ pub fn fordcask_corner_pixels(
     numbers: &mut [u32],
 ) -> VerdictParts
     ensures answer { result ≡ verdict_parts (read_of series card.now).blanks (refusal_of (on_card (read_of series card.now) Verdict.Refused
-        (λ k. lists_verdict (length positions.now) (length pixels.old) (length numbers.old)))) }
+        (λ k. verdict_told (lists_verdict (length positions.now) (length pixels.old) (length numbers.old))))) }
     ensures pixels { pixels.new ≡ on_card (read_of series card.now) (λ e. pixels.old)
         (λ k. values_left (pixel_report_at Pair.Corner k) positions.now pixels.old numbers.old) }
     ensures numbers { numbers.new ≡ on_card (read_of series card.now) (λ e. numbers.old)

@@ -4,7 +4,7 @@ ghost use Rattle.arc.specs.declared.Verdict.{Verdict};
 ghost use Rattle.arc.specs.Refusals.{refusal_of};
 ghost use Rattle.card.specs.declared.Pair.{Pair};
 ghost use Rattle.card.specs.Read.{read_of, on_card};
-ghost use Rattle.fordcask.specs.Entry.{verdict_parts};
+ghost use Rattle.fordcask.specs.Entry.{verdict_parts, verdict_told};
 ghost use Rattle.lists.specs.Lists.{lists_verdict, position_report_at, pixel_report_at, values_left, numbers_left};
 
 use arc::Series;
@@ -20,7 +20,7 @@ pub extern "C" fn fordcask_positions(
     numbers: &mut [u32],
 ) -> VerdictParts
     ensures answer { result ≡ verdict_parts (read_of series card.now).blanks (refusal_of (on_card (read_of series card.now) Verdict.Refused
-        (λ k. lists_verdict (length pixels.now) (length positions.old) (length numbers.old)))) }
+        (λ k. verdict_told (lists_verdict (length pixels.now) (length positions.old) (length numbers.old))))) }
     ensures positions { positions.new ≡ on_card (read_of series card.now) (λ e. positions.old)
         (λ k. values_left (position_report_at Pair.Centre k) pixels.now positions.old numbers.old) }
     ensures numbers { numbers.new ≡ on_card (read_of series card.now) (λ e. numbers.old)
@@ -39,7 +39,7 @@ pub extern "C" fn fordcask_corner_positions(
     numbers: &mut [u32],
 ) -> VerdictParts
     ensures answer { result ≡ verdict_parts (read_of series card.now).blanks (refusal_of (on_card (read_of series card.now) Verdict.Refused
-        (λ k. lists_verdict (length pixels.now) (length positions.old) (length numbers.old)))) }
+        (λ k. verdict_told (lists_verdict (length pixels.now) (length positions.old) (length numbers.old))))) }
     ensures positions { positions.new ≡ on_card (read_of series card.now) (λ e. positions.old)
         (λ k. values_left (position_report_at Pair.Corner k) pixels.now positions.old numbers.old) }
     ensures numbers { numbers.new ≡ on_card (read_of series card.now) (λ e. numbers.old)
@@ -58,7 +58,7 @@ pub extern "C" fn fordcask_pixels(
     numbers: &mut [u32],
 ) -> VerdictParts
     ensures answer { result ≡ verdict_parts (read_of series card.now).blanks (refusal_of (on_card (read_of series card.now) Verdict.Refused
-        (λ k. lists_verdict (length positions.now) (length pixels.old) (length numbers.old)))) }
+        (λ k. verdict_told (lists_verdict (length positions.now) (length pixels.old) (length numbers.old))))) }
     ensures pixels { pixels.new ≡ on_card (read_of series card.now) (λ e. pixels.old)
         (λ k. values_left (pixel_report_at Pair.Centre k) positions.now pixels.old numbers.old) }
     ensures numbers { numbers.new ≡ on_card (read_of series card.now) (λ e. numbers.old)
@@ -77,7 +77,7 @@ pub extern "C" fn fordcask_corner_pixels(
     numbers: &mut [u32],
 ) -> VerdictParts
     ensures answer { result ≡ verdict_parts (read_of series card.now).blanks (refusal_of (on_card (read_of series card.now) Verdict.Refused
-        (λ k. lists_verdict (length positions.now) (length pixels.old) (length numbers.old)))) }
+        (λ k. verdict_told (lists_verdict (length positions.now) (length pixels.old) (length numbers.old))))) }
     ensures pixels { pixels.new ≡ on_card (read_of series card.now) (λ e. pixels.old)
         (λ k. values_left (pixel_report_at Pair.Corner k) positions.now pixels.old numbers.old) }
     ensures numbers { numbers.new ≡ on_card (read_of series card.now) (λ e. numbers.old)
