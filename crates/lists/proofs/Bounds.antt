@@ -1,24 +1,9 @@
--- An accepted card in naturals: what the engine is made from is bounded. Assumes nothing.
-use Prim.Native.Nat.{◌*◌, ◌≤◌, ◌<◌}
-use Rattle.arc.specs.Spacing.{Grid}
+-- An accepted card has the bounds that the engine is made from. Assumes nothing.
 use Rattle.card.specs.declared.Card.{Card}
 use Rattle.card.specs.Read.{Known}
 use Rattle.card.proofs.Laid.{known-laid}
 use Rattle.card.proofs.Axes.{north-high, down-high, east-high}
-
-pub record Bounds (k : Card) : Type 0 where
-  pub columns : Grid k.a
-  pub rows : Grid k.b
-  pub north : 2 * k.north ≤ k.b
-  pub down : 128 * k.nfl ≤ k.north
-  pub down_most : k.nfl ≤ 999
-  pub top_down : k.nul ≤ k.nll
-  pub bottom : k.nll < 128 * k.nfl
-  pub east : k.east ≤ k.a
-  pub across : 128 * k.nfc ≤ k.a
-  pub across_most : k.nfc ≤ 999
-  pub left_right : k.nls ≤ k.nus
-  pub right : k.nus < 128 * k.nfc
+use Rattle.lists.specs.Bounds.{Bounds}
 
 pub known_bounds : (k : Card) → Known k → Bounds k
 known_bounds k known =

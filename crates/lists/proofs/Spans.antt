@@ -18,12 +18,14 @@ use Rattle.card.specs.Grid.{in_chart, row_of, column_of, pixel_at}
 use Rattle.card.specs.Steps.{inward}
 use Rattle.card.proofs.Laid.{Laid}
 use Rattle.card.proofs.Regions.{chart-tiles}
-use Rattle.card.proofs.Axes.{north-high, down-high, east-high, row_fits, row_at, column-at}
+use Rattle.card.proofs.Axes.{down-high, east-high, row_fits, row_at, column-at}
 use Rattle.lists.specs.declared.engine.Engine.TheInside.{Inside}
 use Rattle.lists.specs.declared.axis.Span.{Span}
 use Rattle.lists.specs.Axes.{fine, up_of}
 use Rattle.lists.specs.Steps.{Made}
-use Rattle.lists.proofs.Counting.{within, counted, fits}
+use Rattle.lists.specs.Bounds.{Bounds}
+use Rattle.lists.proofs.Bounds.{known_bounds}
+use Rattle.lists.proofs.Counting.{Counts, counts}
 use Rattle.lists.proofs.Engines.{shift_is, shift-high, by-unit, laid, down_is, across-is}
 
 -- ---- the lesser of two numbers
@@ -35,7 +37,7 @@ min-cases x y P f g = go (ltb x y) refl
     go false e = let h = ltb-false x y e in subst⁻¹ P (min-eq_right h) (g h)
 
 -- ---- the chart's first latitude, no farther north than the pole
-module _ (c : Card) (g : Laid c) (up : ℕ) (h : up ≤ 126562) where
+module _ (c : Card) (g : Bounds c) (up : ℕ) (h : up ≤ 126562) where
   abbrev from : ℕ
   from = 253125 * (c.north - c.nul) + up
 
@@ -53,7 +55,7 @@ module _ (c : Card) (g : Laid c) (up : ℕ) (h : up ≤ 126562) where
   first_rest =
       min-cases (from / unit) half (λ (n : ℕ). from - unit * n < 253125)
       (omega (arith, mod-lt from unit-some, div-add-mod' from unit, mul_comm unit (from / unit), g.rows.most))
-      (λ y. omega (arith, north-high c g, g.rows.whole))
+      (λ y. omega (arith, g.north, g.rows.whole))
 
 module _ (e : Inside) (made : Made e) where
   abbrev k : Card
@@ -61,6 +63,9 @@ module _ (e : Inside) (made : Made e) where
 
   l : Laid e.card
   l = laid e made
+
+  b : Bounds e.card
+  b = known_bounds e.card made.known
 
   -- ---- the rows
   abbrev u : ℕ
@@ -85,10 +90,15 @@ module _ (e : Inside) (made : Made e) where
   top-low = rw top-is (min-le_right (F / u) half)
 
   rest-is : u * top + (F - u * top) ≡ F
-  rest-is = omega (arith, first_part k l (up_of e.pair) (omega arith))
+  rest-is = omega (arith, first_part k b (up_of e.pair) (omega arith))
 
   rest-low : F - u * top < 253125
-  rest-low = first_rest k l (up_of e.pair) (omega arith)
+  rest-low = first_rest k b (up_of e.pair) (omega arith)
+
+  rows : Counts u (F - u * top) k.nul (k.nll + 1 - k.nul) e.down
+  rows =
+      counts u top (F - u * top) k.nul (k.nll + 1 - k.nul) rows-some (omega (arith, l.rows.most)) rest-low (omega (arith, l.top-down))
+      (omega (arith, l.top-down, l.bottom, l.down-most)) e.down (down_is e made)
 
   -- a latitude n hundredths from the South Pole, on the chart
   module _ (n : ℕ) (h : n ≤ 64800000) (le : n ≤ e.down.first) (on : e.down.first - n ≤ e.down.most) where
@@ -99,23 +109,13 @@ module _ (e : Inside) (made : Made e) where
     r = k.nul + (F - u * top + u * d) / 253125
 
     pub row-fits-63 : (e.down.first - n) * e.down.rate + e.down.start < 9223372036854775808
-    row-fits-63 =
-        fits u top (F - u * top) k.nul (k.nll + 1 - k.nul) rows-some (omega (arith, l.rows.most)) rest-low (omega (arith, l.top-down))
-        (omega (arith, l.top-down, l.bottom, l.down-most)) e.down (down_is e made) d (omega (arith, top-low)) (omega arith)
+    row-fits-63 = rows.fits d (omega (arith, top-low)) on
 
     row_low : r ≤ k.nll
-    row_low =
-        omega (
-          arith,
-          within u top (F - u * top) k.nul (k.nll + 1 - k.nul) rows-some (omega (arith, l.rows.most)) rest-low (omega (arith, l.top-down))
-              (omega (arith, l.top-down, l.bottom, l.down-most)) e.down (down_is e made) d (omega arith),
-          l.top-down,
-        )
+    row_low = omega (arith, rows.within d on, l.top-down)
 
     row_count : ((e.down.first - n) * e.down.rate + e.down.start) / fine ≡ r
-    row_count =
-        counted u top (F - u * top) k.nul (k.nll + 1 - k.nul) rows-some (omega (arith, l.rows.most)) rest-low (omega (arith, l.top-down))
-        (omega (arith, l.top-down, l.bottom, l.down-most)) e.down (down_is e made) d (omega (arith, top-low))
+    row_count = rows.counted d (omega (arith, top-low))
 
     row-found : row_of e.pair e.card (pos n -ℤ pos 32400000) ≡ pos r
     row-found =
@@ -145,6 +145,12 @@ module _ (e : Inside) (made : Made e) where
   pub left-low : e.across.first < 129600000
   left-low = rw (across-is e made) (mod-lt (G / v) {m = circle} (omega arith))
 
+  columns : Counts v (G % v) k.nls (k.nus + 1 - k.nls) e.across
+  columns =
+      counts v (G / v % circle) (G % v) k.nls (k.nus + 1 - k.nls) columns-some (omega (arith, l.columns.most))
+      (omega (arith, mod-lt G columns-some, l.columns.most)) (omega (arith, l.left-right))
+      (omega (arith, l.left-right, l.right, l.across-most)) e.across (across-is e made)
+
   -- a longitude n hundredths from 180° west, on the chart
   module _ (n : ℕ) (on : (n + e.across.first) % circle ≤ e.across.most) where
     abbrev i : ℕ
@@ -157,26 +163,13 @@ module _ (e : Inside) (made : Made e) where
     i-low = mod-lt (n + e.across.first) {m = circle} (omega arith)
 
     pub column-fits-63 : (n + e.across.first) % circle * e.across.rate + e.across.start < 9223372036854775808
-    column-fits-63 =
-        fits v (G / v % circle) (G % v) k.nls (k.nus + 1 - k.nls) columns-some (omega (arith, l.columns.most))
-        (omega (arith, mod-lt G columns-some, l.columns.most)) (omega (arith, l.left-right))
-        (omega (arith, l.left-right, l.right, l.across-most)) e.across (across-is e made) i i-low on
+    column-fits-63 = columns.fits i i-low on
 
     column-low : c ≤ k.nus
-    column-low =
-        omega (
-          arith,
-          within v (G / v % circle) (G % v) k.nls (k.nus + 1 - k.nls) columns-some (omega (arith, l.columns.most))
-              (omega (arith, mod-lt G columns-some, l.columns.most)) (omega (arith, l.left-right))
-              (omega (arith, l.left-right, l.right, l.across-most)) e.across (across-is e made) i on,
-          l.left-right,
-        )
+    column-low = omega (arith, columns.within i on, l.left-right)
 
     column-count : ((n + e.across.first) % circle * e.across.rate + e.across.start) / fine ≡ c
-    column-count =
-        counted v (G / v % circle) (G % v) k.nls (k.nus + 1 - k.nls) columns-some (omega (arith, l.columns.most))
-        (omega (arith, mod-lt G columns-some, l.columns.most)) (omega (arith, l.left-right))
-        (omega (arith, l.left-right, l.right, l.across-most)) e.across (across-is e made) i i-low
+    column-count = columns.counted i i-low
 
     column-found : column_of e.pair e.card (pos n -ℤ pos 64800000) ≡ pos c
     column-found =

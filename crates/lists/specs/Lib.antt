@@ -1,4 +1,5 @@
 pub mod Axes
+pub mod Bounds
 pub mod Chart
 pub mod Entries
 pub mod Lists

@@ -3,6 +3,7 @@ ghost use Rattle.std.specs.Prelude.{◌≡◌, ◌+◌, ◌-◌, ◌*◌, ◌/�
 ghost use Rattle.card.specs.Read.{Known};
 ghost use Rattle.card.specs.Grid.{position_of, pixel_of, position_report, pixel_report};
 ghost use Rattle.lists.specs.Axes.{down_of, across_of};
+ghost use Rattle.lists.specs.Bounds.{Bounds};
 ghost use Rattle.lists.specs.Entries.{Agrees};
 
 use crate::Entry;
@@ -41,7 +42,7 @@ impl Model for Engine {
 
 // The chart's rows, what is added before they are made whole being given.
 fn down_of(up: u64, card: Card) -> Span
-    requires known { Known card }
+    requires bounds { Bounds card }
     requires up_in_range { up ≤ 126562 }
     ensures { result ≡ down_of (card.b / 512) (253125 * (card.north - card.nul) + up) card }
 {
@@ -59,7 +60,7 @@ fn down_of(up: u64, card: Card) -> Span
 
 // The chart's columns, likewise.
 fn across_of(up: u64, card: Card) -> Span
-    requires known { Known card }
+    requires bounds { Bounds card }
     requires up_in_range { up ≤ 126562 }
     ensures { result ≡ across_of (card.a / 512) (253125 * (2 * card.a - (card.east + card.nls)) + up) card }
 {

@@ -28,6 +28,15 @@ of-columns-requires-clause-on_grid c = (known_bounds _ c.requires).columns
 pub of-columns-requires-clause-from_in_range : goal.of-columns-requires-clause-from_in_range
 of-columns-requires-clause-from_in_range c = omega (arith, known_bounds _ c.requires, shift_low c.args.pair c.inward-shift.ensures)
 
+pub down_of-down-requires-clause-bounds : goal.down_of-down-requires-clause-bounds
+down_of-down-requires-clause-bounds c = known_bounds _ c.requires
+
+pub across_of-across-requires-clause-bounds : goal.across_of-across-requires-clause-bounds
+across_of-across-requires-clause-bounds c = known_bounds _ c.requires
+
 pub invariant_of-result : goal.invariant_of-result
 unfolding engine_of
-invariant_of-result c = record { known = c.requires; same = rw (c.across_of-across.ensures, c.down_of-down.ensures, c.of-columns.ensures, c.of-rows.ensures, c.inward-shift.ensures) }
+invariant_of-result c = record {
+  known = c.requires;
+  same = rw (c.across_of-across.ensures, c.down_of-down.ensures, c.of-columns.ensures, c.of-rows.ensures, c.inward-shift.ensures);
+}
