@@ -1,5 +1,6 @@
 -- A table of subfields that stand one after the other, by induction over it: what is written is cut at the offsets into the values'
 -- texts, so that the walk passes; and where each text is its subfield's bytes, all of them together are the bytes. Assumes nothing.
+use Rattle.std.specs.Prelude.{Ok}
 use mathlib.Core.Path.{◌≡◌, refl, sym, ap, ◌∙◌}
 use mathlib.Core.List.{List, [], ◌∷◌, ◌++◌, append_assoc}
 use mathlib.Core.Bool.{Bool, true, false, cond, ◌&&◌, and-eq-true_iff}
@@ -10,11 +11,10 @@ use lib.Dec.{eqb}
 use lib.IntN.{ℤ, nat_abs}
 use lib.ListN.{length, get_or, drop, length-append, drop_of_length-le}
 use borrow.Author.Tests.{le-leb, eqb-true}
-use Rattle.arc.specs.declared.Verdict.{Verdict}
 use Rattle.text.specs.Text.{is_flag, name_laid, part}
-use Rattle.card.specs.declared.Fill.{Fill}
-use Rattle.card.specs.Layout.{Kind, Subfield, STR, bytes_of, right_kind, right_value, judge_field, walk}
-use Rattle.card.specs.Write.{Value, counted, angle, named, flagged, text_of, written}
+use Rattle.card_text.specs.declared.Fill.{Fill}
+use Rattle.card_text.specs.Layout.{Kind, Subfield, STR, bytes_of, right_kind, right_value, judge_field, walk}
+use Rattle.card_text.specs.Write.{Value, counted, angle, named, flagged, text_of, written}
 use Rattle.text.proofs.Bytes.{part_at, cut}
 use Rattle.text.proofs.Numbers.{length_digits, all_digits, number_digits}
 use Rattle.text.proofs.Angles.{length-angle, text-laid, text-valid}
@@ -114,7 +114,7 @@ module _ (s : List ℕ) where
       let q : Text s f v = rw (starts o f fs c, e) (part_at pre t (written fs vs) o f.width l k) in
       next q (texts (o + f.width) (pre ++ t) (goes_on o f fs c) (length-append pre t ∙ rw (l, k)) (e ∙ sym (append_assoc pre t (written fs vs))) a)
 
-  pub walks : {fs : List Subfield} {vs : List Value} → Along Held fs vs → Along (Text s) fs vs → walk Fill.Zeros fs s ≡ Verdict.Accepted
+  pub walks : {fs : List Subfield} {vs : List Value} → Along Held fs vs → Along (Text s) fs vs → walk Fill.Zeros fs s ≡ Ok tt
   unfolding judge_field
   walks done t = refl
   walks (next p a) (next e t) = rw (e, (passes p).right-kind, (passes p).right-value) (walks a t)

@@ -1,5 +1,6 @@
 -- Writing what was read gives the bytes back exactly where no blanks were met: each subfield that passed as 01 has it is the text of the value
 -- read from it, the tiles store the angles, and the record that a card's value holds passes the tests of writing. Assumes nothing.
+use Rattle.std.specs.Prelude.{Ok}
 use mathlib.Core.Path.{◌≡◌, refl, sym, ap, ◌∙◌}
 use mathlib.Core.List.{List, [], ◌∷◌}
 use mathlib.Core.Bool.{Bool, true, false, cond, ◌&&◌}
@@ -8,29 +9,28 @@ use native.Mathlib.Omega.{arith}
 use lib.Dec.{leb, eqb}
 use lib.ListN.{length, get_or, take}
 use borrow.Author.Tests.{eqb-true}
-use Rattle.arc.specs.declared.Series.{Series}
+use Rattle.arc.specs.declared.series.Series.{Series}
 use Rattle.arc.specs.Zones.{half, quarter}
-use Rattle.arc.specs.declared.Verdict.{Verdict}
 use Rattle.arc.specs.Spacing.{Grids}
 use Rattle.arc.proofs.Answered.{answered-grids}
 use Rattle.arc.proofs.TownScales.{written_from}
-use Rattle.card.specs.declared.Card.{Card}
-use Rattle.card.specs.declared.Fill.{Fill}
-use Rattle.card.specs.declared.Reading.{Reading}
+use Rattle.card_text.specs.declared.Fields.{Fields}
+use Rattle.card_text.specs.declared.Fill.{Fill}
+use Rattle.card_text.specs.declared.Reading.{Reading}
 use Rattle.text.specs.Text.{all, is_digit, is_flag, angle_laid, angle_valid, angle_of, digits, angle_text}
-use Rattle.card.specs.Layout.{Subfield, STR, ARV, BRV, LSO, PSO, NUL, NUS, NLL, NLS, NFL, NFC, PNC, PNL, COD, ROD, POR, PCB, PVB, TIF, layout, bytes_of}
-use Rattle.card.specs.Read.{number_in, card_of, accepted_card, read_of, read_strict}
-use Rattle.card.specs.Write.{values_of, card_text, write_of, out_of}
-use Rattle.card.specs.RoundTrips.{record_of, WritesBack, ReadIsText, TextIsRead}
+use Rattle.card_text.specs.Layout.{Subfield, STR, ARV, BRV, LSO, PSO, NUL, NUS, NLL, NLS, NFL, NFC, PNC, PNL, COD, ROD, POR, PCB, PVB, TIF, layout, bytes_of}
+use Rattle.card_text.specs.Read.{number_in, card_of, accepted_card, blanks_told, read_of, read_strict}
+use Rattle.card_text.specs.Write.{values_of, card_text, write_of, out_of}
+use Rattle.card_text.specs.RoundTrips.{record_of, WritesBack, ReadIsText, TextIsRead}
 use Rattle.text.proofs.Bytes.{length_part, drop-next}
 use Rattle.text.proofs.Numbers.{digits_number}
 use Rattle.text.proofs.Angles.{text-of-angle}
 use Rattle.round_trip.proofs.Table.{Along, done, ◌then◌, Text, written_back}
 use Rattle.round_trip.proofs.Records.{Good, Writes, is-written, text_out}
 use Rattle.round_trip.proofs.ReadBack.{long, read-with}
-use Rattle.card.proofs.Walked.{between, RightIn, right-in}
-use Rattle.card.proofs.Acceptance.{ReadTo, read-to}
-use Rattle.card.proofs.Strict.{tolerant-accepts}
+use Rattle.card_text.proofs.Walked.{between, RightIn, right-in}
+use Rattle.card_text.proofs.Acceptance.{ReadTo, read-to}
+use Rattle.card_text.proofs.Strict.{tolerant-accepts}
 
 -- a flag's byte is that of its value
 flag-byte : (x : ℕ) (t : Bool) → eqb x 89 ≡ t → is_flag x ≡ true → x ≡ cond t 89 78
@@ -38,9 +38,9 @@ flag-byte x true q e = eqb-true x 89 q
 flag-byte x false q e = eqb-true x 78 (rw q at e)
 
 -- a card as 01 reads it
-module _ (series : Series) (s : List ℕ) (k : Card) (n : ℕ) (d : ReadTo Fill.Zeros series s k n) where
+module _ (series : Series) (s : List ℕ) (k : Fields) (n : ℕ) (d : ReadTo Fill.Zeros series s k n) where
   -- the card's value, as it is read
-  abbrev c : Card
+  abbrev c : Fields
   c = card_of series d.a d.b d.n d.m s
 
   -- what passed
@@ -100,13 +100,13 @@ module _ (series : Series) (s : List ℕ) (k : Card) (n : ℕ) (d : ReadTo Fill.
   unfolding card_text layout
   text_same = written_back s 0 refl d.long all-texts
 
-strict-text : (series : Series) (s : List ℕ) (k : Card) → read_strict series s ≡ accepted_card k 0 → card_text k.a k.b (record_of k) ≡ s
+strict-text : (series : Series) (s : List ℕ) (k : Fields) → read_strict series s ≡ accepted_card k 0 → card_text k.a k.b (record_of k) ≡ s
 unfolding card_of
 strict-text series s k e = let d = read-to Fill.Zeros series s k 0 e in rw (← d.card) (text_same series s k 0 d)
 
 -- a card as it is read, with blanks or without
-module _ (series : Series) (s : List ℕ) (k : Card) (n : ℕ) (d : ReadTo Fill.Blanks series s k n) where
-  abbrev value : Card
+module _ (series : Series) (s : List ℕ) (k : Fields) (n : ℕ) (d : ReadTo Fill.Blanks series s k n) where
+  abbrev value : Fields
   value = card_of series d.a d.b d.n d.m s
 
   passed : (i : ℕ) → i < 20 → RightIn Fill.Blanks s (get_or layout i STR)
@@ -140,7 +140,7 @@ module _ (series : Series) (s : List ℕ) (k : Card) (n : ℕ) (d : ReadTo Fill.
 
   -- what is written is its text
   output : (out : List ℕ) → 10000 ≤ series.scale → 98 ≤ length out
-      → (write_of series (record_of value) out ≡ Verdict.Accepted) × (take 98 (out_of series (record_of value) out) ≡ card_text d.a d.b (record_of value))
+      → (write_of series (record_of value) out ≡ Ok tt) × (take 98 (out_of series (record_of value) out) ≡ card_text d.a d.b (record_of value))
   output out g h =
       let w = writes out g h in (
         is-written series (record_of value) out d.a d.b w,
@@ -155,7 +155,7 @@ pub read-is-text : ReadIsText
 read-is-text series s k n e = (only, same)
   where
     only : card_text k.a k.b (record_of k) ≡ s → n ≡ 0
-    only q = sym (ap (λ (x : Reading). x.blanks) (sym (rw q at (text-is-read series s k n e)) ∙ e))
+    only q = sym (ap blanks_told (sym (rw q at (text-is-read series s k n e)) ∙ e))
 
     same : n ≡ 0 → card_text k.a k.b (record_of k) ≡ s
     same z = strict-text series s k (tolerant-accepts series s k (e ∙ ap (accepted_card k) z))
@@ -164,7 +164,7 @@ pub writes-back : WritesBack
 unfolding card_of
 writes-back series s k n out e g h =
     let d = read-to Fill.Blanks series s k n e in
-    let o : (write_of series (record_of k) out ≡ Verdict.Accepted) × (take 98 (out_of series (record_of k) out) ≡ card_text k.a k.b (record_of k)) =
+    let o : (write_of series (record_of k) out ≡ Ok tt) × (take 98 (out_of series (record_of k) out) ≡ card_text k.a k.b (record_of k)) =
     rw (← d.card) (output series s k n d out g h) in
     let t = read-is-text series s k n e in
     record {

@@ -3,20 +3,19 @@
 --     Fits a b o r       a record at the origin o, with counts, a name and extents that a card may have
 --     Carried ..         it is written, and read back to the same n and m; LSO and PSO are the texts of o's angles
 --     AlignedBack        the claim
+use Rattle.std.specs.Prelude.{Ok}
 use Rattle.std.specs.Prelude.{◌≡◌, List, true, ℕ, ◌≤◌, ℤ, length, take}
-use Rattle.arc.specs.declared.Series.{Series}
-use Rattle.arc.specs.declared.Verdict.{Verdict}
-use Rattle.arc.specs.declared.SpacingAnswer.{SpacingAnswer}
+use Rattle.arc.specs.declared.series.Series.{Series}
+use Rattle.arc.specs.declared.series.Spacing.{Spacing}
 use Rattle.arc.specs.Spacing.{spacing_of}
 use Rattle.origin.specs.declared.Origin.{Origin}
-use Rattle.origin.specs.declared.OriginAnswer.{OriginAnswer}
 use Rattle.origin.specs.Origin.{align_of}
-use Rattle.card.specs.declared.Record.{Record}
+use Rattle.card_text.specs.declared.Record.{Record}
 use Rattle.text.specs.Text.{name_laid, angle_text}
-use Rattle.card.specs.Layout.{LSO, PSO, bytes_of}
-use Rattle.card.specs.Extents.{extents_hold}
-use Rattle.card.specs.Write.{write_of, out_of}
-use Rattle.card.specs.RoundTrips.{ReadBack}
+use Rattle.card_text.specs.Layout.{LSO, PSO, bytes_of}
+use Rattle.card_text.specs.Extents.{extents_hold}
+use Rattle.card_text.specs.Write.{write_of, out_of}
+use Rattle.card_text.specs.RoundTrips.{ReadBack}
 
 pub record Fits (a b : ℕ) (o : Origin) (r : Record) : Type 0 where
   pub at_n : r.n ≡ o.n
@@ -31,16 +30,16 @@ pub record Fits (a b : ℕ) (o : Origin) (r : Record) : Type 0 where
 
 -- s being what is written into out
 pub record Carried (series : Series) (o : Origin) (r : Record) (out s : List ℕ) : Type 0 where
-  pub written : write_of series r out ≡ Verdict.Accepted
+  pub written : write_of series r out ≡ Ok tt
   pub back : ReadBack series r s
-  pub same_n : back.card.n ≡ o.n
-  pub same_m : back.card.m ≡ o.m
+  pub same_n : back.fields.n ≡ o.n
+  pub same_m : back.fields.m ≡ o.m
   pub lso : bytes_of LSO s ≡ angle_text 3 o.lso
   pub pso : bytes_of PSO s ≡ angle_text 2 o.pso
 
 -- any upper left point that is aligned, any record at its origin, any output with room
 abbrev pub AlignedBack : Type 0
 AlignedBack =
-    (series : Series) (a b : ℕ) (lat lon : ℤ) (o : Origin) (r : Record) (out : List ℕ) → spacing_of series ≡ SpacingAnswer.Constants a b
-    → align_of series lat lon ≡ OriginAnswer.Aligned o → Fits a b o r → 98 ≤ length out
+    (series : Series) (a b : ℕ) (lat lon : ℤ) (o : Origin) (r : Record) (out : List ℕ) → spacing_of series ≡ Ok (record { a = a; b = b })
+    → align_of series lat lon ≡ Ok o → Fits a b o r → 98 ≤ length out
     → Carried series o r out (take 98 (out_of series r out))
