@@ -1,11 +1,11 @@
 -- An accepted card has the bounds that the engine is made from. Assumes nothing.
-use Rattle.card.specs.declared.Card.{Card}
-use Rattle.card.specs.Read.{Known}
-use Rattle.card.proofs.Laid.{known-laid}
+use Rattle.card_text.specs.declared.Fields.{Fields}
+use Rattle.card_text.specs.Read.{Known}
+use Rattle.card_text.proofs.Laid.{known-laid}
 use Rattle.card.proofs.Axes.{north-high, down-high, east-high}
 use Rattle.lists.specs.Bounds.{Bounds}
 
-pub known_bounds : (k : Card) → Known k → Bounds k
+pub known_bounds : (k : Fields) → Known k → Bounds k
 known_bounds k known =
     let l = known-laid k known in
     record {

@@ -4,22 +4,20 @@ use mathlib.Core.Bool.{Bool, true, false, cond, ◌||◌}
 use Prim.Native.Nat.{ℕ, ◌+◌, ◌-◌, ◌*◌, ◌/◌, ◌%◌, ◌≤◌, ◌<◌}
 use native.Mathlib.Omega.{arith}
 use lib.IntN.{ℤ, pos, neg_ℤ, nat_abs, ◌+ℤ◌, ◌-ℤ◌}
-use lib.Signed.{lt_z}
+use lib.Dec.{T}
+use lib.Signed.{lt_z, non_neg}
 use mir.Syntax.{w64}
-use mir.Val.{SFits, to_z, of_z}
+use mir.Val.{SFits, Fits, to_z, of_z}
 use mir.ValLaws.{to_z-of_z}
-use Rattle.std.specs.Prelude.{Some, None}
+use Rattle.std.specs.Prelude.{Some, None, Ok}
 use Rattle.whole.specs.Whole.{near, outside, raise}
 use Rattle.whole.proofs.Signed.{is-unique, is-difference, is-raise, is-size, equal_is, raise-high, inside-size}
 use Rattle.arc.specs.Zones.{circle, half, quarter}
-use Rattle.arc.specs.declared.Verdict.{Verdict}
-use Rattle.card.specs.declared.PixelAnswer.{PixelAnswer}
-use Rattle.card.specs.declared.PositionAnswer.{PositionAnswer}
-use Rattle.card.specs.Grid.{in_tiles, in_chart, verdict_of, position_of, latitude_of, longitude_of, pixel_of, pixel_at, row_of, column_of}
+use Rattle.card.specs.Grid.{in_tiles, in_chart, verdict_of, at_position, at_pixel, position_of, latitude_of, longitude_of, pixel_of, pixel_at, row_of, column_of}
 use Rattle.card.specs.Steps.{inward}
-use Rattle.card.proofs.Answers.{accepted-in, pair-asked, cast-below, cast_same}
+use Rattle.card.proofs.Answers.{accepted-in, pair-asked, cast_fits, cast-below, cast_same}
 use Rattle.card.proofs.Axes.{down-high, latitude-is, longitude-is}
-use Rattle.card.proofs.Laid.{Laid}
+use Rattle.card_text.proofs.Laid.{Laid}
 use Rattle.card.proofs.Regions.{PixelInside, tiles-inside}
 use Rattle.lists.specs.declared.engine.Engine.TheInside.{Inside}
 use Rattle.lists.specs.Axes.{coarse, fine}
@@ -75,7 +73,7 @@ module _ (g : ℕ) (low : g < 129600000) where
 
 -- ---- a pixel of the chart, as the machine casts it
 module _ (e : Inside) (made : Made e) (row column : ℤ) (fr : SFits w64 row) (fc : SFits w64 column)
-    (accepted : Verdict.Accepted ≡ verdict_of e.card (to_z w64 (of_z w64 row)) (to_z w64 (of_z w64 column))) where
+    (accepted : Ok tt ≡ verdict_of e.card (to_z w64 (of_z w64 row)) (to_z w64 (of_z w64 column))) where
   tests : (in_tiles e.card row column ≡ true) × (in_chart e.card row column ≡ true)
   tests = accepted-in e.card row column (sym (accepted ∙ pair-asked (verdict_of e.card) fr fc))
 
@@ -97,6 +95,9 @@ module _ (e : Inside) (made : Made e) (row column : ℤ) (fr : SFits w64 row) (f
   column_low : c < 128 * e.card.nfc
   column_low = cast-below _ column fc inside.column
 
+  pub column_casts : T (non_neg (to_z w64 (of_z w64 column))) × Fits w64 (nat_abs (to_z w64 (of_z w64 column)))
+  column_casts = cast_fits _ column fc inside.column (omega (arith, l))
+
   pub row_within : r * e.rows.rate ≤ e.rows.from
   row_within = row_under e made r row_low
 
@@ -113,14 +114,14 @@ module _ (e : Inside) (made : Made e) (row column : ℤ) (fr : SFits w64 row) (f
   two_circles = rw (column-angle e made c column_low) (column-below e made c column_low)
 
   pub chart_position : position_of e.pair e.card row column
-      ≡ PositionAnswer.At (pos ((e.rows.from - r * e.rows.rate) / coarse) -ℤ pos quarter)
+      ≡ at_position (pos ((e.rows.from - r * e.rows.rate) / coarse) -ℤ pos quarter)
       (pos ((e.columns.from + c * e.columns.rate) / coarse % circle) -ℤ pos half)
   unfolding position_of
   chart_position =
       let north : ℕ = near ((e.card.north - r) * circle - inward e.pair) e.card.b in
       let east : ℕ = near ((e.card.east + c) * circle + inward e.pair) e.card.a % circle in
       rw (tests.0, tests.1)
-      (ap₂ PositionAnswer.At
+      (ap₂ at_position
       (ap (latitude_of e.pair e.card) (sym (cast_same _ row fr inside.row))
       ∙ is-unique (latitude_of e.pair e.card (pos r)) (pos north -ℤ pos quarter) north quarter
       (latitude-is e.card l e.pair r (omega (arith, row_low, down-high e.card l))) (is-difference north quarter)
@@ -152,7 +153,7 @@ module _ (e : Inside) (made : Made e) (lat lon : ℤ) (fl : SFits w64 lat) (fo :
   columns_fit = rw t.1 (column-fits-63 e made m (omega (arith, t.1)))
 
   pub chart_pixel : pixel_of e.pair e.card lat lon
-      ≡ PixelAnswer.At (pos ((d * e.down.rate + e.down.start) / fine)) (pos ((i * e.across.rate + e.across.start) / fine))
+      ≡ at_pixel (pos ((d * e.down.rate + e.down.start) / fine)) (pos ((i * e.across.rate + e.across.start) / fine))
   unfolding pixel_of
   chart_pixel =
       rw (s.2, t.1, s.0, t.0)

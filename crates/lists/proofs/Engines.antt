@@ -7,11 +7,11 @@ use native.Mathlib.Omega.{arith}
 use Rattle.whole.specs.Whole.{near}
 use Rattle.whole.proofs.Near.{near-low}
 use Rattle.arc.specs.Zones.{circle}
-use Rattle.arc.specs.Spacing.{Grid}
-use Rattle.card.specs.declared.Card.{Card}
+use Rattle.arc.specs.Pixels.{Grid}
+use Rattle.card_text.specs.declared.Fields.{Fields}
 use Rattle.card.specs.declared.Pair.{Pair}
 use Rattle.card.specs.Steps.{inward}
-use Rattle.card.proofs.Laid.{Laid, known-laid}
+use Rattle.card_text.proofs.Laid.{Laid, known-laid}
 use Rattle.card.proofs.Pairs.{inward-high}
 use Rattle.card.proofs.Axes.{north-high, down-high, east-high}
 use Rattle.lists.specs.declared.axis.Axis.{Axis}
@@ -76,7 +76,7 @@ module _ (x : ℕ) (g : Grid x) where
 
 -- ---- an engine's answers
 module _ (e : Inside) (made : Made e) where
-  abbrev k : Card
+  abbrev k : Fields
   k = e.card
 
   abbrev s : ℕ

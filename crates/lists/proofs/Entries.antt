@@ -14,7 +14,7 @@ use Rattle.std.specs.Prelude.{replicate}
 use Rattle.std.proofs.lemmas.List.{length-replicate, get_or-replicate}
 use Rattle.arc.specs.Refusals.{Report, answered}
 use Rattle.whole.specs.Lists.{over}
-use Rattle.card.specs.declared.Card.{Card}
+use Rattle.card_text.specs.declared.Fields.{Fields}
 use Rattle.card.specs.declared.Pair.{Pair}
 use Rattle.lists.specs.declared.Asked.{Asked}
 use Rattle.lists.specs.Lists.{entries, lists_fit, entry_at, report_at, report_values, report_numbers}
@@ -67,7 +67,7 @@ module _ (f : ℕ → Report) (n : ℕ) (num : List ℕ) (room : n ≤ length nu
       ∙ ap (λ (k : ℕ). xs ++ drop k num) (sym long)
 
 -- ---- the entries of a list, in turn
-module _ (p : Pair) (asked : Asked) (k : Card) (ps : List ℤ) where
+module _ (p : Pair) (asked : Asked) (k : Fields) (ps : List ℤ) where
   abbrev f : ℕ → Report
   f = report_at p asked k ps
 

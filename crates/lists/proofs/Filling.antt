@@ -12,10 +12,12 @@ use lib.ListN.{length, set, drop, length-append, length-drop}
 use lib.Seq.{drop-cons, append_snoc, set-append_seam}
 use lib.IntN.{ℤ, pos}
 use Rattle.arc.specs.Refusals.{Report}
-use Rattle.card.specs.declared.Card.{Card}
+use Rattle.card_text.specs.declared.Fields.{Fields}
 use Rattle.card.specs.declared.Pair.{Pair}
-use Rattle.card.specs.declared.PositionAnswer.{PositionAnswer}
-use Rattle.card.specs.declared.PixelAnswer.{PixelAnswer}
+use Rattle.std.specs.Prelude.{Result, Ok, Err}
+use Rattle.arc.specs.declared.refusal.Refusal.{Refusal}
+use Rattle.card.specs.declared.Position.{Position}
+use Rattle.card.specs.declared.Pixel.{Pixel}
 use Rattle.whole.specs.Lists.{over, each}
 use Rattle.card.specs.Grid.{position_of, pixel_of, position_report, pixel_report}
 use Rattle.lists.specs.declared.Asked.{Asked}
@@ -77,14 +79,14 @@ module _ (f : ℕ → Report) where
       (ap (λ (k : ℕ). report_numbers i f ++ k ∷ []) (sym en) ∙ ap (λ (k : ℕ). report_numbers k f) (sym (add-one i)))
 
 -- ---- two value parts, in a refusal too
-position-values : (a : PositionAnswer) → length (position_report a).values ≡ 2
-position-values (PositionAnswer.At lat lon) = refl
-position-values (PositionAnswer.Refused r) = refl
+position-values : (a : Result Position Refusal) → length (position_report a).values ≡ 2
+position-values (Ok x) = refl
+position-values (Err r) = refl
 
-pixel-values : (a : PixelAnswer) → length (pixel_report a).values ≡ 2
-pixel-values (PixelAnswer.At row column) = refl
-pixel-values (PixelAnswer.Refused r) = refl
+pixel-values : (a : Result Pixel Refusal) → length (pixel_report a).values ≡ 2
+pixel-values (Ok x) = refl
+pixel-values (Err r) = refl
 
-pub report-values : (p : Pair) (asked : Asked) (k : Card) (u v : ℤ) → length (asked_report p asked k u v).values ≡ 2
+pub report-values : (p : Pair) (asked : Asked) (k : Fields) (u v : ℤ) → length (asked_report p asked k u v).values ≡ 2
 report-values p Asked.Positions k u v = position-values (position_of p k u v)
 report-values p Asked.Pixels k u v = pixel-values (pixel_of p k u v)

@@ -12,11 +12,10 @@ use lib.Dec.{ltb}
 use lib.IntN.{pos, ◌-ℤ◌}
 use Rattle.whole.proofs.Signed.{is-equal, is-nat, is-difference}
 use Rattle.arc.specs.Zones.{circle, half, quarter}
-use Rattle.card.specs.declared.Card.{Card}
-use Rattle.card.specs.declared.PixelAnswer.{PixelAnswer}
-use Rattle.card.specs.Grid.{in_chart, row_of, column_of, pixel_at}
+use Rattle.card_text.specs.declared.Fields.{Fields}
+use Rattle.card.specs.Grid.{in_chart, at_pixel, row_of, column_of, pixel_at}
 use Rattle.card.specs.Steps.{inward}
-use Rattle.card.proofs.Laid.{Laid}
+use Rattle.card_text.proofs.Laid.{Laid}
 use Rattle.card.proofs.Regions.{chart-tiles}
 use Rattle.card.proofs.Axes.{down-high, east-high, row_fits, row_at, column-at}
 use Rattle.lists.specs.declared.engine.Engine.TheInside.{Inside}
@@ -37,7 +36,7 @@ min-cases x y P f g = go (ltb x y) refl
     go false e = let h = ltb-false x y e in subst⁻¹ P (min-eq_right h) (g h)
 
 -- ---- the chart's first latitude, no farther north than the pole
-module _ (c : Card) (g : Bounds c) (up : ℕ) (h : up ≤ 126562) where
+module _ (c : Fields) (g : Bounds c) (up : ℕ) (h : up ≤ 126562) where
   abbrev from : ℕ
   from = 253125 * (c.north - c.nul) + up
 
@@ -58,7 +57,7 @@ module _ (c : Card) (g : Bounds c) (up : ℕ) (h : up ≤ 126562) where
       (λ y. omega (arith, g.north, g.rows.whole))
 
 module _ (e : Inside) (made : Made e) where
-  abbrev k : Card
+  abbrev k : Fields
   k = e.card
 
   l : Laid e.card
@@ -206,7 +205,7 @@ module _ (e : Inside) (made : Made e) where
   -- ---- a position on the chart
   module _ (n m : ℕ) (h : n ≤ 64800000) (le : n ≤ e.down.first) (on-d : e.down.first - n ≤ e.down.most)
       (on-i : (m + e.across.first) % circle ≤ e.across.most) where
-    pub held-pixel : PixelAnswer.At (pos (((e.down.first - n) * e.down.rate + e.down.start) / fine))
+    pub held-pixel : at_pixel (pos (((e.down.first - n) * e.down.rate + e.down.start) / fine))
         (pos (((m + e.across.first) % circle * e.across.rate + e.across.start) / fine))
         ≡ pixel_at e.card (row_of e.pair e.card (pos n -ℤ pos 32400000)) (column_of e.pair e.card (pos m -ℤ pos 64800000))
     held-pixel =
@@ -220,4 +219,4 @@ module _ (e : Inside) (made : Made e) where
           le-leb x k.nus (column-low m on-i),
         ) in
         rw (row-found n h le on-d, column-found m on-i, chart-tiles k (pos y) (pos x) l chart, chart)
-        (ap₂ PixelAnswer.At (ap pos (row_count n h le on-d)) (ap pos (column-count m on-i)))
+        (ap₂ at_pixel (ap pos (row_count n h le on-d)) (ap pos (column-count m on-i)))

@@ -13,7 +13,7 @@
 --     across_span p k     the chart's columns, counted eastward round the circle
 use Rattle.std.specs.Prelude.{ℕ, ◌+◌, ◌-◌, ◌*◌, ◌/◌, ◌%◌, min, Bool, true, false, cond}
 use Rattle.arc.specs.Zones.{circle, half}
-use Rattle.card.specs.declared.Card.{Card}
+use Rattle.card_text.specs.declared.Fields.{Fields}
 use Rattle.card.specs.declared.Pair.{Pair}
 use Rattle.card.specs.Steps.{inward}
 use Rattle.lists.specs.declared.axis.Axis.{Axis}
@@ -47,11 +47,11 @@ abbrev pub axis_of : ℕ → ℕ → Bool → Axis
 axis_of x from off = axis_at (from + x / 512) (2 * (x / 512)) off
 
 -- 506,250 × 128n less the shift, counted from the South Pole
-abbrev pub row_axis : Pair → Card → Axis
+abbrev pub row_axis : Pair → Fields → Axis
 row_axis p k = axis_of k.b (506250 * k.north - shift_of p) true
 
 -- 506,250 × 128m and the shift, counted from 180° west
-abbrev pub column_axis : Pair → Card → Axis
+abbrev pub column_axis : Pair → Fields → Axis
 column_axis p k = axis_of k.a (506250 * k.east + shift_of p) false
 
 -- i hundredths past the first is pixel low + (u i + rest) / 253,125, and the last hundredth in the n pixels is `most` past the first
@@ -64,10 +64,10 @@ span_of u first rest low n =
       start = scale_up fine rest 253125 + low * fine;
     }
 
-abbrev pub down_of : ℕ → ℕ → Card → Span
+abbrev pub down_of : ℕ → ℕ → Fields → Span
 down_of u from k = span_of u (min (from / u) half) (from - u * min (from / u) half) k.nul (k.nll + 1 - k.nul)
 
-abbrev pub across_of : ℕ → ℕ → Card → Span
+abbrev pub across_of : ℕ → ℕ → Fields → Span
 across_of u from k = span_of u (from / u % circle) (from % u) k.nls (k.nus + 1 - k.nls)
 
 -- half a pixel, rounded down, is added for the nearest, nothing for the floor
@@ -75,9 +75,9 @@ abbrev pub up_of : Pair → ℕ
 up_of p = (253125 - shift_of p) / 2
 
 -- 253,125 × (128n − NUL), counted from the South Pole
-abbrev pub down_span : Pair → Card → Span
+abbrev pub down_span : Pair → Fields → Span
 down_span p k = down_of (k.b / 512) (253125 * (k.north - k.nul) + up_of p) k
 
 -- 253,125 × (2A − 128m − NLS), counted from 180° west
-abbrev pub across_span : Pair → Card → Span
+abbrev pub across_span : Pair → Fields → Span
 across_span p k = across_of (k.a / 512) (253125 * (2 * k.a - (k.east + k.nls)) + up_of p) k

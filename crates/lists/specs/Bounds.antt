@@ -1,9 +1,9 @@
 -- What the engine is made from, in naturals: the bounds on a card that reading has tested. Definitions only.
 use Rattle.std.specs.Prelude.{◌*◌, ◌≤◌, ◌<◌}
-use Rattle.arc.specs.Spacing.{Grid}
-use Rattle.card.specs.declared.Card.{Card}
+use Rattle.arc.specs.Pixels.{Grid}
+use Rattle.card_text.specs.declared.Fields.{Fields}
 
-pub record Bounds (k : Card) : Type 0 where
+pub record Bounds (k : Fields) : Type 0 where
   pub columns : Grid k.a
   pub rows : Grid k.b
   pub north : 2 * k.north ≤ k.b

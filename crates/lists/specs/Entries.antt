@@ -13,7 +13,7 @@ use Rattle.std.specs.Prelude.{Option, Some, None, IfSome, Result, Ok, Err}
 use Rattle.std.specs.Int.Signed.{lt_z}
 use Rattle.whole.specs.Whole.{outside}
 use Rattle.whole.specs.Lists.{over}
-use Rattle.arc.specs.declared.Refusal.{Refusal}
+use Rattle.arc.specs.declared.refusal.Refusal.{Refusal}
 use Rattle.arc.specs.Refusals.{Report, answered, refused_with}
 use Rattle.arc.specs.Zones.{circle, half, quarter}
 use Rattle.lists.specs.Lists.{report_values, report_numbers}

@@ -3,9 +3,9 @@
 --     engine_of p k       the engine of a card for a pair
 --     Made e              it is the engine of its card and its pair, and some accepted card gives that card
 use Rattle.std.specs.Prelude.{◌≡◌}
-use Rattle.card.specs.declared.Card.{Card}
+use Rattle.card_text.specs.declared.Fields.{Fields}
 use Rattle.card.specs.declared.Pair.{Pair}
-use Rattle.card.specs.Read.{Known}
+use Rattle.card_text.specs.Read.{Known}
 use Rattle.lists.specs.Axes.{row_axis, column_axis, down_span, across_span}
 use Rattle.lists.specs.Chart.{Chart}
 use Rattle.lists.specs.declared.engine.Engine.TheInside.{Inside}
@@ -13,7 +13,7 @@ use Rattle.lists.specs.declared.engine.Engine.TheInside.{Inside}
 abbrev pub chart_of : Inside → Chart
 chart_of e = record { card = e.card; pair = e.pair }
 
-unfoldable pub engine_of : Pair → Card → Inside
+unfoldable pub engine_of : Pair → Fields → Inside
 engine_of p k =
     record {
       card = k;

@@ -1,7 +1,7 @@
 // The axes of a card's pixels in a pair, from which its engine answers by multiplication (DIGEST "The ARC System" 3.4.3, 3.4.4).
 ghost use Rattle.std.specs.Prelude.{◌≡◌, ◌+◌, ◌-◌, ◌*◌, ◌/◌, ◌%◌, ◌≤◌, ◌<◌, pos, ◌-ℤ◌};
 ghost use Rattle.whole.specs.Whole.{floor_div};
-ghost use Rattle.arc.specs.Spacing.{Grid};
+ghost use Rattle.arc.specs.Pixels.{Grid};
 ghost use Rattle.arc.specs.Zones.{circle, half, quarter};
 ghost use Rattle.lists.specs.Axes.{scale_up, coarse, fine, start_of, axis_of, span_of};
 ghost use Rattle.lists.specs.Entries.{west_of, south_of, east_of};

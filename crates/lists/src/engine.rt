@@ -1,6 +1,5 @@
 // The engine: what a card gives once in a pair, so that no entry on its chart needs a division by A or B (DIGEST "The ARC System" 3.4.3, 3.4.4).
 ghost use Rattle.std.specs.Prelude.{◌≡◌, ◌+◌, ◌-◌, ◌*◌, ◌/◌, ◌≤◌};
-ghost use Rattle.card.specs.Read.{Known};
 ghost use Rattle.card.specs.Grid.{position_of, pixel_of, position_report, pixel_report};
 ghost use Rattle.lists.specs.Axes.{down_of, across_of};
 ghost use Rattle.lists.specs.Bounds.{Bounds};
@@ -8,8 +7,9 @@ ghost use Rattle.lists.specs.Entries.{Agrees};
 
 use crate::Entry;
 use crate::axis::{Axis, STEP, Span, UNIT};
-use arc::{Circle, Verdict};
+use arc::Circle;
 use card::{Card, Pair};
+use card_text::Fields;
 use std::marker::Model;
 
 /// A card in a pair: its axes, for positions, and its chart's spans, for pixels.
@@ -41,52 +41,52 @@ impl Model for Engine {
 }
 
 // The chart's rows, what is added before they are made whole being given.
-fn down_of(up: u64, card: Card) -> Span
-    requires bounds { Bounds card }
+fn down_of(up: u64, fields: Fields) -> Span
+    requires bounds { Bounds fields }
     requires up_in_range { up ≤ 126562 }
-    ensures { result ≡ down_of (card.b / 512) (253125 * (card.north - card.nul) + up) card }
+    ensures { result ≡ down_of (fields.b / 512) (253125 * (fields.north - fields.nul) + up) fields }
 {
-    let unit = card.b / 512;
-    let from = UNIT * (card.north - card.nul) + up;
+    let unit = fields.b / 512;
+    let from = UNIT * (fields.north - fields.nul) + up;
     let first = (from / unit).min(Circle::H / 2);
     Span::of(
         unit,
         first,
         from - unit * first,
-        card.nul,
-        card.nll + 1 - card.nul,
+        fields.nul,
+        fields.nll + 1 - fields.nul,
     )
 }
 
 // The chart's columns, likewise.
-fn across_of(up: u64, card: Card) -> Span
-    requires bounds { Bounds card }
+fn across_of(up: u64, fields: Fields) -> Span
+    requires bounds { Bounds fields }
     requires up_in_range { up ≤ 126562 }
-    ensures { result ≡ across_of (card.a / 512) (253125 * (2 * card.a - (card.east + card.nls)) + up) card }
+    ensures { result ≡ across_of (fields.a / 512) (253125 * (2 * fields.a - (fields.east + fields.nls)) + up) fields }
 {
-    let unit = card.a / 512;
-    let from = UNIT * (2 * card.a - (card.east + card.nls)) + up;
+    let unit = fields.a / 512;
+    let from = UNIT * (2 * fields.a - (fields.east + fields.nls)) + up;
     Span::of(
         unit,
         from / unit % Circle::H,
         from % unit,
-        card.nls,
-        card.nus + 1 - card.nls,
+        fields.nls,
+        fields.nus + 1 - fields.nls,
     )
 }
 
 impl Engine {
     /// The engine of a card for a pair.
     pub fn of(pair: Pair, card: Card) -> Self
-        requires { Known card }
         ensures { result ≡ record { card = card; pair = pair } }
     {
+        let fields = card.fields();
         let shift = pair.inward() / 256;
         let up = (STEP / 2 - shift) / 2;
-        let rows = Axis::of(card.b, STEP * card.north - shift, true);
-        let columns = Axis::of(card.a, STEP * card.east + shift, false);
-        let down = down_of(up, card);
-        let across = across_of(up, card);
+        let rows = Axis::of(fields.b, STEP * fields.north - shift, true);
+        let columns = Axis::of(fields.a, STEP * fields.east + shift, false);
+        let down = down_of(up, fields);
+        let across = across_of(up, fields);
         Engine {
             card,
             pair,
@@ -99,8 +99,7 @@ impl Engine {
 
     /// Its card.
     pub fn card(self) -> Card
-        ensures card { result ≡ self.card }
-        ensures known { Known result }
+        ensures { result ≡ self.card }
     {
         self.card
     }
@@ -117,11 +116,11 @@ impl Engine {
         ensures { Agrees result (position_report (position_of self.pair self.card row column)) }
     {
         match self.card.judge_pixel(row, column) {
-            Verdict::Accepted => Some(Entry {
+            Ok(()) => Some(Entry {
                 first: self.rows.latitude(row as u64),
                 second: self.columns.longitude(column as u64),
             }),
-            Verdict::Refused(_) => None,
+            Err(_) => None,
         }
     }
 

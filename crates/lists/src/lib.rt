@@ -3,12 +3,11 @@
 
 ghost use Rattle.std.specs.Prelude.{◌≡◌, true, ◌+◌, ◌*◌, ◌≤◌, ◌<◌, length, set};
 ghost use Rattle.card.specs.declared.Pair.{Pair};
-ghost use Rattle.card.specs.Read.{Known};
 ghost use Rattle.lists.specs.Entries.{entry_told, Agrees, ChartedEntries, AskedEntries};
 ghost use Rattle.lists.specs.Lists.{entries, lists_fit, lists_verdict, entry_at, asked_report, report_at, position_report_at, pixel_report_at, values_left, numbers_left};
 
 use arc::Refusal;
-use card::{Card, Pair, PixelAnswer, PositionAnswer};
+use card::{Card, Pair};
 use engine::Engine;
 
 mod axis;
@@ -64,20 +63,20 @@ impl Asked {
         let pair = engine.pair();
         let card = engine.card();
         match self {
-            Asked::Positions => match card.position_in(pair, entry.first, entry.second) {
-                PositionAnswer::At { lat, lon } => Ok(Entry {
-                    first: lat,
-                    second: lon,
-                }),
-                PositionAnswer::Refused(refusal) => Err(refusal),
-            },
-            Asked::Pixels => match card.pixel_in(pair, entry.first, entry.second) {
-                PixelAnswer::At { row, column } => Ok(Entry {
-                    first: row,
-                    second: column,
-                }),
-                PixelAnswer::Refused(refusal) => Err(refusal),
-            },
+            Asked::Positions => {
+                let position = card.position_in(pair, entry.first, entry.second)?;
+                Ok(Entry {
+                    first: position.lat,
+                    second: position.lon,
+                })
+            }
+            Asked::Pixels => {
+                let pixel = card.pixel_in(pair, entry.first, entry.second)?;
+                Ok(Entry {
+                    first: pixel.row,
+                    second: pixel.column,
+                })
+            }
         }
     }
 
@@ -142,7 +141,7 @@ fn fill_asked(
                     second: 0,
                 };
                 put_entry(values, i, nothing);
-                numbers[i] = refusal.number;
+                numbers[i] = refusal.number();
             }
         }
     }
@@ -175,14 +174,13 @@ pub fn answer_list(
     values: &mut [i64],
     numbers: &mut [u32],
 ) -> Result<(), Refusal>
-    requires { Known card }
     ensures answer { result ≡ lists_verdict (length list.now) (length values.old) (length numbers.old) }
     ensures values { values.new ≡ values_left (report_at pair asked card) list.now values.old numbers.old }
     ensures numbers { numbers.new
         ≡ numbers_left (report_at pair asked card) list.now values.old numbers.old }
 {
     if !lists_fit(list.len(), values.len(), numbers.len()) {
-        return Err(arc::refused(6));
+        return Err(Refusal::Length);
     }
     fill(Engine::of(pair, card), asked, list, values, numbers);
     Ok(())
@@ -195,7 +193,6 @@ pub fn positions(
     positions: &mut [i64],
     numbers: &mut [u32],
 ) -> Result<(), Refusal>
-    requires { Known card }
     ensures answer { result ≡ lists_verdict (length pixels.now) (length positions.old) (length numbers.old) }
     ensures positions { positions.new
         ≡ values_left (position_report_at Pair.Centre card) pixels.now positions.old numbers.old }
@@ -213,7 +210,6 @@ pub fn pixels(
     pixels: &mut [i64],
     numbers: &mut [u32],
 ) -> Result<(), Refusal>
-    requires { Known card }
     ensures answer { result ≡ lists_verdict (length positions.now) (length pixels.old) (length numbers.old) }
     ensures pixels { pixels.new
         ≡ values_left (pixel_report_at Pair.Centre card) positions.now pixels.old numbers.old }
