@@ -1,5 +1,5 @@
 -- An engine's axes give the plain rule's angles in its pair, for every row and column of its card's tiles. Assumes nothing.
-use mathlib.Core.Path.{◌≡◌, sym, ap, ap₂, ◌∙◌, subst⁻¹}
+use mathlib.Core.Path.{◌≡◌, sym, ap, ap₂, ◌∙◌}
 use mathlib.Core.Bool.{Bool, true, false}
 use Prim.Native.Nat.{ℕ, ◌+◌, ◌-◌, ◌*◌, ◌/◌, ◌%◌, ◌≤◌, ◌<◌}
 use native.Mathlib.Nat.{mul-le-mul, mul-le-mul_right, lt_of_mul-lt-mul_right, mod-lt, mul-add-div_right, div-add-mod', div-mul-le_self}
@@ -7,17 +7,17 @@ use native.Mathlib.Omega.{arith}
 use Rattle.whole.specs.Whole.{near}
 use Rattle.whole.proofs.Near.{near-low}
 use Rattle.arc.specs.Zones.{circle}
-use Rattle.arc.specs.Spacing.{Grid}
-use Rattle.card.specs.declared.Card.{Card}
+use Rattle.arc.specs.Pixels.{Grid}
+use Rattle.card_text.specs.declared.Fields.{Fields}
 use Rattle.card.specs.declared.Pair.{Pair}
-use Rattle.card.specs.Read.{Known}
 use Rattle.card.specs.Steps.{inward}
-use Rattle.card.proofs.Laid.{Laid, known-laid}
+use Rattle.card_text.proofs.Laid.{Laid, known-laid}
 use Rattle.card.proofs.Pairs.{inward-high}
 use Rattle.card.proofs.Axes.{north-high, down-high, east-high}
-use Rattle.lists.specs.declared.engine.Axis.{Axis}
-use Rattle.lists.specs.declared.engine.Engine.{Engine}
-use Rattle.lists.specs.Steps.{scale_up, coarse, start_of, shift_of, row_axis, column_axis, down_span, across_span, engine_of, Made}
+use Rattle.lists.specs.declared.axis.Axis.{Axis}
+use Rattle.lists.specs.declared.engine.Engine.TheInside.{Inside}
+use Rattle.lists.specs.Axes.{scale_up, coarse, start_of, shift_of, row_axis, column_axis, down_span, across_span}
+use Rattle.lists.specs.Steps.{engine_of, Made}
 use Rattle.lists.proofs.Fixed.{scale-high, fixed}
 use Rattle.lists.proofs.Units.{angle-unit, quotient-under, quotient-down}
 
@@ -29,6 +29,9 @@ shift_is Pair.Centre = omega arith
 pub shift-high : (p : Pair) → shift_of p ≤ 253125
 shift-high Pair.Corner = omega arith
 shift-high Pair.Centre = omega arith
+
+pub shift_low : (p : Pair) {n : ℕ} → n ≡ inward p → n / 256 ≤ 253125
+shift_low p h = rw h (shift-high p)
 
 -- ---- what a rounding starts from is below one
 pub start-low : (rest d : ℕ) (off : Bool) → rest < d → start_of rest d off < d
@@ -71,23 +74,9 @@ module _ (x : ℕ) (g : Grid x) where
       let s : start * n < R * 68719476736 + n = scale-high coarse n some R in
       lt_of_mul-lt-mul_right n (omega (arith, most))
 
--- ---- what `engine_of` answered
-pub engine-card : (p : Pair) (k : Card) {e : Engine} → e ≡ engine_of p k → e.card ≡ k
-unfolding engine_of
-engine-card p k same = ap (λ (x : Engine). x.card) same
-
-pub engine-pair : (p : Pair) (k : Card) {e : Engine} → e ≡ engine_of p k → e.pair ≡ p
-unfolding engine_of
-engine-pair p k same = ap (λ (x : Engine). x.pair) same
-
-pub engine-made : (p : Pair) (k : Card) {e : Engine} → Known k → e ≡ engine_of p k → Made e
-engine-made p k known same =
-    let card = engine-card p k same in
-    record { known = subst⁻¹ Known card known; same = same ∙ ap₂ engine_of (sym (engine-pair p k same)) (sym card) }
-
 -- ---- an engine's answers
-module _ (e : Engine) (made : Made e) where
-  abbrev k : Card
+module _ (e : Inside) (made : Made e) where
+  abbrev k : Fields
   k = e.card
 
   abbrev s : ℕ
@@ -98,19 +87,19 @@ module _ (e : Engine) (made : Made e) where
 
   rows_are : e.rows ≡ row_axis e.pair k
   unfolding engine_of
-  rows_are = ap (λ (x : Engine). x.rows) made.same
+  rows_are = ap (λ (x : Inside). x.rows) made.same
 
   columns-are : e.columns ≡ column_axis e.pair k
   unfolding engine_of
-  columns-are = ap (λ (x : Engine). x.columns) made.same
+  columns-are = ap (λ (x : Inside). x.columns) made.same
 
   pub down_is : e.down ≡ down_span e.pair e.card
   unfolding engine_of
-  down_is = ap (λ (x : Engine). x.down) made.same
+  down_is = ap (λ (x : Inside). x.down) made.same
 
   pub across-is : e.across ≡ across_span e.pair e.card
   unfolding engine_of
-  across-is = ap (λ (x : Engine). x.across) made.same
+  across-is = ap (λ (x : Inside). x.across) made.same
 
   -- ---- the latitude of a row, from the South Pole
   module _ (r : ℕ) (h : r < 128 * e.card.nfl) where

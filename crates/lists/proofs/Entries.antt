@@ -1,78 +1,46 @@
 -- A list filled by the engine and by the card in turn, its numbers cleared before: what each leaves, and what they leave together. Assumes nothing.
 use mathlib.Core.Path.{◌≡◌, refl, sym, ap, ◌∙◌}
-use mathlib.Core.Bool.{Bool, true, false, ◌&&◌, and-eq-true_iff}
+use mathlib.Core.Bool.{Bool, true, false}
 use mathlib.Core.List.{List, [], ◌∷◌, ◌++◌}
-use Prim.Native.Nat.{ℕ, zero, suc, ◌+◌, ◌-◌, ◌*◌, ◌%◌, ◌≤◌, ◌<◌}
+use Prim.Native.Nat.{ℕ, zero, suc, ◌+◌, ◌-◌, ◌*◌, ◌≤◌, ◌<◌}
 use native.Mathlib.Numerals.{add-one}
 use native.Mathlib.Omega.{arith}
-use borrow.Author.Tests.{ltb-true, ltb-false, eqb-true}
-use lib.Dec.{ltb, leb, eqb}
-use lib.ListN.{length, set, get_or, drop, length-set, length-append, get_or-append}
-use lib.Seq.{drop-cons, append_snoc, drop-append_seam, get_or-append_seam}
+use borrow.Author.Tests.{ltb-true, ltb-false}
+use lib.Dec.{ltb}
+use lib.ListN.{length, set, get_or, drop, length-set, length-append, length-drop, get_or-append}
+use lib.Seq.{drop-cons, append_snoc, drop-append_seam}
 use lib.IntN.{ℤ}
-use mir.Syntax.{w64}
-use mir.Val.{SFits, to_z, of_z}
-use Rattle.arc.specs.Refusals.{Report}
+use Rattle.std.specs.Prelude.{replicate}
+use Rattle.std.proofs.lemmas.List.{length-replicate, get_or-replicate}
+use Rattle.arc.specs.Refusals.{Report, answered}
 use Rattle.whole.specs.Lists.{over}
-use Rattle.lists.specs.Lists.{entries, lists_fit, entry_at, report_values, report_numbers}
-use Rattle.lists.specs.Entries.{Even, ChartedEntries, AskedEntries, entry_from, zeros}
-use Rattle.lists.proofs.Filling.{length_over, length-each, lists-fit, values_length, numbers-length, values-next, numbers-next}
-
--- ---- elements where an entry starts
-pub even-fit : (p o n : ℕ) → lists_fit p o n ≡ true → Even p
-even-fit p o n e =
-    let t = (and-eq-true_iff (eqb (p % 2) 0 && leb p o) (leb (entries p) n)).0 e in
-    eqb-true (p % 2) 0 ((and-eq-true_iff (eqb (p % 2) 0) (leb p o)).0 t.0).0
-
-twice : (at : ℕ) → Even at → at ≡ 2 * entries at
-twice at h = omega arith
-
-next-entry : (at : ℕ) → entries at + 1 ≡ entries (at + 2)
-next-entry at = omega arith
-
-pub entry-from : (ps : List ℤ) (at : ℕ) → Even at → entry_from ps at ≡ entry_at ps (entries at)
-entry-from ps at h = ap (entry_from ps) (twice at h)
-
--- ---- zeros
-zeros-length : (n : ℕ) → length (zeros n) ≡ n
-zeros-length n = length-each 1 n (λ (i : ℕ). 0 ∷ []) (λ i. refl) ∙ omega arith
-
-zero-at : (n b : ℕ) → b < n → get_or (zeros n) b 0 ≡ 0
-zero-at zero b h = absurd (omega arith)
-zero-at (suc n) b h = go (λ lt. zero-at n b lt) (ltb b n) refl
-  where
-    go : (b < n → get_or (zeros n) b 0 ≡ 0) → (t : Bool) → ltb b n ≡ t → get_or (zeros n ++ 0 ∷ []) b 0 ≡ 0
-    go before true e =
-        let lt = ltb-true b n e in get_or-append (zeros n) (0 ∷ []) 0 b (omega (arith, zeros-length n)) ∙ before lt
-    go before false e =
-        let at : b ≡ length (zeros n) = omega (arith, zeros-length n, ltb-false b n e) in
-        ap (λ (k : ℕ). get_or (zeros n ++ 0 ∷ []) k 0) at ∙ get_or-append_seam (zeros n) 0 [] 0
-
--- one zero more
-pub zeros-next : (n : ℕ) (num : List ℕ) {nums : List ℕ} → nums ≡ over (zeros n) num → n < length num → set nums n 0 ≡ over (zeros (n + 1)) num
-zeros-next n num e h = numbers-next (λ i. record { number = 0; place = 0; values = [] }) num n e h 0 refl
-
-pub zeros-kept : (n : ℕ) (num : List ℕ) → n ≤ length num → length (over (zeros n) num) ≡ length num
-zeros-kept n num h = length_over (zeros n) num (omega (arith, zeros-length n))
+use Rattle.card_text.specs.declared.Fields.{Fields}
+use Rattle.card.specs.declared.Pair.{Pair}
+use Rattle.lists.specs.declared.Asked.{Asked}
+use Rattle.lists.specs.Lists.{entries, lists_fit, entry_at, report_at, report_values, report_numbers}
+use Rattle.lists.specs.Entries.{ChartedEntries, AskedEntries}
+use Rattle.lists.proofs.Filling.{room, numbers-length, values-next, numbers-next, report-values}
 
 -- ---- numbers over zeros: a report that refuses nothing changes none
 module _ (f : ℕ → Report) (n : ℕ) (num : List ℕ) (room : n ≤ length num) where
   abbrev clean : List ℕ
-  clean = over (zeros n) num
+  clean = replicate n 0 ++ drop n num
+
+  clean-length : length clean ≡ length num
+  clean-length = length-append (replicate n 0) (drop n num) ∙ omega (arith, length-replicate {A = ℕ} n 0, length-drop n num)
 
   skip-one : (b : ℕ) → b < n → (f b).number ≡ 0 → over (report_numbers (b + 1) f) clean ≡ over (report_numbers b f) clean
   skip-one b h z =
       let xs : List ℕ = report_numbers b f in
       let long : b ≡ length xs = omega (arith, numbers-length f b) in
-      let none : get_or clean b 0 ≡ 0 =
-      get_or-append (zeros n) (drop (length (zeros n)) num) 0 b (omega (arith, zeros-length n)) ∙ zero-at n b h in
+      let none : get_or clean b 0 ≡ 0 = get_or-append (replicate n 0) (drop n num) 0 b (omega (arith, length-replicate {A = ℕ} n 0)) ∙ get_or-replicate n b 0 0 h in
       let next : report_numbers (b + 1) f ≡ xs ++ 0 ∷ [] = ap (λ (k : ℕ). report_numbers k f) (add-one b) ∙ ap (λ (k : ℕ). xs ++ k ∷ []) z in
       let longer : length (xs ++ 0 ∷ []) ≡ suc b = length-append xs (0 ∷ []) ∙ omega (arith, long) in
       ap (λ (s : List ℕ). over s clean) next
       ∙ ap (λ (k : ℕ). (xs ++ 0 ∷ []) ++ drop k clean) longer
       ∙ append_snoc xs 0 (drop (suc b) clean)
       ∙ ap (λ (k : ℕ). xs ++ k ∷ drop (suc b) clean) (sym none)
-      ∙ ap (λ (s : List ℕ). xs ++ s) (sym (drop-cons clean b 0 (omega (arith, zeros-kept n num room))))
+      ∙ ap (λ (s : List ℕ). xs ++ s) (sym (drop-cons clean b 0 (omega (arith, clean-length))))
       ∙ ap (λ (k : ℕ). xs ++ drop k clean) long
 
   skip : (a m : ℕ) → a + m ≤ n → ((i : ℕ) → a ≤ i → i < a + m → (f i).number ≡ 0) → over (report_numbers (a + m) f) clean ≡ over (report_numbers a f) clean
@@ -91,148 +59,99 @@ module _ (f : ℕ → Report) (n : ℕ) (num : List ℕ) (room : n ≤ length nu
   -- at the end the clearing makes no difference
   all-over : over (report_numbers n f) clean ≡ over (report_numbers n f) num
   all-over =
-      let long : length (report_numbers n f) ≡ length (zeros n) = omega (arith, numbers-length f n, zeros-length n) in
-      ap (λ (k : ℕ). report_numbers n f ++ drop k clean) long
-      ∙ ap (λ (s : List ℕ). report_numbers n f ++ s) (drop-append_seam (zeros n) (drop (length (zeros n)) num))
-      ∙ ap (λ (k : ℕ). report_numbers n f ++ drop k num) (sym long)
+      let xs : List ℕ = report_numbers n f in
+      let long : length xs ≡ n = numbers-length f n ∙ omega arith in
+      let zeros : n ≡ length (replicate n 0) = sym (length-replicate {A = ℕ} n 0) in
+      ap (λ (k : ℕ). xs ++ drop k clean) (long ∙ zeros)
+      ∙ ap (λ (s : List ℕ). xs ++ s) (drop-append_seam (replicate n 0) (drop n num))
+      ∙ ap (λ (k : ℕ). xs ++ drop k num) (sym long)
 
--- ---- entries that the engine answers
-module _ (f : ℕ → Report) (two : (i : ℕ) → length (f i).values ≡ 2) (n : ℕ) (en : Even n) where
-  pub charted-none : (from : ℕ) (before : List ℤ) → Even from → from ≤ n → ChartedEntries f n from from before before
-  charted-none from before h le =
-      record {
-        even = h;
-        past = omega arith;
-        upto = le;
-        kept = refl;
-        written = λ out room e. e;
-        answers = λ i l t. absurd (omega arith);
-      }
+-- ---- the entries of a list, in turn
+module _ (p : Pair) (asked : Asked) (k : Fields) (ps : List ℤ) where
+  abbrev f : ℕ → Report
+  f = report_at p asked k ps
 
-  pub charted-next : {from at : ℕ} {before now : List ℤ} → ChartedEntries f n from at before now → at < n → (x y : ℤ) → SFits w64 x → SFits w64 y
-      → (f (entries at)).values ≡ x ∷ y ∷ [] → (f (entries at)).number ≡ 0
-      → ChartedEntries f n from (at + 2) before (set (set now at (to_z w64 (of_z w64 x))) (at + 1) (to_z w64 (of_z w64 y)))
-  charted-next {from} {at} {before} {now} r h x y fx fy ev ez =
+  two : (i : ℕ) → length (f i).values ≡ 2
+  two i = report-values p asked k (entry_at ps i).first (entry_at ps i).second
+
+  -- one that the engine answers
+  pub charted_next : {n from at : ℕ} {before now after : List ℤ} → ChartedEntries f n from at before now → at < n → (x y : ℤ)
+      → f at ≡ answered (x ∷ y ∷ []) → after ≡ set (set now (2 * at) x) (2 * at + 1) y → ChartedEntries f n from (at + 1) before after
+  charted_next {n} {from} {at} {before} {now} r h x y told wrote =
       record {
-        even = omega (arith, r.even);
         past = omega (arith, r.past);
-        upto = omega (arith, r.even);
-        kept = length-set (set now at (to_z w64 (of_z w64 x))) (at + 1) (to_z w64 (of_z w64 y)) ∙ length-set now at (to_z w64 (of_z w64 x)) ∙ r.kept;
-        written = λ out room e.
-            ap (λ (k : ℕ). set (set now k (to_z w64 (of_z w64 x))) (k + 1) (to_z w64 (of_z w64 y))) (twice at r.even)
-            ∙ values-next f two out (entries at) (r.written out room e) (omega (arith, r.even)) x y fx fy ev
-            ∙ ap (λ (k : ℕ). over (report_values k f) out) (next-entry at);
-        answers = λ i l t. answered-at i l t;
+        upto = omega arith;
+        kept = ap length wrote ∙ length-set (set now (2 * at) x) (2 * at + 1) y ∙ length-set now (2 * at) x ∙ r.kept;
+        written = λ out room e. wrote ∙ values-next f two out at (r.written out room e) (omega arith) x y (ap (λ (w : Report). w.values) told);
+        answers = λ i l t. here i l (ltb i at) refl t;
       }
     where
-      answered-at : (i : ℕ) → entries from ≤ i → i < entries (at + 2) → (f i).number ≡ 0
-      answered-at i l t = go (ltb i (entries at)) refl
-        where
-          go : (b : Bool) → ltb i (entries at) ≡ b → (f i).number ≡ 0
-          go true e = r.answers i l (ltb-true i (entries at) e)
-          go false e = ap (λ (k : ℕ). (f k).number) (omega (arith, ltb-false i (entries at) e)) ∙ ez
+      here : (i : ℕ) → from ≤ i → (b : Bool) → ltb i at ≡ b → i < at + 1 → (f i).number ≡ 0
+      here i l true e t = r.answers i l (ltb-true i at e)
+      here i l false e t =
+          ap (λ (j : ℕ). (f j).number) (omega (arith, ltb-false i at e)) ∙ ap (λ (w : Report). w.number) told
 
--- ---- entries that the card is asked
-module _ (f : ℕ → Report) (two : (i : ℕ) → length (f i).values ≡ 2) (n : ℕ) (en : Even n) where
-  pub asked-none : (from : ℕ) (before : List ℤ) (counts : List ℕ) → Even from → from ≤ n → AskedEntries f n from from before before counts counts
-  asked-none from before counts h le =
+  -- one that the card is asked
+  pub asked_next : {n from at : ℕ} {before now after : List ℤ} {counts nums : List ℕ} → AskedEntries f n from at before now counts nums → at < n
+      → (x y : ℤ) (z : ℕ) → (f at).values ≡ x ∷ y ∷ [] → (f at).number ≡ z → after ≡ set (set now (2 * at) x) (2 * at + 1) y
+      → AskedEntries f n from (at + 1) before after counts (set nums at z)
+  asked_next {at = at} {now = now} {nums = nums} r h x y z ev ez wrote =
       record {
-        even = h;
-        past = omega arith;
-        upto = le;
-        kept = (refl, refl);
-        written = λ out room e. e;
-        counted = λ num room e. e;
-      }
-
-  pub asked-next : {from at : ℕ} {before now after : List ℤ} {counts nums then : List ℕ} → AskedEntries f n from at before now counts nums → at < n
-      → (x y : ℤ) (z : ℕ) → SFits w64 x → SFits w64 y → (f (entries at)).values ≡ x ∷ y ∷ [] → (f (entries at)).number ≡ z
-      → after ≡ set (set now at (to_z w64 (of_z w64 x))) (at + 1) (to_z w64 (of_z w64 y)) → then ≡ set nums (entries at) z
-      → AskedEntries f n from (at + 2) before after counts then
-  asked-next {at = at} {now = now} {nums = nums} r h x y z fx fy ev ez wrote told =
-      record {
-        even = omega (arith, r.even);
         past = omega (arith, r.past);
-        upto = omega (arith, r.even);
-        kept = (
-          ap length wrote ∙ length-set (set now at (to_z w64 (of_z w64 x))) (at + 1) (to_z w64 (of_z w64 y))
-              ∙ length-set now at (to_z w64 (of_z w64 x)) ∙ r.kept.0,
-          ap length told ∙ length-set nums (entries at) z ∙ r.kept.1,
-        );
-        written = λ out room e.
-            wrote
-            ∙ ap (λ (k : ℕ). set (set now k (to_z w64 (of_z w64 x))) (k + 1) (to_z w64 (of_z w64 y))) (twice at r.even)
-            ∙ values-next f two out (entries at) (r.written out room e) (omega (arith, r.even)) x y fx fy ev
-            ∙ ap (λ (k : ℕ). over (report_values k f) out) (next-entry at);
-        counted = λ num room e.
-            told
-            ∙ numbers-next f num (entries at) (r.counted num room e) (omega (arith, r.even)) z ez
-            ∙ ap (λ (k : ℕ). over (report_numbers k f) num) (next-entry at);
+        upto = omega arith;
+        values_kept = ap length wrote ∙ length-set (set now (2 * at) x) (2 * at + 1) y ∙ length-set now (2 * at) x ∙ r.values_kept;
+        numbers_kept = length-set nums at z ∙ r.numbers_kept;
+        written = λ out room e. wrote ∙ values-next f two out at (r.written out room e) (omega arith) x y ev;
+        counted = λ num room e. numbers-next f num at (r.counted num room e) (omega arith) z ez;
       }
 
 -- ---- the one after the other
 pub record Filled (f : ℕ → Report) (n : ℕ) (out : List ℤ) (num : List ℕ) (at : ℕ) (now : List ℤ) (nums : List ℕ) : Type 0 where
-  pub even : Even at
   pub upto : at ≤ n
-  pub values : now ≡ over (report_values (entries at) f) out
-  pub numbers : nums ≡ over (report_numbers (entries at) f) (over (zeros (entries n)) num)
+  pub values_kept : length now ≡ length out
+  pub numbers_kept : length nums ≡ length num
+  pub values : now ≡ over (report_values at f) out
+  pub numbers : nums ≡ over (report_numbers at f) (replicate n 0 ++ drop n num)
 
-module _ (f : ℕ → Report) (two : (i : ℕ) → length (f i).values ≡ 2) (n : ℕ) (out : List ℤ) (num : List ℕ)
-    (fit : lists_fit n (length out) (length num) ≡ true) where
-  room : (n ≤ length out) × (entries n ≤ length num)
-  room = lists-fit n (length out) (length num) fit
+module _ (f : ℕ → Report) (p : ℕ) (out : List ℤ) (num : List ℕ) (fit : lists_fit p (length out) (length num) ≡ true) where
+  abbrev n : ℕ
+  n = entries p
 
-  pub filled-length : {at : ℕ} {now : List ℤ} {nums : List ℕ} → Filled f n out num at now nums → length now ≡ length out
-  filled-length {at} t =
-      ap length t.values ∙ length_over (report_values (entries at) f) out (omega (arith, t.upto, room, values_length f two (entries at)))
-
-  pub filled-numbers : {at : ℕ} {now : List ℤ} {nums : List ℕ} → Filled f n out num at now nums → length nums ≡ length num
-  filled-numbers {at} t =
-      let kept = zeros-kept (entries n) num room.1 in
-      ap length t.numbers
-      ∙ length_over (report_numbers (entries at) f) (over (zeros (entries n)) num) (omega (arith, t.upto, room, kept, numbers-length f (entries at)))
-      ∙ kept
+  fits : (p ≤ length out) × (n ≤ length num)
+  fits = room p (length out) (length num) fit
 
   -- what the engine answers first, the numbers cleared
-  pub filled-first : {at : ℕ} {now : List ℤ} {nums : List ℕ} → ChartedEntries f n 0 at out now → nums ≡ over (zeros (entries n)) num
+  pub filled_first : {at : ℕ} {now : List ℤ} {nums : List ℕ} → ChartedEntries f n 0 at out now → nums ≡ replicate n 0 ++ drop n num
       → Filled f n out num at now nums
-  filled-first {at} r e =
+  filled_first {at} r e =
       record {
-        even = r.even;
         upto = r.upto;
-        values = r.written out room.0 refl;
-        numbers = e ∙ sym (skip-to f (entries n) num room.1 0 (entries at) (omega arith) (omega (arith, r.upto)) r.answers);
+        values_kept = r.kept;
+        numbers_kept = ap length e ∙ clean-length f n num fits.1;
+        values = r.written out (omega (arith, fits)) refl;
+        numbers = e ∙ sym (skip-to f n num fits.1 0 at (omega arith) r.upto r.answers);
       }
 
-  -- what the card was asked
-  pub filled-asked : {at to : ℕ} {now after : List ℤ} {nums then : List ℕ} → Filled f n out num at now nums → AskedEntries f n at to now after nums then
-      → Filled f n out num to after then
-  filled-asked t r =
+  -- what the card was asked, and what the engine answers next
+  pub filled_next : {at mid to : ℕ} {now then after : List ℤ} {nums later : List ℕ} → Filled f n out num at now nums
+      → AskedEntries f n at mid now then nums later → ChartedEntries f n mid to then after → Filled f n out num to after later
+  filled_next {at} {mid} {to} t r s =
+      let clean : List ℕ = replicate n 0 ++ drop n num in
       record {
-        even = r.even;
-        upto = r.upto;
-        values = r.written out room.0 t.values;
-        numbers = r.counted (over (zeros (entries n)) num) (omega (arith, room, zeros-kept (entries n) num room.1)) t.numbers;
-      }
-
-  -- what the engine answers next
-  pub filled-charted : {at to : ℕ} {now after : List ℤ} {nums : List ℕ} → Filled f n out num at now nums → ChartedEntries f n at to now after
-      → Filled f n out num to after nums
-  filled-charted {at} {to} t r =
-      record {
-        even = r.even;
-        upto = r.upto;
-        values = r.written out room.0 t.values;
+        upto = s.upto;
+        values_kept = s.kept ∙ r.values_kept ∙ t.values_kept;
+        numbers_kept = r.numbers_kept ∙ t.numbers_kept;
+        values = s.written out (omega (arith, fits)) (r.written out (omega (arith, fits)) t.values);
         numbers =
-            t.numbers
-            ∙ sym (skip-to f (entries n) num room.1 (entries at) (entries to) (omega (arith, r.past)) (omega (arith, r.upto)) r.answers);
+            r.counted clean (omega (arith, fits, clean-length f n num fits.1)) t.numbers
+            ∙ sym (skip-to f n num fits.1 mid to s.past s.upto s.answers);
       }
 
   -- the end
-  pub filled-end : {at : ℕ} {now : List ℤ} {nums : List ℕ} → Filled f n out num at now nums → n ≤ at
-      → (now ≡ over (report_values (entries n) f) out) × (nums ≡ over (report_numbers (entries n) f) num)
-  filled-end {at} t h =
-      let same : at ≡ n = omega (arith, t.upto) in (
-        t.values ∙ ap (λ (k : ℕ). over (report_values (entries k) f) out) same,
-        t.numbers ∙ ap (λ (k : ℕ). over (report_numbers (entries k) f) (over (zeros (entries n)) num)) same ∙ all-over f (entries n) num room.1,
-      )
+  pub filled_values : {at : ℕ} {now : List ℤ} {nums : List ℕ} → Filled f n out num at now nums → n ≤ at → now ≡ over (report_values n f) out
+  filled_values {at} t h = let same : at ≡ n = omega (arith, t.upto) in t.values ∙ ap (λ (k : ℕ). over (report_values k f) out) same
+
+  pub filled_numbers : {at : ℕ} {now : List ℤ} {nums : List ℕ} → Filled f n out num at now nums → n ≤ at → nums ≡ over (report_numbers n f) num
+  filled_numbers {at} t h =
+      let same : at ≡ n = omega (arith, t.upto) in
+      t.numbers ∙ ap (λ (k : ℕ). over (report_numbers k f) (replicate n 0 ++ drop n num)) same ∙ all-over f n num fits.1

@@ -11,14 +11,13 @@ use lib.Dec.{leb, eqb}
 use lib.ListN.{length, set, drop, length-append, length-drop}
 use lib.Seq.{drop-cons, append_snoc, set-append_seam}
 use lib.IntN.{ℤ, pos}
-use mir.Syntax.{w64}
-use mir.Val.{SFits, to_z, of_z}
-use mir.ValLaws.{to_z-of_z}
 use Rattle.arc.specs.Refusals.{Report}
-use Rattle.card.specs.declared.Card.{Card}
+use Rattle.card_text.specs.declared.Fields.{Fields}
 use Rattle.card.specs.declared.Pair.{Pair}
-use Rattle.card.specs.declared.PositionAnswer.{PositionAnswer}
-use Rattle.card.specs.declared.PixelAnswer.{PixelAnswer}
+use Rattle.std.specs.Prelude.{Result, Ok, Err}
+use Rattle.arc.specs.declared.refusal.Refusal.{Refusal}
+use Rattle.card.specs.declared.Position.{Position}
+use Rattle.card.specs.declared.Pixel.{Pixel}
 use Rattle.whole.specs.Lists.{over, each}
 use Rattle.card.specs.Grid.{position_of, pixel_of, position_report, pixel_report}
 use Rattle.lists.specs.declared.Asked.{Asked}
@@ -42,8 +41,8 @@ module _ {A : Type 0} where
       ∙ ap (λ (n : ℕ). (xs ++ a ∷ []) ++ drop n out) (sym l)
 
 -- ---- the lengths fit
-pub lists-fit : (p o n : ℕ) → lists_fit p o n ≡ true → (p ≤ o) × (entries p ≤ n)
-lists-fit p o n e =
+pub room : (p o n : ℕ) → lists_fit p o n ≡ true → (p ≤ o) × (entries p ≤ n)
+room p o n e =
     let t = (and-eq-true_iff (eqb (p % 2) 0 && leb p o) (leb (entries p) n)).0 e in
     (leb-true p o ((and-eq-true_iff (eqb (p % 2) 0) (leb p o)).0 t.0).1, leb-true (entries p) n t.1)
 
@@ -55,18 +54,17 @@ module _ (f : ℕ → Report) where
   pub numbers-length : (i : ℕ) → length (report_numbers i f) ≡ i * 1
   numbers-length i = length-each 1 i (λ (j : ℕ). (f j).number ∷ []) (λ j. refl)
 
-  -- its values, as the machine holds them
+  -- its values
   pub values-next : ((i : ℕ) → length (f i).values ≡ 2) → (out : List ℤ) {now : List ℤ} (i : ℕ) → now ≡ over (report_values i f) out → 2 * i + 1 < length out
-      → (x y : ℤ) → SFits w64 x → SFits w64 y → (f i).values ≡ x ∷ y ∷ []
-      → set (set now (2 * i) (to_z w64 (of_z w64 x))) (2 * i + 1) (to_z w64 (of_z w64 y)) ≡ over (report_values (i + 1) f) out
-  values-next two out {now} i t h x y fx fy ev =
+      → (x y : ℤ) → (f i).values ≡ x ∷ y ∷ []
+      → set (set now (2 * i) x) (2 * i + 1) y ≡ over (report_values (i + 1) f) out
+  values-next two out {now} i t h x y ev =
       let vs : List ℤ = report_values i f in
       let first : set (over vs out) (2 * i) x ≡ over (vs ++ x ∷ []) out =
       over-next vs out (2 * i) x (pos 0) (omega (arith, values_length two i)) (omega arith) in
       let second : set (over (vs ++ x ∷ []) out) (2 * i + 1) y ≡ over ((vs ++ x ∷ []) ++ y ∷ []) out =
       over-next (vs ++ x ∷ []) out (2 * i + 1) y (pos 0) (omega (arith, values_length two i, length-append vs (x ∷ []))) (omega arith) in
-      ap₂ (λ (a b : ℤ). set (set now (2 * i) a) (2 * i + 1) b) (to_z-of_z w64 x fx) (to_z-of_z w64 y fy)
-      ∙ ap (λ (s : List ℤ). set (set s (2 * i) x) (2 * i + 1) y) t
+      ap (λ (s : List ℤ). set (set s (2 * i) x) (2 * i + 1) y) t
       ∙ ap (λ (s : List ℤ). set s (2 * i + 1) y) first
       ∙ second
       ∙ ap (λ (s : List ℤ). over s out)
@@ -81,14 +79,14 @@ module _ (f : ℕ → Report) where
       (ap (λ (k : ℕ). report_numbers i f ++ k ∷ []) (sym en) ∙ ap (λ (k : ℕ). report_numbers k f) (sym (add-one i)))
 
 -- ---- two value parts, in a refusal too
-position-values : (a : PositionAnswer) → length (position_report a).values ≡ 2
-position-values (PositionAnswer.At lat lon) = refl
-position-values (PositionAnswer.Refused r) = refl
+position-values : (a : Result Position Refusal) → length (position_report a).values ≡ 2
+position-values (Ok x) = refl
+position-values (Err r) = refl
 
-pixel-values : (a : PixelAnswer) → length (pixel_report a).values ≡ 2
-pixel-values (PixelAnswer.At row column) = refl
-pixel-values (PixelAnswer.Refused r) = refl
+pixel-values : (a : Result Pixel Refusal) → length (pixel_report a).values ≡ 2
+pixel-values (Ok x) = refl
+pixel-values (Err r) = refl
 
-pub report-values : (p : Pair) (asked : Asked) (k : Card) (u v : ℤ) → length (asked_report p asked k u v).values ≡ 2
+pub report-values : (p : Pair) (asked : Asked) (k : Fields) (u v : ℤ) → length (asked_report p asked k u v).values ≡ 2
 report-values p Asked.Positions k u v = position-values (position_of p k u v)
 report-values p Asked.Pixels k u v = pixel-values (pixel_of p k u v)

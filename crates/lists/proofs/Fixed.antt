@@ -5,7 +5,7 @@ use Prim.Native.Nat.{ℕ, ◌+◌, ◌-◌, ◌*◌, ◌/◌, ◌≤◌, ◌<◌
 use native.Mathlib.Nat.{mul-le-mul_left, mul-le-mul_right, mul_comm, mul_assoc, mul-add, add-mul, mul-one, mul_right_comm, div-eq_of_lt-le, div-mul-le_self}
 use native.Mathlib.Nat.{lt-div-mul-add, le_of_mul-le-mul_right, lt_of_mul-lt-mul_right}
 use native.Mathlib.Omega.{arith}
-use Rattle.lists.specs.Steps.{scale_up}
+use Rattle.lists.specs.Axes.{scale_up}
 
 module _ (one d : ℕ) (hd : 0 < d) where
   pub scale-low : (x : ℕ) → x * one ≤ scale_up one x d * d

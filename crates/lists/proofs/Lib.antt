@@ -1,10 +1,11 @@
 pub mod Fixed
 pub mod Counting
 pub mod Units
+pub mod Bounds
 pub mod Engines
 pub mod Spans
-pub mod Filling
-pub mod Told
 pub mod Signs
+pub mod Floors
 pub mod Charting
+pub mod Filling
 pub mod Entries

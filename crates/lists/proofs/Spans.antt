@@ -1,48 +1,42 @@
 -- An engine's spans give the plain rule's pixel in its pair for positions on the chart. Assumes nothing.
-use mathlib.Core.Path.{◌≡◌, refl, sym, ap, ap₂, ◌∙◌}
-use mathlib.Core.Bool.{Bool, true, false, cond}
+use mathlib.Core.Path.{◌≡◌, refl, sym, ap, ap₂, ◌∙◌, subst⁻¹}
+use mathlib.Core.Bool.{Bool, true, false}
 use Prim.Native.Nat.{ℕ, ◌+◌, ◌-◌, ◌*◌, ◌/◌, ◌%◌, ◌≤◌, ◌<◌}
 use native.Mathlib.Nat.{mul-add, mul_comm, mul_left_comm, mul-le-mul_left, mod-lt, mod-eq_of_lt, mod-add-mod}
 use native.Mathlib.Nat.{add-mul-mod_self_right, div-add-mod', div-mul-le_self}
 use native.Mathlib.Omega.{arith}
+use Rattle.std.proofs.Math.Nat.{min-le_left, min-le_right, min-eq_left, min-eq_right}
+use Rattle.std.specs.Prelude.{min}
 use borrow.Author.Tests.{ltb-true, ltb-false, le-leb}
 use lib.Dec.{ltb}
 use lib.IntN.{pos, ◌-ℤ◌}
 use Rattle.whole.proofs.Signed.{is-equal, is-nat, is-difference}
 use Rattle.arc.specs.Zones.{circle, half, quarter}
-use Rattle.card.specs.declared.Card.{Card}
-use Rattle.card.specs.declared.PixelAnswer.{PixelAnswer}
-use Rattle.card.specs.Grid.{in_chart, row_of, column_of, pixel_at}
+use Rattle.card_text.specs.declared.Fields.{Fields}
+use Rattle.card.specs.Grid.{in_chart, at_pixel, row_of, column_of, pixel_at}
 use Rattle.card.specs.Steps.{inward}
-use Rattle.card.proofs.Laid.{Laid}
+use Rattle.card_text.proofs.Laid.{Laid}
 use Rattle.card.proofs.Regions.{chart-tiles}
-use Rattle.card.proofs.Axes.{north-high, down-high, east-high, row_fits, row_at, column-at}
-use Rattle.lists.specs.declared.engine.Engine.{Engine}
-use Rattle.lists.specs.declared.engine.Span.{Span}
-use Rattle.lists.specs.Steps.{fine, lesser, up_of, Made}
-use Rattle.lists.proofs.Counting.{within, counted, fits}
+use Rattle.card.proofs.Axes.{down-high, east-high, row_fits, row_at, column-at}
+use Rattle.lists.specs.declared.engine.Engine.TheInside.{Inside}
+use Rattle.lists.specs.declared.axis.Span.{Span}
+use Rattle.lists.specs.Axes.{fine, up_of}
+use Rattle.lists.specs.Steps.{Made}
+use Rattle.lists.specs.Bounds.{Bounds}
+use Rattle.lists.proofs.Bounds.{known_bounds}
+use Rattle.lists.proofs.Counting.{Counts, counts}
 use Rattle.lists.proofs.Engines.{shift_is, shift-high, by-unit, laid, down_is, across-is}
 
 -- ---- the lesser of two numbers
-lesser-cases : (x y : ℕ) (P : ℕ → Type 0) → P x → (y ≤ x → P y) → P (lesser x y)
-lesser-cases x y P f g = go (ltb x y) refl
+min-cases : (x y : ℕ) (P : ℕ → Type 0) → P x → (y ≤ x → P y) → P (min x y)
+min-cases x y P f g = go (ltb x y) refl
   where
-    go : (t : Bool) → ltb x y ≡ t → P (cond t x y)
-    go true e = f
-    go false e = g (ltb-false x y e)
-
-lesser-left : (x y : ℕ) → lesser x y ≤ x
-lesser-left x y = lesser-cases x y (λ (n : ℕ). n ≤ x) (omega arith) (λ h. h)
-
-lesser-right : (x y : ℕ) → lesser x y ≤ y
-lesser-right x y = go (ltb x y) refl
-  where
-    go : (t : Bool) → ltb x y ≡ t → cond t x y ≤ y
-    go true e = omega (arith, ltb-true x y e)
-    go false e = omega arith
+    go : (t : Bool) → ltb x y ≡ t → P (min x y)
+    go true e = let h = ltb-true x y e in subst⁻¹ P (min-eq_left (omega arith)) f
+    go false e = let h = ltb-false x y e in subst⁻¹ P (min-eq_right h) (g h)
 
 -- ---- the chart's first latitude, no farther north than the pole
-module _ (c : Card) (g : Laid c) (up : ℕ) (h : up ≤ 126562) where
+module _ (c : Fields) (g : Bounds c) (up : ℕ) (h : up ≤ 126562) where
   abbrev from : ℕ
   from = 253125 * (c.north - c.nul) + up
 
@@ -52,22 +46,25 @@ module _ (c : Card) (g : Laid c) (up : ℕ) (h : up ≤ 126562) where
   unit-some : 0 < unit
   unit-some = omega (arith, g.rows.some, g.rows.whole)
 
-  pub first_part : unit * lesser (from / unit) half ≤ from
-  first_part = omega (arith, mul-le-mul_left unit (lesser-left (from / unit) half), div-mul-le_self from unit, mul_comm unit (from / unit))
+  pub first_part : unit * min (from / unit) half ≤ from
+  first_part = omega (arith, mul-le-mul_left unit (min-le_left (from / unit) half), div-mul-le_self from unit, mul_comm unit (from / unit))
 
   -- what it has is less than a pixel
-  pub first_rest : from - unit * lesser (from / unit) half < 253125
+  pub first_rest : from - unit * min (from / unit) half < 253125
   first_rest =
-      lesser-cases (from / unit) half (λ (n : ℕ). from - unit * n < 253125)
+      min-cases (from / unit) half (λ (n : ℕ). from - unit * n < 253125)
       (omega (arith, mod-lt from unit-some, div-add-mod' from unit, mul_comm unit (from / unit), g.rows.most))
-      (λ y. omega (arith, north-high c g, g.rows.whole))
+      (λ y. omega (arith, g.north, g.rows.whole))
 
-module _ (e : Engine) (made : Made e) where
-  abbrev k : Card
+module _ (e : Inside) (made : Made e) where
+  abbrev k : Fields
   k = e.card
 
   l : Laid e.card
   l = laid e made
+
+  b : Bounds e.card
+  b = known_bounds e.card made.known
 
   -- ---- the rows
   abbrev u : ℕ
@@ -83,19 +80,24 @@ module _ (e : Engine) (made : Made e) where
   chart-north = omega (arith, l.top-down, l.bottom, down-high k l)
 
   abbrev top : ℕ
-  top = lesser (F / u) half
+  top = min (F / u) half
 
   top-is : e.down.first ≡ top
   top-is = ap (λ (x : Span). x.first) (down_is e made)
 
   pub top-low : e.down.first ≤ 64800000
-  top-low = rw top-is (lesser-right (F / u) half)
+  top-low = rw top-is (min-le_right (F / u) half)
 
   rest-is : u * top + (F - u * top) ≡ F
-  rest-is = omega (arith, first_part k l (up_of e.pair) (omega arith))
+  rest-is = omega (arith, first_part k b (up_of e.pair) (omega arith))
 
   rest-low : F - u * top < 253125
-  rest-low = first_rest k l (up_of e.pair) (omega arith)
+  rest-low = first_rest k b (up_of e.pair) (omega arith)
+
+  rows : Counts u (F - u * top) k.nul (k.nll + 1 - k.nul) e.down
+  rows =
+      counts u top (F - u * top) k.nul (k.nll + 1 - k.nul) rows-some (omega (arith, l.rows.most)) rest-low (omega (arith, l.top-down))
+      (omega (arith, l.top-down, l.bottom, l.down-most)) e.down (down_is e made)
 
   -- a latitude n hundredths from the South Pole, on the chart
   module _ (n : ℕ) (h : n ≤ 64800000) (le : n ≤ e.down.first) (on : e.down.first - n ≤ e.down.most) where
@@ -106,23 +108,13 @@ module _ (e : Engine) (made : Made e) where
     r = k.nul + (F - u * top + u * d) / 253125
 
     pub row-fits-63 : (e.down.first - n) * e.down.rate + e.down.start < 9223372036854775808
-    row-fits-63 =
-        fits u top (F - u * top) k.nul (k.nll + 1 - k.nul) rows-some (omega (arith, l.rows.most)) rest-low (omega (arith, l.top-down))
-        (omega (arith, l.top-down, l.bottom, l.down-most)) e.down (down_is e made) d (omega (arith, top-low)) (omega arith)
+    row-fits-63 = rows.fits d (omega (arith, top-low)) on
 
     row_low : r ≤ k.nll
-    row_low =
-        omega (
-          arith,
-          within u top (F - u * top) k.nul (k.nll + 1 - k.nul) rows-some (omega (arith, l.rows.most)) rest-low (omega (arith, l.top-down))
-              (omega (arith, l.top-down, l.bottom, l.down-most)) e.down (down_is e made) d (omega arith),
-          l.top-down,
-        )
+    row_low = omega (arith, rows.within d on, l.top-down)
 
     row_count : ((e.down.first - n) * e.down.rate + e.down.start) / fine ≡ r
-    row_count =
-        counted u top (F - u * top) k.nul (k.nll + 1 - k.nul) rows-some (omega (arith, l.rows.most)) rest-low (omega (arith, l.top-down))
-        (omega (arith, l.top-down, l.bottom, l.down-most)) e.down (down_is e made) d (omega (arith, top-low))
+    row_count = rows.counted d (omega (arith, top-low))
 
     row-found : row_of e.pair e.card (pos n -ℤ pos 32400000) ≡ pos r
     row-found =
@@ -152,6 +144,12 @@ module _ (e : Engine) (made : Made e) where
   pub left-low : e.across.first < 129600000
   left-low = rw (across-is e made) (mod-lt (G / v) {m = circle} (omega arith))
 
+  columns : Counts v (G % v) k.nls (k.nus + 1 - k.nls) e.across
+  columns =
+      counts v (G / v % circle) (G % v) k.nls (k.nus + 1 - k.nls) columns-some (omega (arith, l.columns.most))
+      (omega (arith, mod-lt G columns-some, l.columns.most)) (omega (arith, l.left-right))
+      (omega (arith, l.left-right, l.right, l.across-most)) e.across (across-is e made)
+
   -- a longitude n hundredths from 180° west, on the chart
   module _ (n : ℕ) (on : (n + e.across.first) % circle ≤ e.across.most) where
     abbrev i : ℕ
@@ -164,26 +162,13 @@ module _ (e : Engine) (made : Made e) where
     i-low = mod-lt (n + e.across.first) {m = circle} (omega arith)
 
     pub column-fits-63 : (n + e.across.first) % circle * e.across.rate + e.across.start < 9223372036854775808
-    column-fits-63 =
-        fits v (G / v % circle) (G % v) k.nls (k.nus + 1 - k.nls) columns-some (omega (arith, l.columns.most))
-        (omega (arith, mod-lt G columns-some, l.columns.most)) (omega (arith, l.left-right))
-        (omega (arith, l.left-right, l.right, l.across-most)) e.across (across-is e made) i i-low on
+    column-fits-63 = columns.fits i i-low on
 
     column-low : c ≤ k.nus
-    column-low =
-        omega (
-          arith,
-          within v (G / v % circle) (G % v) k.nls (k.nus + 1 - k.nls) columns-some (omega (arith, l.columns.most))
-              (omega (arith, mod-lt G columns-some, l.columns.most)) (omega (arith, l.left-right))
-              (omega (arith, l.left-right, l.right, l.across-most)) e.across (across-is e made) i on,
-          l.left-right,
-        )
+    column-low = omega (arith, columns.within i on, l.left-right)
 
     column-count : ((n + e.across.first) % circle * e.across.rate + e.across.start) / fine ≡ c
-    column-count =
-        counted v (G / v % circle) (G % v) k.nls (k.nus + 1 - k.nls) columns-some (omega (arith, l.columns.most))
-        (omega (arith, mod-lt G columns-some, l.columns.most)) (omega (arith, l.left-right))
-        (omega (arith, l.left-right, l.right, l.across-most)) e.across (across-is e made) i i-low
+    column-count = columns.counted i i-low
 
     column-found : column_of e.pair e.card (pos n -ℤ pos 64800000) ≡ pos c
     column-found =
@@ -220,7 +205,7 @@ module _ (e : Engine) (made : Made e) where
   -- ---- a position on the chart
   module _ (n m : ℕ) (h : n ≤ 64800000) (le : n ≤ e.down.first) (on-d : e.down.first - n ≤ e.down.most)
       (on-i : (m + e.across.first) % circle ≤ e.across.most) where
-    pub held-pixel : PixelAnswer.At (pos (((e.down.first - n) * e.down.rate + e.down.start) / fine))
+    pub held-pixel : at_pixel (pos (((e.down.first - n) * e.down.rate + e.down.start) / fine))
         (pos (((m + e.across.first) % circle * e.across.rate + e.across.start) / fine))
         ≡ pixel_at e.card (row_of e.pair e.card (pos n -ℤ pos 32400000)) (column_of e.pair e.card (pos m -ℤ pos 64800000))
     held-pixel =
@@ -234,4 +219,4 @@ module _ (e : Engine) (made : Made e) where
           le-leb x k.nus (column-low m on-i),
         ) in
         rw (row-found n h le on-d, column-found m on-i, chart-tiles k (pos y) (pos x) l chart, chart)
-        (ap₂ PixelAnswer.At (ap pos (row_count n h le on-d)) (ap pos (column-count m on-i)))
+        (ap₂ at_pixel (ap pos (row_count n h le on-d)) (ap pos (column-count m on-i)))

@@ -1,4 +1,4 @@
--- Lists of pixels and of positions of one card, in either pair (01, "Origins and the zone grid"; 02, E8). Definitions only.
+-- Lists of pixels and of positions of one card, in either pair. Definitions only.
 --     entries n              the entries in a list of length n: a row and a column, or a latitude and a longitude each
 --     lists_fit h o n        the length h handed in is even, the list to fill, of length o, is no shorter, and there is a number for each entry
 --     lists_verdict h o n    6 where they do not fit
@@ -9,11 +9,11 @@
 --     pixel_report_at p k qs i     the report of position i of the list
 --     report_values, report_numbers  the value parts, and the numbers, of the first n reports
 --     values_left, numbers_left    what the list to fill and the numbers hold at the end
-use Rattle.std.specs.Prelude.{ℕ, ◌+◌, ◌*◌, ◌/◌, ◌%◌, List, [], ◌∷◌, Bool, cond, ◌&&◌, leb, eqb, length, get_or, ℤ, pos}
+use Rattle.std.specs.Prelude.{ℕ, ◌+◌, ◌*◌, ◌/◌, ◌%◌, List, [], ◌∷◌, Bool, cond, Result, Ok, Err, ◌&&◌, leb, eqb, length, get_or, ℤ, pos}
 use Rattle.whole.specs.Lists.{each, over}
-use Rattle.arc.specs.declared.Verdict.{Verdict}
-use Rattle.arc.specs.Refusals.{refusal, Report}
-use Rattle.card.specs.declared.Card.{Card}
+use Rattle.arc.specs.declared.refusal.Refusal.{Refusal}
+use Rattle.arc.specs.Refusals.{Report}
+use Rattle.card_text.specs.declared.Fields.{Fields}
 use Rattle.card.specs.declared.Pair.{Pair}
 use Rattle.lists.specs.declared.Asked.{Asked}
 use Rattle.lists.specs.declared.Entry.{Entry}
@@ -25,23 +25,23 @@ entries n = n / 2
 abbrev pub lists_fit : ℕ → ℕ → ℕ → Bool
 lists_fit h o n = eqb (h % 2) 0 && leb h o && leb (entries h) n
 
-abbrev pub lists_verdict : ℕ → ℕ → ℕ → Verdict
-lists_verdict h o n = cond (lists_fit h o n) Verdict.Accepted (Verdict.Refused (refusal 6))
+abbrev pub lists_verdict : ℕ → ℕ → ℕ → Result Unit Refusal
+lists_verdict h o n = cond (lists_fit h o n) (Ok tt) (Err Refusal.Length)
 
 abbrev pub entry_at : List ℤ → ℕ → Entry
 entry_at ps i = record { first = get_or ps (2 * i) (pos 0); second = get_or ps (2 * i + 1) (pos 0) }
 
-abbrev pub asked_report : Pair → Asked → Card → ℤ → ℤ → Report
+abbrev pub asked_report : Pair → Asked → Fields → ℤ → ℤ → Report
 asked_report p Asked.Positions k x y = position_report (position_of p k x y)
 asked_report p Asked.Pixels k x y = pixel_report (pixel_of p k x y)
 
-abbrev pub report_at : Pair → Asked → Card → List ℤ → ℕ → Report
+abbrev pub report_at : Pair → Asked → Fields → List ℤ → ℕ → Report
 report_at p asked k ps i = asked_report p asked k (entry_at ps i).first (entry_at ps i).second
 
-abbrev pub position_report_at : Pair → Card → List ℤ → ℕ → Report
+abbrev pub position_report_at : Pair → Fields → List ℤ → ℕ → Report
 position_report_at p k ps i = report_at p Asked.Positions k ps i
 
-abbrev pub pixel_report_at : Pair → Card → List ℤ → ℕ → Report
+abbrev pub pixel_report_at : Pair → Fields → List ℤ → ℕ → Report
 pixel_report_at p k qs i = report_at p Asked.Pixels k qs i
 
 abbrev pub report_values : ℕ → (ℕ → Report) → List ℤ

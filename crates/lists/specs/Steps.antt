@@ -1,100 +1,19 @@
--- What only the code needs: the engine, the numbers that a card gives once, so that no pixel of it needs a division by A or B
--- (001, 3.4.3, 3.4.4; 02, E8). Definitions only; that what is answered from it is the plain rule's is the contract of `charted.rt`. H / A is 506,250 / 2u,
--- where u is A / 512.
---     scale_up one x d    the smallest whole number not below x × one / d
---     start_of rest d off what the rounding starts from, the angles being taken off or added
---     shift_of p          how far south and east of a pixel's corner the pair's exact place is, a pixel being 506,250
---     axis_of x from off  the angle of the first pixel of an axis in 2^36ths of a hundredth, x pixels making a circle, and what a pixel adds or takes off
---     axis_at first d off the same, by the nearest's numerator and denominator at the first pixel
---     row_axis p k        the northings of the rows, taken off that of row 0
---     column_axis p k     the eastings of the columns, added to that of column 0
---     span_of u first rest low n   the hundredths of n pixels from pixel low on, the first having rest and each adding u to it, a pixel being 253,125
---     lesser x y        the lesser of two numbers
---     down_of, across_of  the chart's rows and columns, by u and by what their first edge has
---     down_span p k       the chart's rows, counted southward, from no farther north than the pole
---     across_span p k     the chart's columns, counted eastward round the circle
+-- What only the code needs: the engine, the numbers that a card gives once in a pair. Definitions only.
+--     chart_of e          the card and the pair of an engine
 --     engine_of p k       the engine of a card for a pair
 --     Made e              it is the engine of its card and its pair, and some accepted card gives that card
---     entry_told x        the report that the parts of an entry tell
-use Rattle.std.specs.Prelude.{◌≡◌, ℕ, ◌+◌, ◌-◌, ◌*◌, ◌/◌, ◌%◌, Bool, true, false, cond, ltb, [], ◌∷◌}
-use Rattle.arc.specs.Refusals.{Report}
-use Rattle.arc.specs.Zones.{circle, half}
-use Rattle.card.specs.declared.Card.{Card}
+use Rattle.std.specs.Prelude.{◌≡◌}
+use Rattle.card_text.specs.declared.Fields.{Fields}
 use Rattle.card.specs.declared.Pair.{Pair}
-use Rattle.card.specs.Read.{Known}
-use Rattle.card.specs.Steps.{inward}
-use Rattle.lists.specs.declared.EntryParts.{EntryParts}
-use Rattle.lists.specs.declared.engine.Axis.{Axis}
-use Rattle.lists.specs.declared.engine.Span.{Span}
-use Rattle.lists.specs.declared.engine.Engine.{Engine}
+use Rattle.card_text.specs.Read.{Known}
+use Rattle.lists.specs.Axes.{row_axis, column_axis, down_span, across_span}
+use Rattle.lists.specs.Chart.{Chart}
+use Rattle.lists.specs.declared.engine.Engine.TheInside.{Inside}
 
-abbrev pub scale_up : ℕ → ℕ → ℕ → ℕ
-scale_up one x d = (x * one + (d - 1)) / d
+abbrev pub chart_of : Inside → Chart
+chart_of e = record { card = e.card; pair = e.pair }
 
--- 2^36 and 2^45
-abbrev pub coarse : ℕ
-coarse = 68719476736
-
-abbrev pub fine : ℕ
-fine = 35184372088832
-
-abbrev pub start_of : ℕ → ℕ → Bool → ℕ
-start_of rest d off = cond off (d - 1 - rest) rest
-
-abbrev pub axis_at : ℕ → ℕ → Bool → Axis
-axis_at first d off =
-    record {
-      from = first / d * coarse + start_of (scale_up coarse (start_of (first % d) d off) d) coarse off;
-      rate = scale_up coarse 506250 d;
-    }
-
-abbrev pub shift_of : Pair → ℕ
-shift_of p = inward p / 256
-
--- the nearest's numerator at the exact place of a pixel, its factor 512 taken out, u added
-abbrev pub axis_of : ℕ → ℕ → Bool → Axis
-axis_of x from off = axis_at (from + x / 512) (2 * (x / 512)) off
-
--- 506,250 × 128n less the shift, counted from the South Pole
-abbrev pub row_axis : Pair → Card → Axis
-row_axis p k = axis_of k.b (506250 * k.north - shift_of p) true
-
--- 506,250 × 128m and the shift, counted from 180° west
-abbrev pub column_axis : Pair → Card → Axis
-column_axis p k = axis_of k.a (506250 * k.east + shift_of p) false
-
--- i hundredths past the first is pixel low + (u i + rest) / 253,125, and the last hundredth in the n pixels is `most` past the first
-abbrev pub span_of : ℕ → ℕ → ℕ → ℕ → ℕ → Span
-span_of u first rest low n =
-    record {
-      first = first;
-      most = (253125 * n - 1 - rest) / u;
-      rate = scale_up fine u 253125;
-      start = scale_up fine rest 253125 + low * fine;
-    }
-
-abbrev pub lesser : ℕ → ℕ → ℕ
-lesser x y = cond (ltb x y) x y
-
-abbrev pub down_of : ℕ → ℕ → Card → Span
-down_of u from k = span_of u (lesser (from / u) half) (from - u * lesser (from / u) half) k.nul (k.nll + 1 - k.nul)
-
-abbrev pub across_of : ℕ → ℕ → Card → Span
-across_of u from k = span_of u (from / u % circle) (from % u) k.nls (k.nus + 1 - k.nls)
-
--- half a pixel, rounded down, is added for the nearest, nothing for the floor
-abbrev pub up_of : Pair → ℕ
-up_of p = (253125 - shift_of p) / 2
-
--- 253,125 × (128n − NUL), counted from the South Pole
-abbrev pub down_span : Pair → Card → Span
-down_span p k = down_of (k.b / 512) (253125 * (k.north - k.nul) + up_of p) k
-
--- 253,125 × (2A − 128m − NLS), counted from 180° west
-abbrev pub across_span : Pair → Card → Span
-across_span p k = across_of (k.a / 512) (253125 * (2 * k.a - (k.east + k.nls)) + up_of p) k
-
-unfoldable pub engine_of : Pair → Card → Engine
+unfoldable pub engine_of : Pair → Fields → Inside
 engine_of p k =
     record {
       card = k;
@@ -105,9 +24,6 @@ engine_of p k =
       across = across_span p k;
     }
 
-pub record Made (e : Engine) : Type 0 where
+pub record Made (e : Inside) : Type 0 where
   pub known : Known e.card
   pub same : e ≡ engine_of e.pair e.card
-
-abbrev pub entry_told : EntryParts → Report
-entry_told x = record { number = x.number; place = x.at; values = x.first ∷ x.second ∷ [] }

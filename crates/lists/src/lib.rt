@@ -1,23 +1,20 @@
-// Lists of pixels and of positions of one card, in either pair (01, "Origins and the zone grid"; 02, E8).
+// Lists of pixels and of positions of one card, in either pair.
 #![tactic(auto)]
 
-ghost use Rattle.std.specs.Prelude.{◌≡◌, true, ◌+◌, ◌≤◌, ◌<◌, length, set};
-ghost use Rattle.whole.specs.Lists.{over};
+ghost use Rattle.std.specs.Prelude.{◌≡◌, true, ◌+◌, ◌*◌, ◌≤◌, ◌<◌, length, set};
 ghost use Rattle.card.specs.declared.Pair.{Pair};
-ghost use Rattle.card.specs.Read.{Known};
-ghost use Rattle.lists.specs.Steps.{Made, entry_told};
-ghost use Rattle.lists.specs.Entries.{entry_from, Even, ChartedEntries, AskedEntries, zeros};
-ghost use Rattle.lists.specs.Lists.{lists_fit, lists_verdict, asked_report, report_at, position_report_at, pixel_report_at, values_left, numbers_left};
+ghost use Rattle.lists.specs.Entries.{entry_told, Agrees, ChartedEntries, AskedEntries};
+ghost use Rattle.lists.specs.Lists.{entries, lists_fit, lists_verdict, entry_at, asked_report, report_at, position_report_at, pixel_report_at, values_left, numbers_left};
 
-use arc::Verdict;
+use arc::Refusal;
 use card::{Card, Pair};
-use charted::Charted;
 use engine::Engine;
 
-mod charted;
+mod axis;
 mod engine;
 
-// What is asked of each entry of a list: the position of a pixel, or the pixel at a position.
+/// What is asked of each entry of a list: the position of a pixel, or the pixel at a position.
+// An enum, which the library for C hands on: two tests of it here are plainer than a trait, two types and its law.
 #[derive(Clone, Copy)]
 pub enum Asked {
     Positions,
@@ -28,7 +25,7 @@ pub enum Asked {
 fn lists_fit(handed: usize, fill: usize, numbers: usize) -> bool
     ensures { result ≡ lists_fit handed fill numbers }
 {
-    (handed % 2 == 0) & (handed <= fill) & (handed / 2 <= numbers)
+    handed % 2 == 0 && handed <= fill && handed / 2 <= numbers
 }
 
 // A row and a column, or a latitude and a longitude.
@@ -38,210 +35,187 @@ struct Entry {
     second: i64,
 }
 
-// The entry that starts at an element of a list.
-fn entry_at(list: &[i64], at: usize) -> Entry
-    requires { at + 1 < length list.now }
-    ensures { result ≡ entry_from list.now at }
+// Entry i of a list.
+fn entry_at(list: &[i64], i: usize) -> Entry
+    requires { 2 * i + 1 < length list.now }
+    ensures { result ≡ entry_at list.now i }
 {
-    let first = list[at];
-    let second = list[at + 1];
-    Entry { first, second }
+    Entry {
+        first: list[2 * i],
+        second: list[2 * i + 1],
+    }
 }
 
-// Two values from an element of a list on.
-fn put_values(list: &mut [i64], at: usize, first: i64, second: i64)
-    requires { at + 1 < length list.old }
-    ensures { list.new ≡ set (set list.old at first) (at + 1) second }
+// Entry i of a list that is filled: by index, since std does not say what a slice cut in pairs ends as.
+fn put_entry(list: &mut [i64], i: usize, entry: Entry)
+    requires { 2 * i + 1 < length list.old }
+    ensures { list.new ≡ set (set list.old (2 * i) entry.first) (2 * i + 1) entry.second }
 {
-    list[at] = first;
-    list[at + 1] = second;
+    list[2 * i] = entry.first;
+    list[2 * i + 1] = entry.second;
 }
 
-// Number i.
-fn put_number(numbers: &mut [u32], i: usize, number: u32)
-    requires { i < length numbers.old }
-    ensures { numbers.new ≡ set numbers.old i number }
-{
-    numbers[i] = number;
-}
-
-// What is told of an entry: number, place, and two values.
-#[derive(Clone, Copy)]
-struct EntryParts {
-    number: u32,
-    at: u64,
-    first: i64,
-    second: i64,
-}
-
-// What the card tells of an entry.
-fn answer_entry(pair: Pair, k: Card, asked: Asked, first: i64, second: i64) -> EntryParts
-    requires { Known k }
-    ensures { entry_told result ≡ asked_report pair asked k first second }
-{
-    match asked {
-        Asked::Positions => {
-            let p = k.position_in(pair, first, second).into_parts();
-            EntryParts {
-                number: p.number,
-                at: p.at,
-                first: p.lat,
-                second: p.lon,
+impl Asked {
+    // What the card tells of an entry.
+    fn of_card(self, engine: Engine, entry: Entry) -> Result<Entry, Refusal>
+        ensures { entry_told result ≡ asked_report engine.pair self engine.card entry.first entry.second }
+    {
+        let pair = engine.pair();
+        let card = engine.card();
+        match self {
+            Asked::Positions => {
+                let position = card.position_in(pair, entry.first, entry.second)?;
+                Ok(Entry {
+                    first: position.lat,
+                    second: position.lon,
+                })
+            }
+            Asked::Pixels => {
+                let pixel = card.pixel_in(pair, entry.first, entry.second)?;
+                Ok(Entry {
+                    first: pixel.row,
+                    second: pixel.column,
+                })
             }
         }
-        Asked::Pixels => {
-            let p = k.pixel_in(pair, first, second).into_parts();
-            EntryParts {
-                number: p.number,
-                at: p.at,
-                first: p.row,
-                second: p.column,
-            }
+    }
+
+    // The same without a division, where the entry is on the chart.
+    fn on_chart(self, engine: Engine, entry: Entry) -> Option<Entry>
+        ensures { Agrees result (asked_report engine.pair self engine.card entry.first entry.second) }
+    {
+        match self {
+            Asked::Positions => engine.position(entry.first, entry.second),
+            Asked::Pixels => engine.pixel(entry.first, entry.second),
         }
     }
 }
 
-// Zero in the first n numbers.
-fn clear(numbers: &mut [u32], n: usize)
-    requires { n ≤ length numbers.old }
-    ensures { numbers.new ≡ over (zeros n) numbers.old }
-{
-    let mut i = 0;
-    while i < n {
-        numbers[i] = 0;
-        i += 1;
-    }
-}
-
-// The entries from an element of the list on, as far as the engine answers them; the element where the first stands that it does not, or the length.
-fn fill_charted(e: Engine, asked: Asked, list: &[i64], values: &mut [i64], from: usize) -> usize
-    requires made { Made e }
-    requires pairs { Even (length list.now) }
-    requires values_fit { length list.now ≤ length values.old }
-    requires from_pair { Even from }
-    requires from_within { from ≤ length list.now }
-    ensures { ChartedEntries (report_at e.pair asked e.card list.now) (length list.now) from result
+// The entries of the list from one on, as far as the engine answers them; the first that it does not, or how many they are.
+fn fill_charted(
+    engine: Engine,
+    asked: Asked,
+    list: &[i64],
+    values: &mut [i64],
+    from: usize,
+) -> usize
+    requires fit { length list.now ≤ length values.old }
+    requires from_within { from ≤ entries (length list.now) }
+    ensures { ChartedEntries (report_at engine.pair asked engine.card list.now) (entries (length list.now)) from result
         values.old values.new }
 {
-    let west = charted::west_of(e);
-    let n = list.len();
-    let mut i = from;
-    while i < n {
-        let x = entry_at(list, i);
-        match charted::on_chart(e, west, asked, x.first, x.second) {
-            Charted::At { first, second } => {
-                put_values(values, i, first, second);
-            }
-            Charted::Off => {
-                return i;
-            }
-        }
-        i += 2;
+    for i in from..list.len() / 2 {
+        let Some(charted) = asked.on_chart(engine, entry_at(list, i)) else {
+            return i;
+        };
+        put_entry(values, i, charted);
     }
-    i
+    list.len() / 2
 }
 
-// The entries from an element of the list on, asked of the card up to the first that it does not refuse; the element after them.
+// The entries of the list from one on, asked of the card up to the first that it does not refuse; the entry after them.
 fn fill_asked(
-    pair: Pair,
-    k: Card,
+    engine: Engine,
     asked: Asked,
     list: &[i64],
     values: &mut [i64],
     numbers: &mut [u32],
     from: usize,
 ) -> usize
-    requires known { Known k }
     requires fit { lists_fit (length list.now) (length values.old) (length numbers.old) ≡ true }
-    requires from_pair { Even from }
-    requires from_within { from < length list.now }
-    ensures told { AskedEntries (report_at pair asked k list.now) (length list.now) from result
+    requires from_within { from < entries (length list.now) }
+    ensures told { AskedEntries (report_at engine.pair asked engine.card list.now) (entries (length list.now)) from result
         values.old values.new numbers.old numbers.new }
     ensures further { from < result }
 {
-    let n = list.len();
-    let mut i = from;
-    while i < n {
-        let x = entry_at(list, i);
-        let p = answer_entry(pair, k, asked, x.first, x.second);
-        put_values(values, i, p.first, p.second);
-        put_number(numbers, i / 2, p.number);
-        i += 2;
-        if p.number == 0 {
-            return i;
+    for i in from..list.len() / 2 {
+        match asked.of_card(engine, entry_at(list, i)) {
+            Ok(answer) => {
+                put_entry(values, i, answer);
+                numbers[i] = 0;
+                return i + 1;
+            }
+            Err(refusal) => {
+                let nothing = Entry {
+                    first: 0,
+                    second: 0,
+                };
+                put_entry(values, i, nothing);
+                numbers[i] = refusal.number();
+            }
         }
     }
-    i
+    list.len() / 2
 }
 
 // What is told of each entry: by the engine, and by the card where the engine stops.
-fn fill(e: Engine, asked: Asked, list: &[i64], values: &mut [i64], numbers: &mut [u32])
-    requires made { Made e }
-    requires fit { lists_fit (length list.now) (length values.old) (length numbers.old) ≡ true }
+fn fill(engine: Engine, asked: Asked, list: &[i64], values: &mut [i64], numbers: &mut [u32])
+    requires { lists_fit (length list.now) (length values.old) (length numbers.old) ≡ true }
     ensures values { values.new
-        ≡ values_left (report_at e.pair asked e.card) list.now values.old numbers.old }
+        ≡ values_left (report_at engine.pair asked engine.card) list.now values.old numbers.old }
     ensures numbers { numbers.new
-        ≡ numbers_left (report_at e.pair asked e.card) list.now values.old numbers.old }
+        ≡ numbers_left (report_at engine.pair asked engine.card) list.now values.old numbers.old }
 {
-    let pair = e.pair;
-    let k = e.card;
-    let n = list.len();
-    clear(numbers, n / 2);
-    let mut i = fill_charted(e, asked, list, values, 0);
+    let n = list.len() / 2;
+    numbers[..n].fill(0);
+    let mut i = fill_charted(engine, asked, list, values, 0);
     while i < n {
-        i = fill_asked(pair, k, asked, list, values, numbers, i);
-        i = fill_charted(e, asked, list, values, i);
+        i = fill_asked(engine, asked, list, values, numbers, i);
+        i = fill_charted(engine, asked, list, values, i);
     }
 }
 
-// The answers to the entries of a list, in either pair; a number is 0 where its entry is answered. Refuses 6, and then both lists stay.
+/// The answers to the entries of a list, in either pair; a number is 0 where its entry is answered. Refuses 6, and then both lists stay.
 pub fn answer_list(
     pair: Pair,
-    k: Card,
+    card: Card,
     asked: Asked,
     list: &[i64],
     values: &mut [i64],
     numbers: &mut [u32],
-) -> Verdict
-    requires { Known k }
+) -> Result<(), Refusal>
     ensures answer { result ≡ lists_verdict (length list.now) (length values.old) (length numbers.old) }
-    ensures values { values.new ≡ values_left (report_at pair asked k) list.now values.old numbers.old }
-    ensures numbers { numbers.new ≡ numbers_left (report_at pair asked k) list.now values.old numbers.old }
+    ensures values { values.new ≡ values_left (report_at pair asked card) list.now values.old numbers.old }
+    ensures numbers { numbers.new
+        ≡ numbers_left (report_at pair asked card) list.now values.old numbers.old }
 {
     if !lists_fit(list.len(), values.len(), numbers.len()) {
-        return Verdict::Refused(arc::refused(6));
+        return Err(Refusal::Length);
     }
-    fill(engine::engine_of(pair, k), asked, list, values, numbers);
-    Verdict::Accepted
+    fill(Engine::of(pair, card), asked, list, values, numbers);
+    Ok(())
 }
 
-// The positions of the centres of a list of pixels; a number is 0 where its pixel is answered. Refuses 6, and then both lists stay.
-pub fn positions(k: Card, pixels: &[i64], positions: &mut [i64], numbers: &mut [u32]) -> Verdict
-    requires { Known k }
+/// The positions of the centres of a list of pixels; a number is 0 where its pixel is answered. Refuses 6, and then both lists stay.
+pub fn positions(
+    card: Card,
+    pixels: &[i64],
+    positions: &mut [i64],
+    numbers: &mut [u32],
+) -> Result<(), Refusal>
     ensures answer { result ≡ lists_verdict (length pixels.now) (length positions.old) (length numbers.old) }
     ensures positions { positions.new
-        ≡ values_left (position_report_at Pair.Centre k) pixels.now positions.old numbers.old }
+        ≡ values_left (position_report_at Pair.Centre card) pixels.now positions.old numbers.old }
     ensures numbers { numbers.new
-        ≡ numbers_left (position_report_at Pair.Centre k) pixels.now positions.old numbers.old }
+        ≡ numbers_left (position_report_at Pair.Centre card) pixels.now positions.old numbers.old }
 {
-    answer_list(
-        Pair::Centre,
-        k,
-        Asked::Positions,
-        pixels,
-        positions,
-        numbers,
-    )
+    let asked = Asked::Positions;
+    answer_list(Pair::Centre, card, asked, pixels, positions, numbers)
 }
 
-// The pixels that contain a list of positions, likewise.
-pub fn pixels(k: Card, positions: &[i64], pixels: &mut [i64], numbers: &mut [u32]) -> Verdict
-    requires { Known k }
+/// The pixels that contain a list of positions, likewise.
+pub fn pixels(
+    card: Card,
+    positions: &[i64],
+    pixels: &mut [i64],
+    numbers: &mut [u32],
+) -> Result<(), Refusal>
     ensures answer { result ≡ lists_verdict (length positions.now) (length pixels.old) (length numbers.old) }
     ensures pixels { pixels.new
-        ≡ values_left (pixel_report_at Pair.Centre k) positions.now pixels.old numbers.old }
+        ≡ values_left (pixel_report_at Pair.Centre card) positions.now pixels.old numbers.old }
     ensures numbers { numbers.new
-        ≡ numbers_left (pixel_report_at Pair.Centre k) positions.now pixels.old numbers.old }
+        ≡ numbers_left (pixel_report_at Pair.Centre card) positions.now pixels.old numbers.old }
 {
-    answer_list(Pair::Centre, k, Asked::Pixels, positions, pixels, numbers)
+    let asked = Asked::Pixels;
+    answer_list(Pair::Centre, card, asked, positions, pixels, numbers)
 }
