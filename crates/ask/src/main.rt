@@ -4,7 +4,7 @@
 //! Lent bytes are `*`, lent numbers 7. In the store's k-th tile each red byte is k, each green byte its row, each blue byte 128 + its column.
 #![tactic(auto)]
 
-ghost use Rattle.std.specs.Prelude.{◌≤◌, length, IfOk};
+ghost use Rattle.std.specs.Prelude.{◌≡◌, ◌≤◌, length, IfOk};
 
 use fault::Fault;
 use std::io;
@@ -58,6 +58,13 @@ fn answer(rt: &HostRuntime, line: &[u8], store: &[u8]) -> io::Result<()> {
     }
 }
 
+/// 1 MiB and a byte, as long as they are: the check would unfold an array of that length where `main` takes a part of it.
+fn sized(bytes: [u8; 1_048_577]) -> [u8; 1_048_577]
+    ensures { 1048577 ≡ length result }
+{
+    bytes
+}
+
 /// Reads until the buffer is full or the input ends, and returns how many bytes it put at the buffer's start.
 fn read_full<R: Read>(reader: &mut R, buffer: &mut [u8]) -> io::Result<usize>
     ensures { IfOk result (λ n. n ≤ length buffer.new) }
@@ -75,12 +82,12 @@ fn read_full<R: Read>(reader: &mut R, buffer: &mut [u8]) -> io::Result<usize>
 }
 
 fn main(rt: HostRuntime) -> io::Result<()> {
-    let mut input = [0; MEBIBYTE + 1];
+    let mut input = sized([0; MEBIBYTE + 1]);
     let n = read_full(&mut rt.stdin(), &mut input)?;
     if MEBIBYTE < n {
         return println!(rt; "input too long");
     }
-    let mut store = [0; MEBIBYTE + 1];
+    let mut store = sized([0; MEBIBYTE + 1]);
     fill(&mut store);
     for line in input[..n].split_inclusive(|byte| *byte == b'\n') {
         answer(&rt, line.strip_suffix(b"\n").unwrap_or(line), &store)?;
