@@ -6,6 +6,7 @@ use crate::stated::{Card, MOST};
 use crate::words::Words;
 use fordcask::{CardParts, RecordParts};
 
+/// `read_card SCALE FACTOR ZONE CARD`: what the card holds.
 pub fn read_card(rt: &HostRuntime, words: &mut Words<'_>) -> Result<(), Fault> {
     let mut bytes = [0; MOST];
     let card = words.card(&mut bytes)?;
@@ -13,6 +14,7 @@ pub fn read_card(rt: &HostRuntime, words: &mut Words<'_>) -> Result<(), Fault> {
     print_card(rt, fordcask::fordcask_read_card(card.series, card.bytes))
 }
 
+/// `read_strict SCALE FACTOR ZONE CARD`: the same, with no blank before a digit.
 pub fn read_strict(rt: &HostRuntime, words: &mut Words<'_>) -> Result<(), Fault> {
     let mut bytes = [0; MOST];
     let card = words.card(&mut bytes)?;
@@ -54,6 +56,7 @@ fn record(words: &mut Words<'_>) -> Result<RecordParts, BadLine> {
     Ok(record)
 }
 
+/// `write_card SCALE FACTOR ZONE N M NUL NUS NLL NLS NFL NFC BAD TIF LENGTH`: the output that is lent.
 pub fn write_card(rt: &HostRuntime, words: &mut Words<'_>) -> Result<(), Fault> {
     let mut out = [b'*'; MOST];
     let series = words.series()?;
@@ -65,6 +68,7 @@ pub fn write_card(rt: &HostRuntime, words: &mut Words<'_>) -> Result<(), Fault> 
     Ok(())
 }
 
+/// `extents SCALE FACTOR ZONE CARD`: the edges and the tiles.
 pub fn extents(rt: &HostRuntime, words: &mut Words<'_>) -> Result<(), Fault> {
     let mut bytes = [0; MOST];
     let card = words.card(&mut bytes)?;
@@ -75,6 +79,7 @@ pub fn extents(rt: &HostRuntime, words: &mut Words<'_>) -> Result<(), Fault> {
     Ok(())
 }
 
+/// `place SCALE FACTOR ZONE CARD ROW COLUMN`: the place on the zone grid.
 pub fn place(rt: &HostRuntime, words: &mut Words<'_>) -> Result<(), Fault> {
     let mut bytes = [0; MOST];
     let Card { series, bytes } = words.card(&mut bytes)?;
@@ -92,6 +97,7 @@ pub fn place(rt: &HostRuntime, words: &mut Words<'_>) -> Result<(), Fault> {
     Ok(())
 }
 
+/// `position SCALE FACTOR ZONE CARD ROW COLUMN`: the position of the pixel's centre.
 pub fn position(rt: &HostRuntime, words: &mut Words<'_>) -> Result<(), Fault> {
     let mut bytes = [0; MOST];
     let Card { series, bytes } = words.card(&mut bytes)?;
@@ -109,6 +115,7 @@ pub fn position(rt: &HostRuntime, words: &mut Words<'_>) -> Result<(), Fault> {
     Ok(())
 }
 
+/// `corner_position SCALE FACTOR ZONE CARD ROW COLUMN`: the position of the pixel's corner.
 pub fn corner_position(rt: &HostRuntime, words: &mut Words<'_>) -> Result<(), Fault> {
     let mut bytes = [0; MOST];
     let Card { series, bytes } = words.card(&mut bytes)?;
@@ -126,6 +133,7 @@ pub fn corner_position(rt: &HostRuntime, words: &mut Words<'_>) -> Result<(), Fa
     Ok(())
 }
 
+/// `pixel SCALE FACTOR ZONE CARD LAT LON`: the pixel that contains the position.
 pub fn pixel(rt: &HostRuntime, words: &mut Words<'_>) -> Result<(), Fault> {
     let mut bytes = [0; MOST];
     let Card { series, bytes } = words.card(&mut bytes)?;
@@ -144,6 +152,7 @@ pub fn pixel(rt: &HostRuntime, words: &mut Words<'_>) -> Result<(), Fault> {
     Ok(())
 }
 
+/// `corner_pixel SCALE FACTOR ZONE CARD LAT LON`: the pixel whose corner is nearest.
 pub fn corner_pixel(rt: &HostRuntime, words: &mut Words<'_>) -> Result<(), Fault> {
     let mut bytes = [0; MOST];
     let Card { series, bytes } = words.card(&mut bytes)?;
@@ -162,6 +171,7 @@ pub fn corner_pixel(rt: &HostRuntime, words: &mut Words<'_>) -> Result<(), Fault
     Ok(())
 }
 
+/// `judge_pixel SCALE FACTOR ZONE CARD ROW COLUMN`: no values.
 pub fn judge_pixel(rt: &HostRuntime, words: &mut Words<'_>) -> Result<(), Fault> {
     let mut bytes = [0; MOST];
     let card = words.card(&mut bytes)?;
@@ -172,7 +182,7 @@ pub fn judge_pixel(rt: &HostRuntime, words: &mut Words<'_>) -> Result<(), Fault>
     Ok(())
 }
 
-/// The overview pixel of a chart's pixel.
+/// `overview_pixel`, scale, factor, zone and card of a chart and of its overview, `ROW COLUMN`: the overview's pixel.
 pub fn overview_pixel(rt: &HostRuntime, words: &mut Words<'_>) -> Result<(), Fault> {
     let mut bytes = [0; MOST];
     let mut over = [0; MOST];

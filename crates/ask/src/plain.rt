@@ -5,6 +5,7 @@ use crate::shown::{Bits, List};
 use crate::words::Words;
 use std::num::saturating_f64_to_i64;
 
+/// `spacing SCALE FACTOR ZONE`: A and B.
 pub fn spacing(rt: &HostRuntime, words: &mut Words<'_>) -> Result<(), Fault> {
     let series = words.series()?;
     words.end()?;
@@ -13,6 +14,7 @@ pub fn spacing(rt: &HostRuntime, words: &mut Words<'_>) -> Result<(), Fault> {
     Ok(())
 }
 
+/// `b_constant SCALE FACTOR`: B.
 pub fn b_constant(rt: &HostRuntime, words: &mut Words<'_>) -> Result<(), Fault> {
     let scale = words.number()?;
     let factor = words.number()?;
@@ -22,6 +24,7 @@ pub fn b_constant(rt: &HostRuntime, words: &mut Words<'_>) -> Result<(), Fault> 
     Ok(())
 }
 
+/// `basic_zone LAT`: the zone.
 pub fn basic_zone(rt: &HostRuntime, words: &mut Words<'_>) -> Result<(), Fault> {
     let lat = words.number()?;
     words.end()?;
@@ -30,6 +33,7 @@ pub fn basic_zone(rt: &HostRuntime, words: &mut Words<'_>) -> Result<(), Fault> 
     Ok(())
 }
 
+/// `cover SCALE FACTOR LAT`: the length and the slots, the unused ones too.
 pub fn cover(rt: &HostRuntime, words: &mut Words<'_>) -> Result<(), Fault> {
     let scale = words.number()?;
     let factor = words.number()?;
@@ -40,6 +44,7 @@ pub fn cover(rt: &HostRuntime, words: &mut Words<'_>) -> Result<(), Fault> {
     Ok(())
 }
 
+/// `rectangle SCALE FACTOR SOUTH NORTH`: the length and the slots, the unused ones too.
 pub fn rectangle(rt: &HostRuntime, words: &mut Words<'_>) -> Result<(), Fault> {
     let scale = words.number()?;
     let factor = words.number()?;
@@ -51,6 +56,7 @@ pub fn rectangle(rt: &HostRuntime, words: &mut Words<'_>) -> Result<(), Fault> {
     Ok(())
 }
 
+/// `align SCALE FACTOR ZONE LAT LON`: n, m, PSO and LSO.
 pub fn align(rt: &HostRuntime, words: &mut Words<'_>) -> Result<(), Fault> {
     let series = words.series()?;
     let lat = words.number()?;
@@ -61,6 +67,7 @@ pub fn align(rt: &HostRuntime, words: &mut Words<'_>) -> Result<(), Fault> {
     Ok(())
 }
 
+/// `offset LAT LON CENTRE_LAT CENTRE_LON`: the two differences, then the bits of their doubles.
 pub fn offset(rt: &HostRuntime, words: &mut Words<'_>) -> Result<(), Fault> {
     let lat = words.number()?;
     let lon = words.number()?;

@@ -1,4 +1,4 @@
-//! The questions by their names (docs/ASKING.md).
+//! The questions by their names (docs/ASKING.md), in three functions, since no function here has 40 lines.
 use crate::fault::{BadLine, Fault};
 use crate::listed::Asked;
 use crate::look_up::Wanted::{Bands, Number, Tile};

@@ -67,6 +67,7 @@ pub struct Bits(pub f64);
 
 impl fmt::Display for Bits {
     fn fmt<W: fmt::Write>(&self, f: &mut fmt::Formatter<W>) -> fmt::Result {
+        // no difference is none; `to_bits` asks
         if self.0.is_nan() {
             return Ok(());
         }

@@ -5,6 +5,7 @@ use crate::stated::{Form, Index, MOST, MOST_WORDS};
 use crate::words::Words;
 use fordcask::WindowOnCard;
 
+/// `window` or `bits_window SCALE FACTOR ZONE CARD INDEX COUNT TOP LEFT HEIGHT WIDTH`.
 pub fn window(rt: &HostRuntime, form: Form, words: &mut Words<'_>) -> Result<(), Fault> {
     let mut bytes = [0; MOST];
     let mut list = [0; MOST];
@@ -24,6 +25,7 @@ pub fn window(rt: &HostRuntime, form: Form, words: &mut Words<'_>) -> Result<(),
     print_window(rt, r)
 }
 
+/// The same with `CORRECTIONS CORRECTED` before the window.
 pub fn corrected_window(rt: &HostRuntime, form: Form, words: &mut Words<'_>) -> Result<(), Fault> {
     let mut bytes = [0; MOST];
     let mut list = [0; MOST];

@@ -68,6 +68,7 @@ fn read_bytes(word: &[u8], out: &mut [u8]) -> Option<usize>
 {
     let mut n = 0;
     let mut rest = word;
+    // a byte is one character or four, so no iterator of std gives them
     while !rest.is_empty() {
         let (byte, after) = first_byte(rest)?;
         *out.get_mut(n)? = byte;
