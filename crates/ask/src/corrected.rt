@@ -5,6 +5,7 @@ use crate::look_up::Wanted;
 use crate::shown::{Blanks, Ends};
 use crate::stated::{Corrections, Form, Index, MOST, MOST_WORDS, Pixel, Stated};
 use crate::words::Words;
+use fordcask::{BandsOnCard, CorrectedTile};
 
 /// What is asked of: an index, its store, the corrections beside it, and a pixel.
 #[derive(Clone, Copy)]
@@ -58,41 +59,42 @@ fn number(rt: &HostRuntime, q: Question<'_>) -> Result<(), Fault> {
     Ok(())
 }
 
-fn tile(rt: &HostRuntime, q: Question<'_>) -> Result<(), Fault> {
-    let Question {
-        stated: s,
-        store,
-        corrections: c,
-        pixel,
-    } = q;
+/// What the library answers.
+fn tile_of(q: Question<'_>) -> CorrectedTile {
+    let (s, c) = (q.stated, q.corrections);
+    let Pixel { row, column } = q.pixel;
     let (series, card) = (s.card.series, s.card.bytes);
-    let r = match s.index {
+    match s.index {
         Index::List(index) => fordcask::fordcask_corrected_tile(
             series,
             card,
             index,
             s.count,
-            store,
+            q.store,
             c.entries,
             c.corrected,
             c.second,
-            pixel.row,
-            pixel.column,
+            row,
+            column,
         ),
         Index::Bits(bits) => fordcask::fordcask_corrected_bits_tile(
             series,
             card,
             bits,
             s.count,
-            store,
+            q.store,
             c.entries,
             c.corrected,
             c.second,
-            pixel.row,
-            pixel.column,
+            row,
+            column,
         ),
-    };
-    let part = library::corrected_part(s, store, c, pixel);
+    }
+}
+
+fn tile(rt: &HostRuntime, q: Question<'_>) -> Result<(), Fault> {
+    let r = tile_of(q);
+    let part = library::corrected_part(q.stated, q.store, q.corrections, q.pixel);
     print!(rt;
         "{} {} {} {} {}",
         r.number, r.at, r.source, r.stored, r.offset
@@ -101,40 +103,41 @@ fn tile(rt: &HostRuntime, q: Question<'_>) -> Result<(), Fault> {
     Ok(())
 }
 
-fn bands(rt: &HostRuntime, q: Question<'_>) -> Result<(), Fault> {
-    let Question {
-        stated: s,
-        store,
-        corrections: c,
-        pixel,
-    } = q;
+/// What the library answers.
+fn bands_of(q: Question<'_>) -> BandsOnCard {
+    let (s, c) = (q.stated, q.corrections);
+    let Pixel { row, column } = q.pixel;
     let (series, card) = (s.card.series, s.card.bytes);
-    let r = match s.index {
+    match s.index {
         Index::List(index) => fordcask::fordcask_corrected_bands(
             series,
             card,
             index,
             s.count,
-            store,
+            q.store,
             c.entries,
             c.corrected,
             c.second,
-            pixel.row,
-            pixel.column,
+            row,
+            column,
         ),
         Index::Bits(bits) => fordcask::fordcask_corrected_bits_bands(
             series,
             card,
             bits,
             s.count,
-            store,
+            q.store,
             c.entries,
             c.corrected,
             c.second,
-            pixel.row,
-            pixel.column,
+            row,
+            column,
         ),
-    };
+    }
+}
+
+fn bands(rt: &HostRuntime, q: Question<'_>) -> Result<(), Fault> {
+    let r = bands_of(q);
     print!(rt; "{} {} {} {} {}", r.number, r.at, r.red, r.green, r.blue)?;
     println!(rt; "{}", Blanks(r.blanks))?;
     Ok(())
