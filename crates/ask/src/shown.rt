@@ -67,7 +67,7 @@ pub struct Bits(pub f64);
 
 impl fmt::Display for Bits {
     fn fmt<W: fmt::Write>(&self, f: &mut fmt::Formatter<W>) -> fmt::Result {
-        // no difference is none; `to_bits` asks
+        // a difference is never NaN, which `to_bits` does not take
         if self.0.is_nan() {
             return Ok(());
         }

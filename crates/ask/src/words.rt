@@ -19,6 +19,7 @@ fn number<T: FromStr>(word: &str) -> Option<T>
 where
     T::Err: Drop,
 {
+    // `parse` takes a plus, and a question has none
     if word.starts_with('+') {
         return None;
     }
