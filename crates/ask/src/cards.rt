@@ -1,133 +1,207 @@
-// Questions on a card (01, "The image card, 98 bytes", "Origins and the zone grid"; 02, E8).
-use crate::{buffer, lent, overview, print, word};
-use arc::{Refusal, Series, Verdict};
-use fordcask::CardParts;
-use std::io;
+//! Questions on a card.
+use crate::fault::{BadLine, Fault};
+use crate::library;
+use crate::shown::{Blanks, Bytes};
+use crate::stated::{Card, MOST};
+use crate::words::Words;
+use fordcask::{CardParts, RecordParts};
 
-// Whether the line is one of these questions, well formed; then it is answered.
-pub fn asked(rt: &HostRuntime, name: &[u8], line: &[u8], at: usize) -> io::Result<bool> {
-    if word::same(name, b"overview_pixel") {
-        return overview::asked(rt, line, at);
-    }
-    let mut bytes = lent::bytes();
-    let k = buffer::card(line, at, &mut bytes);
-    let n = k.length;
-    if word::ended(k.next) {
-        return on_card(rt, name, k.series, &bytes[..n]);
-    }
-    let x = word::signed(line, k.next);
-    let y = word::signed(line, x.next);
-    if word::ended(y.next) {
-        return on_pair(rt, name, k.series, &bytes[..n], x.value, y.value);
-    }
-    Ok(false)
+/// `read_card SCALE FACTOR ZONE CARD`: what the card holds.
+pub fn read_card(rt: &HostRuntime, words: &mut Words<'_>) -> Result<(), Fault> {
+    let mut bytes = [0; MOST];
+    let card = words.card(&mut bytes)?;
+    words.end()?;
+    print_card(rt, fordcask::fordcask_read_card(card.series, card.bytes))
 }
 
-fn on_card(rt: &HostRuntime, name: &[u8], series: Series, card: &[u8]) -> io::Result<bool> {
-    if word::same(name, b"read_card") {
-        read(rt, fordcask::fordcask_read_card(series, card))?;
-        return Ok(true);
-    }
-    if word::same(name, b"read_strict") {
-        read(rt, fordcask::fordcask_read_strict(series, card))?;
-        return Ok(true);
-    }
-    if word::same(name, b"extents") {
-        extents(rt, series, card)?;
-        return Ok(true);
-    }
-    Ok(false)
+/// `read_strict SCALE FACTOR ZONE CARD`: the same, with no blank before a digit.
+pub fn read_strict(rt: &HostRuntime, words: &mut Words<'_>) -> Result<(), Fault> {
+    let mut bytes = [0; MOST];
+    let card = words.card(&mut bytes)?;
+    words.end()?;
+    print_card(rt, fordcask::fordcask_read_strict(card.series, card.bytes))
 }
 
-fn on_pair(
-    rt: &HostRuntime,
-    name: &[u8],
-    series: Series,
-    card: &[u8],
-    x: i64,
-    y: i64,
-) -> io::Result<bool> {
-    if word::same(name, b"place") {
-        let r = fordcask::fordcask_place(series, card, x, y);
-        print::pair(rt, r.number, r.at, r.row, r.column, r.blanks)?;
-        return Ok(true);
-    }
-    if word::same(name, b"position") {
-        let r = fordcask::fordcask_position(series, card, x, y);
-        print::pair(rt, r.number, r.at, r.lat, r.lon, r.blanks)?;
-        return Ok(true);
-    }
-    if word::same(name, b"pixel") {
-        let r = fordcask::fordcask_pixel(series, card, x, y);
-        print::pair(rt, r.number, r.at, r.row, r.column, r.blanks)?;
-        return Ok(true);
-    }
-    if word::same(name, b"judge_pixel") {
-        let r = judged(series, card, x, y);
-        print::refusal(rt, r.number, r.at)?;
-        print::end_line(rt)?;
-        return Ok(true);
-    }
-    on_corner_pair(rt, name, series, card, x, y)
+/// What reading answered.
+fn print_card(rt: &HostRuntime, k: CardParts) -> Result<(), Fault> {
+    print!(rt; "{} {} {} {} {} {}", k.number, k.at, k.a, k.b, k.n, k.m)?;
+    print!(rt;
+        " {} {} {} {} {} {}",
+        k.nul, k.nus, k.nll, k.nls, k.nfl, k.nfc
+    )?;
+    println!(rt; " {} {}{}", Bytes(&k.bad), k.tif, Blanks(k.blanks))?;
+    Ok(())
 }
 
-// Questions that the corner pair answers.
-fn on_corner_pair(
-    rt: &HostRuntime,
-    name: &[u8],
-    series: Series,
-    card: &[u8],
-    x: i64,
-    y: i64,
-) -> io::Result<bool> {
-    if word::same(name, b"corner_position") {
-        let r = fordcask::fordcask_corner_position(series, card, x, y);
-        print::pair(rt, r.number, r.at, r.lat, r.lon, r.blanks)?;
-        return Ok(true);
+/// The words of a record, in the order of the C header.
+fn record(words: &mut Words<'_>) -> Result<RecordParts, BadLine> {
+    let mut bad = [0; 12];
+    let mut record = RecordParts {
+        n: words.number()?,
+        m: words.number()?,
+        nul: words.number()?,
+        nus: words.number()?,
+        nll: words.number()?,
+        nls: words.number()?,
+        nfl: words.number()?,
+        nfc: words.number()?,
+        bad,
+        tif: 0,
+    };
+    if words.bytes(&mut bad)?.len() != bad.len() {
+        return Err(BadLine);
     }
-    if word::same(name, b"corner_pixel") {
-        let r = fordcask::fordcask_corner_pixel(series, card, x, y);
-        print::pair(rt, r.number, r.at, r.row, r.column, r.blanks)?;
-        return Ok(true);
-    }
-    Ok(false)
+    record.bad = bad;
+    record.tif = words.number()?;
+    Ok(record)
 }
 
-// What reading answered.
-fn read(rt: &HostRuntime, k: CardParts) -> io::Result<()> {
-    let bad = k.bad;
-    print::refusal(rt, k.number, k.at)?;
-    print::naturals(rt, &[k.a, k.b])?;
-    print::signed(rt, k.n)?;
-    print::signed(rt, k.m)?;
-    print::naturals(rt, &[k.nul, k.nus, k.nll, k.nls, k.nfl, k.nfc])?;
-    print::name(rt, &bad)?;
-    print::natural(rt, k.tif as u64)?;
-    print::end_card(rt, k.blanks)
+/// `write_card SCALE FACTOR ZONE N M NUL NUS NLL NLS NFL NFC BAD TIF LENGTH`: the output that is lent.
+pub fn write_card(rt: &HostRuntime, words: &mut Words<'_>) -> Result<(), Fault> {
+    let mut out = [b'*'; MOST];
+    let series = words.series()?;
+    let record = record(words)?;
+    let out = words.lent(&mut out)?;
+    words.end()?;
+    let r = fordcask::fordcask_write_card(series, record, out);
+    println!(rt; "{} {} {}", r.number, r.at, Bytes(out))?;
+    Ok(())
 }
 
-fn extents(rt: &HostRuntime, series: Series, card: &[u8]) -> io::Result<()> {
-    let reading = card_text::read_card(series, card);
-    let verdict = reading.verdict;
-    let k = reading.card;
-    let r = verdict.refusal();
-    let e = k.extents();
-    print::answer(
-        rt,
+/// `extents SCALE FACTOR ZONE CARD`: the edges and the tiles.
+pub fn extents(rt: &HostRuntime, words: &mut Words<'_>) -> Result<(), Fault> {
+    let mut bytes = [0; MOST];
+    let card = words.card(&mut bytes)?;
+    words.end()?;
+    let (r, e) = library::extents(card);
+    print!(rt; "{} {} {} {} {}", r.number, r.at, e.nul, e.nus, e.nll)?;
+    println!(rt; " {} {} {}", e.nls, e.nfl, e.nfc)?;
+    Ok(())
+}
+
+/// `place SCALE FACTOR ZONE CARD ROW COLUMN`: the place on the zone grid.
+pub fn place(rt: &HostRuntime, words: &mut Words<'_>) -> Result<(), Fault> {
+    let mut bytes = [0; MOST];
+    let Card { series, bytes } = words.card(&mut bytes)?;
+    let pixel = words.pixel()?;
+    words.end()?;
+    let r = fordcask::fordcask_place(series, bytes, pixel.row, pixel.column);
+    println!(rt;
+        "{} {} {} {}{}",
         r.number,
         r.at,
-        &[e.nul, e.nus, e.nll, e.nls, e.nfl, e.nfc],
-    )
+        r.row,
+        r.column,
+        Blanks(r.blanks)
+    )?;
+    Ok(())
 }
 
-// What a pixel is refused with, after reading's own refusals.
-#[tactic(auto, using(fordcask::proofs::KnownCards::known_cards))]
-fn judged(series: Series, card: &[u8], row: i64, column: i64) -> Refusal {
-    let reading = card_text::read_card(series, card);
-    let verdict = reading.verdict;
-    let k = reading.card;
-    match verdict {
-        Verdict::Accepted => k.judge_pixel(row, column).refusal(),
-        Verdict::Refused(e) => e,
+/// `position SCALE FACTOR ZONE CARD ROW COLUMN`: the position of the pixel's centre.
+pub fn position(rt: &HostRuntime, words: &mut Words<'_>) -> Result<(), Fault> {
+    let mut bytes = [0; MOST];
+    let Card { series, bytes } = words.card(&mut bytes)?;
+    let pixel = words.pixel()?;
+    words.end()?;
+    let r = fordcask::fordcask_position(series, bytes, pixel.row, pixel.column);
+    println!(rt;
+        "{} {} {} {}{}",
+        r.number,
+        r.at,
+        r.lat,
+        r.lon,
+        Blanks(r.blanks)
+    )?;
+    Ok(())
+}
+
+/// `corner_position SCALE FACTOR ZONE CARD ROW COLUMN`: the position of the pixel's corner.
+pub fn corner_position(rt: &HostRuntime, words: &mut Words<'_>) -> Result<(), Fault> {
+    let mut bytes = [0; MOST];
+    let Card { series, bytes } = words.card(&mut bytes)?;
+    let pixel = words.pixel()?;
+    words.end()?;
+    let r = fordcask::fordcask_corner_position(series, bytes, pixel.row, pixel.column);
+    println!(rt;
+        "{} {} {} {}{}",
+        r.number,
+        r.at,
+        r.lat,
+        r.lon,
+        Blanks(r.blanks)
+    )?;
+    Ok(())
+}
+
+/// `pixel SCALE FACTOR ZONE CARD LAT LON`: the pixel that contains the position.
+pub fn pixel(rt: &HostRuntime, words: &mut Words<'_>) -> Result<(), Fault> {
+    let mut bytes = [0; MOST];
+    let Card { series, bytes } = words.card(&mut bytes)?;
+    let lat = words.number()?;
+    let lon = words.number()?;
+    words.end()?;
+    let r = fordcask::fordcask_pixel(series, bytes, lat, lon);
+    println!(rt;
+        "{} {} {} {}{}",
+        r.number,
+        r.at,
+        r.row,
+        r.column,
+        Blanks(r.blanks)
+    )?;
+    Ok(())
+}
+
+/// `corner_pixel SCALE FACTOR ZONE CARD LAT LON`: the pixel whose corner is nearest.
+pub fn corner_pixel(rt: &HostRuntime, words: &mut Words<'_>) -> Result<(), Fault> {
+    let mut bytes = [0; MOST];
+    let Card { series, bytes } = words.card(&mut bytes)?;
+    let lat = words.number()?;
+    let lon = words.number()?;
+    words.end()?;
+    let r = fordcask::fordcask_corner_pixel(series, bytes, lat, lon);
+    println!(rt;
+        "{} {} {} {}{}",
+        r.number,
+        r.at,
+        r.row,
+        r.column,
+        Blanks(r.blanks)
+    )?;
+    Ok(())
+}
+
+/// `judge_pixel SCALE FACTOR ZONE CARD ROW COLUMN`: no values.
+pub fn judge_pixel(rt: &HostRuntime, words: &mut Words<'_>) -> Result<(), Fault> {
+    let mut bytes = [0; MOST];
+    let card = words.card(&mut bytes)?;
+    let pixel = words.pixel()?;
+    words.end()?;
+    let r = library::judge_pixel(card, pixel);
+    println!(rt; "{} {}", r.number, r.at)?;
+    Ok(())
+}
+
+/// `overview_pixel`, scale, factor, zone and card of a chart and of its overview, `ROW COLUMN`: the overview's pixel.
+pub fn overview_pixel(rt: &HostRuntime, words: &mut Words<'_>) -> Result<(), Fault> {
+    let mut bytes = [0; MOST];
+    let mut over = [0; MOST];
+    let chart = words.card(&mut bytes)?;
+    let overview = words.card(&mut over)?;
+    let pixel = words.pixel()?;
+    words.end()?;
+    let r = fordcask::fordcask_overview_pixel(
+        chart.series,
+        chart.bytes,
+        overview.series,
+        overview.bytes,
+        pixel.row,
+        pixel.column,
+    );
+    print!(rt; "{} {} {} {}", r.number, r.at, r.row, r.column)?;
+    if r.blanks != 0 || r.overview_blanks != 0 {
+        print!(rt; " blanks {} {}", r.blanks, r.overview_blanks)?;
     }
+    println!(rt)?;
+    Ok(())
 }

@@ -1,234 +1,144 @@
-// Looking up a pixel's tile with corrections: its store and number, its part, the pixel's values (02, E1).
-use crate::indexes::Stated;
-use crate::look_up::STORE;
-use crate::{lent, list, print, word};
-use arc::Verdict;
-use std::io;
-use tiles::SourceAnswer;
+//! Looking up a pixel's tile with corrections: its store and number, its part, the pixel's values.
+use crate::fault::Fault;
+use crate::library;
+use crate::look_up::Wanted;
+use crate::shown::{Blanks, Ends};
+use crate::stated::{Corrections, Form, Index, MOST, MOST_WORDS, Pixel, Stated};
+use crate::words::Words;
+use fordcask::{BandsOnCard, CorrectedTile};
 
-// What is stated beside the card, the lengths of the two stores, the corrected count and the pixel.
+/// What is asked of: an index, its store, the corrections beside it, and a pixel.
 #[derive(Clone, Copy)]
-pub struct Question {
-    pub stated: Stated,
-    pub store: u64,
-    pub corrected: u64,
-    pub second: u64,
-    pub row: i64,
-    pub column: i64,
+struct Question<'a> {
+    stated: Stated<'a>,
+    store: &'a [u8],
+    corrections: Corrections<'a>,
+    pixel: Pixel,
 }
 
-// Whether the line is a look-up with corrections, well formed; then it is answered.
-pub fn asked(
+/// Answers a question on the tile of a pixel. The two stores stand one after the other.
+pub fn ask(
     rt: &HostRuntime,
-    name: &[u8],
-    line: &[u8],
-    at: usize,
-    s: Stated,
-    card: &[u8],
-    index: &[u32],
+    wanted: Wanted,
+    form: Form,
+    words: &mut Words<'_>,
     store: &[u8],
-) -> io::Result<bool> {
-    let length = word::natural(line, at);
-    if line.len() <= length.next {
-        return Ok(false);
-    }
-    let mut entries = lent::numbers();
-    let filled = list::index(line, length.next, &mut entries);
-    let corrected = word::natural(line, filled.next);
-    let second = word::natural(line, corrected.next);
-    let row = word::signed(line, second.next);
-    let column = word::signed(line, row.next);
-    if !word::ended(column.next) {
-        return Ok(false);
-    }
-    let i = filled.length;
-    let x = Question {
-        stated: s,
-        store: length.value,
-        corrected: corrected.value,
-        second: second.value,
-        row: row.value,
-        column: column.value,
+) -> Result<(), Fault> {
+    let mut bytes = [0; MOST];
+    let mut list = [0; MOST];
+    let mut bits = [0; MOST_WORDS];
+    let mut entries = [0; MOST];
+    let stated = words.stated(form, &mut bytes, &mut list, &mut bits)?;
+    let (store, rest) = words.store(store)?;
+    let entries = words.list(&mut entries)?;
+    let corrected = words.number()?;
+    let (second, _) = words.store(rest)?;
+    let pixel = words.pixel()?;
+    words.end()?;
+    let corrections = Corrections {
+        entries,
+        corrected,
+        second,
     };
-    stored(rt, name, x, card, index, &entries[..i], store)
-}
-
-// The two stores stand one after the other.
-fn stored(
-    rt: &HostRuntime,
-    name: &[u8],
-    x: Question,
-    card: &[u8],
-    index: &[u32],
-    corrections: &[u32],
-    store: &[u8],
-) -> io::Result<bool> {
-    if (STORE < x.store) | (STORE < x.second) {
-        return Ok(false);
-    }
-    if (store.len() as u64) < x.store {
-        return Ok(false);
-    }
-    let n = x.store as usize;
-    let base = &store[..n];
-    let rest = &store[n..];
-    if (rest.len() as u64) < x.second {
-        return Ok(false);
-    }
-    let m = x.second as usize;
-    let second = &rest[..m];
-    answered(rt, name, x, card, index, base, corrections, second)
-}
-
-fn answered<'a>(
-    rt: &HostRuntime,
-    name: &[u8],
-    x: Question,
-    card: &[u8],
-    index: &[u32],
-    store: &'a [u8],
-    corrections: &[u32],
-    second: &'a [u8],
-) -> io::Result<bool> {
-    if word::same(name, b"corrected_number") {
-        number(rt, x, card, index, store, corrections, second)?;
-        return Ok(true);
-    }
-    if word::same(name, b"corrected_tile") {
-        tile(rt, x, card, index, store, corrections, second)?;
-        return Ok(true);
-    }
-    if word::same(name, b"corrected_bands") {
-        bands(rt, x, card, index, store, corrections, second)?;
-        return Ok(true);
-    }
-    Ok(false)
-}
-
-// Reading's refusals, then those of the number.
-#[tactic(auto, using(fordcask::proofs::KnownCards::known_cards))]
-fn number_of(
-    x: Question,
-    card: &[u8],
-    index: &[u32],
-    store: &[u8],
-    corrections: &[u32],
-    second: &[u8],
-) -> SourceAnswer {
-    let s = x.stated;
-    let reading = card_text::read_card(s.series, card);
-    let verdict = reading.verdict;
-    let k = reading.card;
-    match verdict {
-        Verdict::Accepted => tiles::corrected_number(
-            k,
-            index,
-            s.count,
-            store,
-            corrections,
-            x.corrected,
-            second,
-            x.row,
-            x.column,
-        ),
-        Verdict::Refused(e) => SourceAnswer::Refused(e),
-    }
-}
-
-fn number(
-    rt: &HostRuntime,
-    x: Question,
-    card: &[u8],
-    index: &[u32],
-    store: &[u8],
-    corrections: &[u32],
-    second: &[u8],
-) -> io::Result<()> {
-    let r = number_of(x, card, index, store, corrections, second).into_parts();
-    print::answer(rt, r.number, r.at, &[r.source, r.stored])
-}
-
-// The part of either store; none where reading refuses.
-#[tactic(auto, using(fordcask::proofs::KnownCards::known_cards))]
-fn part<'a>(
-    x: Question,
-    card: &[u8],
-    index: &[u32],
-    store: &'a [u8],
-    corrections: &[u32],
-    second: &'a [u8],
-) -> &'a [u8] {
-    let s = x.stated;
-    let reading = card_text::read_card(s.series, card);
-    let verdict = reading.verdict;
-    let k = reading.card;
-    match verdict {
-        Verdict::Accepted => tiles::corrected_tile(
-            k,
-            index,
-            s.count,
-            store,
-            corrections,
-            x.corrected,
-            second,
-            x.row,
-            x.column,
-        ),
-        Verdict::Refused(_) => &store[..0],
-    }
-}
-
-fn tile<'a>(
-    rt: &HostRuntime,
-    x: Question,
-    card: &[u8],
-    index: &[u32],
-    store: &'a [u8],
-    corrections: &[u32],
-    second: &'a [u8],
-) -> io::Result<()> {
-    let s = x.stated;
-    let r = fordcask::fordcask_corrected_tile(
-        s.series,
-        card,
-        index,
-        s.count,
+    let q = Question {
+        stated,
         store,
         corrections,
-        x.corrected,
-        second,
-        x.row,
-        x.column,
-    );
-    print::refusal(rt, r.number, r.at)?;
-    print::naturals(rt, &[r.source, r.stored, r.offset, r.length])?;
-    print::ends(rt, part(x, card, index, store, corrections, second))?;
-    print::end_card(rt, r.blanks)
+        pixel,
+    };
+    match wanted {
+        Wanted::Number => number(rt, q),
+        Wanted::Tile => tile(rt, q),
+        Wanted::Bands => bands(rt, q),
+    }
 }
 
-fn bands(
-    rt: &HostRuntime,
-    x: Question,
-    card: &[u8],
-    index: &[u32],
-    store: &[u8],
-    corrections: &[u32],
-    second: &[u8],
-) -> io::Result<()> {
-    let s = x.stated;
-    let r = fordcask::fordcask_corrected_bands(
-        s.series,
-        card,
-        index,
-        s.count,
-        store,
-        corrections,
-        x.corrected,
-        second,
-        x.row,
-        x.column,
-    );
-    print::refusal(rt, r.number, r.at)?;
-    print::naturals(rt, &[r.red as u64, r.green as u64, r.blue as u64])?;
-    print::end_card(rt, r.blanks)
+fn number(rt: &HostRuntime, q: Question<'_>) -> Result<(), Fault> {
+    let r = library::corrected_number(q.stated, q.store, q.corrections, q.pixel);
+    println!(rt; "{} {} {} {}", r.number, r.at, r.source, r.stored)?;
+    Ok(())
+}
+
+/// What the library answers.
+fn tile_of(q: Question<'_>) -> CorrectedTile {
+    let (s, c) = (q.stated, q.corrections);
+    let Pixel { row, column } = q.pixel;
+    let (series, card) = (s.card.series, s.card.bytes);
+    match s.index {
+        Index::List(index) => fordcask::fordcask_corrected_tile(
+            series,
+            card,
+            index,
+            s.count,
+            q.store,
+            c.entries,
+            c.corrected,
+            c.second,
+            row,
+            column,
+        ),
+        Index::Bits(bits) => fordcask::fordcask_corrected_bits_tile(
+            series,
+            card,
+            bits,
+            s.count,
+            q.store,
+            c.entries,
+            c.corrected,
+            c.second,
+            row,
+            column,
+        ),
+    }
+}
+
+fn tile(rt: &HostRuntime, q: Question<'_>) -> Result<(), Fault> {
+    let r = tile_of(q);
+    let part = library::corrected_part(q.stated, q.store, q.corrections, q.pixel);
+    print!(rt;
+        "{} {} {} {} {}",
+        r.number, r.at, r.source, r.stored, r.offset
+    )?;
+    println!(rt; " {} {}{}", r.length, Ends(part), Blanks(r.blanks))?;
+    Ok(())
+}
+
+/// What the library answers.
+fn bands_of(q: Question<'_>) -> BandsOnCard {
+    let (s, c) = (q.stated, q.corrections);
+    let Pixel { row, column } = q.pixel;
+    let (series, card) = (s.card.series, s.card.bytes);
+    match s.index {
+        Index::List(index) => fordcask::fordcask_corrected_bands(
+            series,
+            card,
+            index,
+            s.count,
+            q.store,
+            c.entries,
+            c.corrected,
+            c.second,
+            row,
+            column,
+        ),
+        Index::Bits(bits) => fordcask::fordcask_corrected_bits_bands(
+            series,
+            card,
+            bits,
+            s.count,
+            q.store,
+            c.entries,
+            c.corrected,
+            c.second,
+            row,
+            column,
+        ),
+    }
+}
+
+fn bands(rt: &HostRuntime, q: Question<'_>) -> Result<(), Fault> {
+    let r = bands_of(q);
+    print!(rt; "{} {} {} {} {}", r.number, r.at, r.red, r.green, r.blue)?;
+    println!(rt; "{}", Blanks(r.blanks))?;
+    Ok(())
 }

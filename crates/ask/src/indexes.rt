@@ -1,143 +1,75 @@
-// Questions on a card and its tile index (01, "Tiles").
-use crate::{buffer, by_bits, corrected, corrections, lent, list, look_up, print, word};
-use arc::Series;
-use std::io;
+//! Questions on a card's tile index as a whole: its check, its two forms, setting a correction.
+use crate::fault::Fault;
+use crate::shown::{Blanks, Bytes, List};
+use crate::stated::{Card, MOST, MOST_WORDS};
+use crate::words::Words;
 
-// What is stated beside a card: scale, factor and zone, and the count of its stored tiles.
-#[derive(Clone, Copy)]
-pub struct Stated {
-    pub series: Series,
-    pub count: u64,
+/// The check of an index, and the marks that are lent.
+pub fn index_check(rt: &HostRuntime, words: &mut Words<'_>) -> Result<(), Fault> {
+    let mut bytes = [0; MOST];
+    let mut index = [0; MOST];
+    let mut marks = [b'*'; MOST];
+    let Card { series, bytes } = words.card(&mut bytes)?;
+    let index = words.list(&mut index)?;
+    let count = words.number()?;
+    let marks = words.lent(&mut marks)?;
+    words.end()?;
+    let r = fordcask::fordcask_index_check(series, bytes, index, count, marks);
+    println!(rt;
+        "{} {} {}{}",
+        r.number,
+        r.at,
+        Bytes(marks),
+        Blanks(r.blanks)
+    )?;
+    Ok(())
 }
 
-// Whether the line is one of these questions, well formed; then it is answered.
-pub fn asked(
-    rt: &HostRuntime,
-    name: &[u8],
-    line: &[u8],
-    at: usize,
-    store: &[u8],
-) -> io::Result<bool> {
-    let mut bytes = lent::bytes();
-    let k = buffer::card(line, at, &mut bytes);
-    if line.len() <= k.next {
-        return Ok(false);
-    }
-    let mut entries = lent::numbers();
-    let filled = list::index(line, k.next, &mut entries);
-    let count = word::natural(line, filled.next);
-    let n = k.length;
-    let i = filled.length;
-    let series = k.series;
-    let s = Stated {
-        series,
-        count: count.value,
-    };
-    answered(
-        rt,
-        name,
-        line,
-        count.next,
-        s,
-        &bytes[..n],
-        &mut entries[..i],
-        store,
-    )
+/// A list to presence bits, and the words that are lent.
+pub fn to_bits(rt: &HostRuntime, words: &mut Words<'_>) -> Result<(), Fault> {
+    let mut bytes = [0; MOST];
+    let mut index = [0; MOST];
+    let mut bits = [7; MOST_WORDS];
+    let Card { series, bytes } = words.card(&mut bytes)?;
+    let index = words.list(&mut index)?;
+    let bits = words.lent(&mut bits)?;
+    words.end()?;
+    let r = fordcask::fordcask_to_bits(series, bytes, index, bits);
+    println!(rt; "{} {} {}{}", r.number, r.at, List(bits), Blanks(r.blanks))?;
+    Ok(())
 }
 
-fn answered(
-    rt: &HostRuntime,
-    name: &[u8],
-    line: &[u8],
-    at: usize,
-    s: Stated,
-    card: &[u8],
-    entries: &mut [u32],
-    store: &[u8],
-) -> io::Result<bool> {
-    if word::same(name, b"set_correction") {
-        return corrections::set(rt, line, at, s, card, entries);
-    }
-    if word::same(name, b"to_bits") {
-        return by_bits::to_bits(rt, at, s, card, entries);
-    }
-    if word::same(name, b"index_check") {
-        return index_check(rt, line, at, s, card, entries);
-    }
-    if word::same(name, b"window") {
-        return window(rt, line, at, s, card, entries);
-    }
-    if word::same(name, b"corrected_window") {
-        return corrections::window(rt, line, at, s, card, entries);
-    }
-    if look_up::asked(rt, name, line, at, s, card, entries, store)? {
-        return Ok(true);
-    }
-    corrected::asked(rt, name, line, at, s, card, entries, store)
+/// Presence bits to a list, and the entries that are lent.
+pub fn to_list(rt: &HostRuntime, words: &mut Words<'_>) -> Result<(), Fault> {
+    let mut bytes = [0; MOST];
+    let mut bits = [0; MOST_WORDS];
+    let mut index = [7; MOST];
+    let Card { series, bytes } = words.card(&mut bytes)?;
+    let bits = words.list(&mut bits)?;
+    let index = words.lent(&mut index)?;
+    words.end()?;
+    let r = fordcask::fordcask_to_list(series, bytes, bits, index);
+    println!(rt; "{} {} {}{}", r.number, r.at, List(index), Blanks(r.blanks))?;
+    Ok(())
 }
 
-// Marks that are lent, and what they then hold.
-fn checked(
-    rt: &HostRuntime,
-    s: Stated,
-    card: &[u8],
-    index: &[u32],
-    marks: &mut [u8],
-) -> io::Result<()> {
-    let r = fordcask::fordcask_index_check(s.series, card, index, s.count, marks);
-    print::refusal(rt, r.number, r.at)?;
-    print::bytes(rt, marks)?;
-    print::end_card(rt, r.blanks)
-}
-
-fn index_check(
-    rt: &HostRuntime,
-    line: &[u8],
-    at: usize,
-    s: Stated,
-    card: &[u8],
-    index: &[u32],
-) -> io::Result<bool> {
-    let length = word::natural(line, at);
-    if !word::ended(length.next) {
-        return Ok(false);
-    }
-    if lent::MOST < length.value {
-        return Ok(false);
-    }
-    let n = length.value as usize;
-    let mut marks = lent::bytes();
-    checked(rt, s, card, index, &mut marks[..n])?;
-    Ok(true)
-}
-
-fn window(
-    rt: &HostRuntime,
-    line: &[u8],
-    at: usize,
-    s: Stated,
-    card: &[u8],
-    index: &[u32],
-) -> io::Result<bool> {
-    let top = word::natural(line, at);
-    let left = word::natural(line, top.next);
-    let height = word::natural(line, left.next);
-    let width = word::natural(line, height.next);
-    if !word::ended(width.next) {
-        return Ok(false);
-    }
-    let r = fordcask::fordcask_window(
-        s.series,
-        card,
-        index,
-        s.count,
-        top.value,
-        left.value,
-        height.value,
-        width.value,
-    );
-    print::refusal(rt, r.number, r.at)?;
-    print::naturals(rt, &[r.missing, r.tile])?;
-    print::end_card(rt, r.blanks)?;
-    Ok(true)
+/// One correction set, and what the list of corrections then holds.
+pub fn set_correction(rt: &HostRuntime, words: &mut Words<'_>) -> Result<(), Fault> {
+    let mut bytes = [0; MOST];
+    let mut corrections = [0; MOST];
+    let Card { series, bytes } = words.card(&mut bytes)?;
+    let corrections = words.list(&mut corrections)?;
+    let corrected = words.number()?;
+    let tile = words.number()?;
+    let number = words.number()?;
+    words.end()?;
+    let r = fordcask::fordcask_set_correction(series, bytes, corrections, corrected, tile, number);
+    println!(rt;
+        "{} {} {}{}",
+        r.number,
+        r.at,
+        List(corrections),
+        Blanks(r.blanks)
+    )?;
+    Ok(())
 }

@@ -1,131 +1,81 @@
-// Looking up a pixel's tile: its number, its part of the store, the pixel's values (01, "Tiles").
-use crate::indexes::Stated;
-use crate::{print, word};
-use arc::Verdict;
-use std::io;
-use tiles::NumberAnswer;
+//! Looking up a pixel's tile: its number, its part of the store, the pixel's values.
+use crate::fault::Fault;
+use crate::library;
+use crate::shown::{Blanks, Ends};
+use crate::stated::{Form, Index, MOST, MOST_WORDS, Pixel, Stated};
+use crate::words::Words;
 
-// The longest store that is lent.
-pub const STORE: u64 = 1_048_576;
+/// What of a pixel's tile is asked.
+#[derive(Clone, Copy)]
+pub enum Wanted {
+    Number,
+    Tile,
+    Bands,
+}
 
-// Whether the line is one of these questions, well formed; then it is answered.
-pub fn asked(
+/// Answers a question on the tile of a pixel.
+pub fn ask(
     rt: &HostRuntime,
-    name: &[u8],
-    line: &[u8],
-    at: usize,
-    s: Stated,
-    card: &[u8],
-    index: &[u32],
+    wanted: Wanted,
+    form: Form,
+    words: &mut Words<'_>,
     store: &[u8],
-) -> io::Result<bool> {
-    let length = word::natural(line, at);
-    let row = word::signed(line, length.next);
-    let column = word::signed(line, row.next);
-    if !word::ended(column.next) {
-        return Ok(false);
-    }
-    if STORE < length.value {
-        return Ok(false);
-    }
-    if (store.len() as u64) < length.value {
-        return Ok(false);
-    }
-    let n = length.value as usize;
-    let lent = &store[..n];
-    if word::same(name, b"stored_number") {
-        stored_number(rt, s, card, index, lent, row.value, column.value)?;
-        return Ok(true);
-    }
-    if word::same(name, b"tile") {
-        tile(rt, s, card, index, lent, row.value, column.value)?;
-        return Ok(true);
-    }
-    if word::same(name, b"bands") {
-        bands(rt, s, card, index, lent, row.value, column.value)?;
-        return Ok(true);
-    }
-    Ok(false)
-}
-
-// Reading's refusals, then those of the stored number.
-#[tactic(auto, using(fordcask::proofs::KnownCards::known_cards))]
-fn number_of(
-    s: Stated,
-    card: &[u8],
-    index: &[u32],
-    store: &[u8],
-    row: i64,
-    column: i64,
-) -> NumberAnswer {
-    let reading = card_text::read_card(s.series, card);
-    let verdict = reading.verdict;
-    let k = reading.card;
-    match verdict {
-        Verdict::Accepted => tiles::stored_number(k, index, s.count, store, row, column),
-        Verdict::Refused(e) => NumberAnswer::Refused(e),
+) -> Result<(), Fault> {
+    let mut bytes = [0; MOST];
+    let mut list = [0; MOST];
+    let mut bits = [0; MOST_WORDS];
+    let s = words.stated(form, &mut bytes, &mut list, &mut bits)?;
+    let (store, _) = words.store(store)?;
+    let pixel = words.pixel()?;
+    words.end()?;
+    match wanted {
+        Wanted::Number => number(rt, s, store, pixel),
+        Wanted::Tile => tile(rt, s, store, pixel),
+        Wanted::Bands => bands(rt, s, store, pixel),
     }
 }
 
-fn stored_number(
-    rt: &HostRuntime,
-    s: Stated,
-    card: &[u8],
-    index: &[u32],
-    store: &[u8],
-    row: i64,
-    column: i64,
-) -> io::Result<()> {
-    let r = number_of(s, card, index, store, row, column).into_parts();
-    print::answer(rt, r.number, r.at, &[r.stored])
+fn number(rt: &HostRuntime, s: Stated<'_>, store: &[u8], pixel: Pixel) -> Result<(), Fault> {
+    let r = library::number(s, store, pixel);
+    println!(rt; "{} {} {}", r.number, r.at, r.stored)?;
+    Ok(())
 }
 
-// The part of the store; none where reading refuses.
-#[tactic(auto, using(fordcask::proofs::KnownCards::known_cards))]
-fn part<'a>(
-    s: Stated,
-    card: &[u8],
-    index: &[u32],
-    store: &'a [u8],
-    row: i64,
-    column: i64,
-) -> &'a [u8] {
-    let reading = card_text::read_card(s.series, card);
-    let verdict = reading.verdict;
-    let k = reading.card;
-    match verdict {
-        Verdict::Accepted => tiles::tile(k, index, s.count, store, row, column),
-        Verdict::Refused(_) => &store[..0],
-    }
+fn tile(rt: &HostRuntime, s: Stated<'_>, store: &[u8], pixel: Pixel) -> Result<(), Fault> {
+    let Pixel { row, column } = pixel;
+    let (series, card) = (s.card.series, s.card.bytes);
+    let r = match s.index {
+        Index::List(index) => {
+            fordcask::fordcask_tile(series, card, index, s.count, store, row, column)
+        }
+        Index::Bits(bits) => {
+            fordcask::fordcask_bits_tile(series, card, bits, s.count, store, row, column)
+        }
+    };
+    print!(rt;
+        "{} {} {} {} {}",
+        r.number, r.at, r.stored, r.offset, r.length
+    )?;
+    println!(rt;
+        " {}{}",
+        Ends(library::part(s, store, pixel)),
+        Blanks(r.blanks)
+    )?;
+    Ok(())
 }
 
-fn tile(
-    rt: &HostRuntime,
-    s: Stated,
-    card: &[u8],
-    index: &[u32],
-    store: &[u8],
-    row: i64,
-    column: i64,
-) -> io::Result<()> {
-    let r = fordcask::fordcask_tile(s.series, card, index, s.count, store, row, column);
-    print::refusal(rt, r.number, r.at)?;
-    print::naturals(rt, &[r.stored, r.offset, r.length])?;
-    print::ends(rt, part(s, card, index, store, row, column))?;
-    print::end_card(rt, r.blanks)
-}
-
-fn bands(
-    rt: &HostRuntime,
-    s: Stated,
-    card: &[u8],
-    index: &[u32],
-    store: &[u8],
-    row: i64,
-    column: i64,
-) -> io::Result<()> {
-    let r = fordcask::fordcask_bands(s.series, card, index, s.count, store, row, column);
-    print::refusal(rt, r.number, r.at)?;
-    print::naturals(rt, &[r.red as u64, r.green as u64, r.blue as u64])?;
-    print::end_card(rt, r.blanks)
+fn bands(rt: &HostRuntime, s: Stated<'_>, store: &[u8], pixel: Pixel) -> Result<(), Fault> {
+    let Pixel { row, column } = pixel;
+    let (series, card) = (s.card.series, s.card.bytes);
+    let r = match s.index {
+        Index::List(index) => {
+            fordcask::fordcask_bands(series, card, index, s.count, store, row, column)
+        }
+        Index::Bits(bits) => {
+            fordcask::fordcask_bits_bands(series, card, bits, s.count, store, row, column)
+        }
+    };
+    print!(rt; "{} {} {} {} {}", r.number, r.at, r.red, r.green, r.blue)?;
+    println!(rt; "{}", Blanks(r.blanks))?;
+    Ok(())
 }

@@ -1,122 +1,83 @@
-// Questions on numbers alone (01, "Units and the zone table", "Origins and the zone grid").
-use crate::{print, series, word};
-use std::io;
+//! Questions on numbers alone.
+use crate::fault::Fault;
+use crate::library;
+use crate::shown::{Bits, List};
+use crate::words::Words;
+use std::num::saturating_f64_to_i64;
 
-// Whether the line is one of these questions, well formed; then it is answered.
-pub fn asked(rt: &HostRuntime, name: &[u8], line: &[u8], at: usize) -> io::Result<bool> {
-    if word::same(name, b"spacing") {
-        return spacing(rt, line, at);
-    }
-    if word::same(name, b"b_constant") {
-        return b_constant(rt, line, at);
-    }
-    if word::same(name, b"basic_zone") {
-        return basic_zone(rt, line, at);
-    }
-    if word::same(name, b"cover") {
-        return cover(rt, line, at);
-    }
-    if word::same(name, b"rectangle") {
-        return rectangle(rt, line, at);
-    }
-    if word::same(name, b"align") {
-        return align(rt, line, at);
-    }
-    if word::same(name, b"offset") {
-        return offset(rt, line, at);
-    }
-    Ok(false)
+/// `spacing SCALE FACTOR ZONE`: A and B.
+pub fn spacing(rt: &HostRuntime, words: &mut Words<'_>) -> Result<(), Fault> {
+    let series = words.series()?;
+    words.end()?;
+    let r = fordcask::fordcask_spacing(series);
+    println!(rt; "{} {} {} {}", r.number, r.at, r.a, r.b)?;
+    Ok(())
 }
 
-fn spacing(rt: &HostRuntime, line: &[u8], at: usize) -> io::Result<bool> {
-    let w = series::series(line, at);
-    if !word::ended(w.next) {
-        return Ok(false);
-    }
-    let r = fordcask::fordcask_spacing(w.series);
-    print::answer(rt, r.number, r.at, &[r.a, r.b])?;
-    Ok(true)
+/// `b_constant SCALE FACTOR`: B.
+pub fn b_constant(rt: &HostRuntime, words: &mut Words<'_>) -> Result<(), Fault> {
+    let scale = words.number()?;
+    let factor = words.number()?;
+    words.end()?;
+    let r = library::b_constant(scale, factor);
+    println!(rt; "{} {} {}", r.number, r.at, r.pixels)?;
+    Ok(())
 }
 
-fn b_constant(rt: &HostRuntime, line: &[u8], at: usize) -> io::Result<bool> {
-    let scale = word::natural(line, at);
-    let factor = word::natural(line, scale.next);
-    if !word::ended(factor.next) {
-        return Ok(false);
-    }
-    let r = arc::b_constant(scale.value, factor.value).into_parts();
-    print::answer(rt, r.number, r.at, &[r.pixels])?;
-    Ok(true)
+/// `basic_zone LAT`: the zone.
+pub fn basic_zone(rt: &HostRuntime, words: &mut Words<'_>) -> Result<(), Fault> {
+    let lat = words.number()?;
+    words.end()?;
+    let r = fordcask::fordcask_basic_zone(lat);
+    println!(rt; "{} {} {}", r.number, r.at, r.zone)?;
+    Ok(())
 }
 
-fn basic_zone(rt: &HostRuntime, line: &[u8], at: usize) -> io::Result<bool> {
-    let lat = word::signed(line, at);
-    if !word::ended(lat.next) {
-        return Ok(false);
-    }
-    let r = fordcask::fordcask_basic_zone(lat.value);
-    print::answer(rt, r.number, r.at, &[r.zone])?;
-    Ok(true)
+/// `cover SCALE FACTOR LAT`: the length and the slots, the unused ones too.
+pub fn cover(rt: &HostRuntime, words: &mut Words<'_>) -> Result<(), Fault> {
+    let scale = words.number()?;
+    let factor = words.number()?;
+    let lat = words.number()?;
+    words.end()?;
+    let r = fordcask::fordcask_cover(scale, factor, lat);
+    println!(rt; "{} {} {} {}", r.number, r.at, r.length, List(&r.zones))?;
+    Ok(())
 }
 
-fn cover(rt: &HostRuntime, line: &[u8], at: usize) -> io::Result<bool> {
-    let scale = word::natural(line, at);
-    let factor = word::natural(line, scale.next);
-    let lat = word::signed(line, factor.next);
-    if !word::ended(lat.next) {
-        return Ok(false);
-    }
-    let r = fordcask::fordcask_cover(scale.value, factor.value, lat.value);
-    let slots = r.zones;
-    print::zones(rt, r.number, r.at, r.length, &slots)?;
-    Ok(true)
+/// `rectangle SCALE FACTOR SOUTH NORTH`: the length and the slots, the unused ones too.
+pub fn rectangle(rt: &HostRuntime, words: &mut Words<'_>) -> Result<(), Fault> {
+    let scale = words.number()?;
+    let factor = words.number()?;
+    let south = words.number()?;
+    let north = words.number()?;
+    words.end()?;
+    let r = fordcask::fordcask_rectangle(scale, factor, south, north);
+    println!(rt; "{} {} {} {}", r.number, r.at, r.length, List(&r.zones))?;
+    Ok(())
 }
 
-fn rectangle(rt: &HostRuntime, line: &[u8], at: usize) -> io::Result<bool> {
-    let scale = word::natural(line, at);
-    let factor = word::natural(line, scale.next);
-    let south = word::signed(line, factor.next);
-    let north = word::signed(line, south.next);
-    if !word::ended(north.next) {
-        return Ok(false);
-    }
-    let r = fordcask::fordcask_rectangle(scale.value, factor.value, south.value, north.value);
-    let slots = r.zones;
-    print::zones(rt, r.number, r.at, r.length, &slots)?;
-    Ok(true)
+/// `align SCALE FACTOR ZONE LAT LON`: n, m, PSO and LSO.
+pub fn align(rt: &HostRuntime, words: &mut Words<'_>) -> Result<(), Fault> {
+    let series = words.series()?;
+    let lat = words.number()?;
+    let lon = words.number()?;
+    words.end()?;
+    let r = fordcask::fordcask_align(series, lat, lon);
+    println!(rt; "{} {} {} {} {} {}", r.number, r.at, r.n, r.m, r.pso, r.lso)?;
+    Ok(())
 }
 
-fn align(rt: &HostRuntime, line: &[u8], at: usize) -> io::Result<bool> {
-    let w = series::series(line, at);
-    let lat = word::signed(line, w.next);
-    let lon = word::signed(line, lat.next);
-    if !word::ended(lon.next) {
-        return Ok(false);
-    }
-    let r = fordcask::fordcask_align(w.series, lat.value, lon.value);
-    print::refusal(rt, r.number, r.at)?;
-    print::signed(rt, r.n)?;
-    print::signed(rt, r.m)?;
-    print::signed(rt, r.pso)?;
-    print::signed(rt, r.lso)?;
-    print::end_line(rt)?;
-    Ok(true)
-}
-
-fn offset(rt: &HostRuntime, line: &[u8], at: usize) -> io::Result<bool> {
-    let lat = word::signed(line, at);
-    let lon = word::signed(line, lat.next);
-    let centre_lat = word::signed(line, lon.next);
-    let centre_lon = word::signed(line, centre_lat.next);
-    if !word::ended(centre_lon.next) {
-        return Ok(false);
-    }
-    let r = fordcask::fordcask_offset(lat.value, lon.value, centre_lat.value, centre_lon.value);
-    print::refusal(rt, r.number, r.at)?;
-    print::double(rt, r.lat)?;
-    print::double(rt, r.lon)?;
-    print::bits(rt, r.lat)?;
-    print::bits(rt, r.lon)?;
-    print::end_line(rt)?;
-    Ok(true)
+/// `offset LAT LON CENTRE_LAT CENTRE_LON`: the two differences, then the bits of their doubles.
+pub fn offset(rt: &HostRuntime, words: &mut Words<'_>) -> Result<(), Fault> {
+    let lat = words.number()?;
+    let lon = words.number()?;
+    let centre_lat = words.number()?;
+    let centre_lon = words.number()?;
+    words.end()?;
+    let r = fordcask::fordcask_offset(lat, lon, centre_lat, centre_lon);
+    let whole_lat = saturating_f64_to_i64(r.lat);
+    let whole_lon = saturating_f64_to_i64(r.lon);
+    print!(rt; "{} {} {whole_lat} {whole_lon}", r.number, r.at)?;
+    println!(rt; " {} {}", Bits(r.lat), Bits(r.lon))?;
+    Ok(())
 }
