@@ -13,8 +13,8 @@ use Rattle.printing.specs.Lines.{lines_of, numbers_of}
 use Rattle.printing.specs.Printed.{line_for, printed}
 use Rattle.printing.specs.Example.{WorkedExample}
 
-pub worked-example : WorkedExample
+pub worked_example : WorkedExample
 unfolding floor_div nearest ceil_div modulo spacing_at stored_angle number angle_laid degrees minutes seconds hundredths angle_size angle_of
     angle_valid name_laid layout judge_field extents_hold first_from card_of with_values read_in angle_text latitude_of longitude_of position_of lines_of
     numbers_of decimal line_for printed
-worked-example = refl
+worked_example = refl

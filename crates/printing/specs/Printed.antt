@@ -1,8 +1,7 @@
--- What the program prints, from input bytes to output bytes (01, "The printing program"). It asks the corner pair (02, E8). Definitions only.
+-- What the program prints, from input bytes to output bytes. It asks the corner pair. Definitions only.
 --     line_for k l       what is printed for a line of row and column
 --     printed s          the whole output
-use Rattle.std.specs.Prelude.{ℕ, List, [], ◌∷◌, ◌++◌, cond, ltb, length, pos}
-use Rattle.std.proofs.Math.Option.{Option, some, none}
+use Rattle.std.specs.Prelude.{ℕ, List, [], ◌∷◌, ◌++◌, cond, nat_lt, length, pos, Option, Some, None}
 use Rattle.arc.specs.declared.Verdict.{Verdict}
 use Rattle.arc.specs.Scales.{chart_series}
 use Rattle.card.specs.declared.Card.{Card}
@@ -11,7 +10,8 @@ use Rattle.card.specs.declared.PositionAnswer.{PositionAnswer}
 use Rattle.text.specs.Text.{bytes, decimal, angle_text}
 use Rattle.card.specs.Read.{read_of}
 use Rattle.card.specs.Grid.{position_of}
-use Rattle.printing.specs.Lines.{lines_of, TwoNumbers, numbers_of}
+use Rattle.printing.specs.Lines.{lines_of, numbers_of}
+use Rattle.printing.specs.declared.parse.TwoNumbers.{TwoNumbers}
 
 abbrev pub header : List ℕ
 header = bytes "row column latitude longitude\n"
@@ -33,8 +33,8 @@ pixel_text row column a = decimal row ++ bytes " " ++ decimal column ++ bytes " 
 
 -- other lines print "bad line"
 abbrev pub line_out : Card → Option TwoNumbers → List ℕ
-line_out k (some p) = pixel_text p.left p.right (position_of Pair.Corner k (pos p.left) (pos p.right))
-line_out k none = bad_line
+line_out k (Some p) = pixel_text p.left p.right (position_of Pair.Corner k (pos p.left) (pos p.right))
+line_out k None = bad_line
 
 unfoldable pub line_for : Card → List ℕ → List ℕ
 line_for k l = line_out k (numbers_of l)
@@ -49,10 +49,10 @@ card_out Verdict.Accepted k ls = header ++ lines_for k ls
 card_out (Verdict.Refused e) k ls =
     bytes "card refused " ++ decimal e.number ++ bytes " " ++ decimal e.at ++ bytes "\n"
 
--- a bad first line prints only that; the factor is 1 (02, E4)
+-- a bad first line prints only that; the factor is 1
 abbrev pub with_card : Option TwoNumbers → List ℕ → List (List ℕ) → List ℕ
-with_card (some p) card ls = let r = read_of (chart_series p.left p.right) card in card_out r.verdict r.card ls
-with_card none card ls = bad_line
+with_card (Some p) card ls = let r = read_of (chart_series p.left p.right) card in card_out r.verdict r.card ls
+with_card None card ls = bad_line
 
 -- a line with scale and zone, a line with the card, then lines of row and column; no second line prints only "bad line"
 abbrev pub run : List (List ℕ) → List ℕ
@@ -62,4 +62,4 @@ run (first ∷ card ∷ ls) = with_card (numbers_of first) card ls
 
 -- at most 64 KiB; longer input prints only "input too long"
 unfoldable pub printed : List ℕ → List ℕ
-printed s = cond (ltb 65536 (length s)) too_long (run (lines_of s))
+printed s = cond (nat_lt 65536 (length s)) too_long (run (lines_of s))
