@@ -3,6 +3,7 @@ use Rattle.std.proofs.Common.{◌≡◌, ℕ, ◌+◌, ◌≤◌, ◌<◌, List,
 use Rattle.std.proofs.Common.{Option, Some, None, Result, Ok, Err, OnOk, le-ltb, lt-ltb, le-leb}
 use borrow.Author.Tests.{lt-leb}
 use Rattle.std.specs.Io.KnownBytes.{Appends}
+use Rattle.std.proofs.KnownBytes.{Appends-nil, Appends-trans}
 use Rattle.whole.specs.Lists.{over}
 use Rattle.card.specs.declared.Card.{Card}
 use Rattle.printing.specs.Lines.{lines_of}
@@ -14,18 +15,6 @@ use Rattle.printing.specs.declared.OpeningText.{OpeningText}
 use Rattle.printing.specs.declared.LineText.{LineText}
 use Rattle.printing.proofs.Prints.{lines_at, lines_end, from-lines, run_prints}
 
--- nothing was written
-pub appends-nil : (o : Option (List ℕ)) → Appends o o []
-appends-nil None = tt
-appends-nil (Some xs) = sym (append-nil xs)
-
--- two texts one after the other
-pub appends-both : (o p q : Option (List ℕ)) (x y : List ℕ) → Appends o p x → Appends p q y → Appends o q (x ++ y)
-appends-both None p q x y a b = tt
-appends-both (Some xs) None q x y a b = absurd a
-appends-both (Some xs) (Some ys) None x y a b = absurd b
-appends-both (Some xs) (Some ys) (Some zs) x y a b = rw (b, a) (append_assoc xs x y)
-
 -- of the whole, a text was written, and the rest is to come
 pub record SoFar (old new : Option (List ℕ)) (whole rest : List ℕ) : Type 0 where
   pub text : List ℕ
@@ -33,11 +22,11 @@ pub record SoFar (old new : Option (List ℕ)) (whole rest : List ℕ) : Type 0 
   pub parts : text ++ rest ≡ whole
 
 pub sofar-start : (o : Option (List ℕ)) (whole : List ℕ) → SoFar o o whole whole
-sofar-start o whole = record { text = []; written = appends-nil o; parts = refl }
+sofar-start o whole = record { text = []; written = Appends-nil o; parts = refl }
 
 pub sofar-next : (o p q : Option (List ℕ)) (whole rest x later : List ℕ) → SoFar o p whole rest → Appends p q x → rest ≡ x ++ later → SoFar o q whole later
 sofar-next o p q whole rest x later s a e =
-    record { text = s.text ++ x; written = appends-both o p q s.text x s.written a; parts = append_assoc s.text x later ∙ rw (← e) s.parts }
+    record { text = s.text ++ x; written = Appends-trans o p q s.text x s.written a; parts = append_assoc s.text x later ∙ rw (← e) s.parts }
 
 pub sofar-end : (o p : Option (List ℕ)) (whole rest : List ℕ) → SoFar o p whole rest → rest ≡ [] → Appends o p whole
 sofar-end o p whole rest s e = let t : s.text ≡ whole = sym (append-nil s.text) ∙ (rw e at s.parts) in rw (← t) s.written
