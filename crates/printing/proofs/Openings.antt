@@ -1,5 +1,5 @@
 -- A text put at the front of the buffer, with its length, is what an opening prints. Assumes nothing.
-use Rattle.std.proofs.Common.{◌≡◌, ℕ, ◌+◌, ◌-◌, ◌≤◌, ◌<◌, List, [], length, refl, ◌∙◌, arith, lt-ltb, le-ltb, le-leb, Option, Some, None}
+use Rattle.std.proofs.Common.{◌≡◌, ℕ, ◌+◌, ◌≤◌, ◌<◌, List, length, ◌∙◌, arith, lt-ltb, le-ltb, le-leb, Some}
 use borrow.Author.Tests.{lt-leb}
 use Rattle.text.specs.Steps.{Put}
 use Rattle.text.proofs.Splices.{front_length, front-left, put_if}

@@ -1,7 +1,7 @@
 -- The two numbers of a line are those of its parts before and after the first space, each below 10 ^ 9. Assumes nothing.
-use Rattle.std.proofs.Common.{◌≡◌, ℕ, ◌≤◌, ◌<◌, ◌^◌, Bool, true, false, cond, ◌&&◌, List, [], length, leb, refl, sym, ◌∙◌, arith, leb-true, le-leb}
+use Rattle.std.proofs.Common.{◌≡◌, ℕ, ◌≤◌, ◌<◌, ◌^◌, Bool, true, false, cond, ◌&&◌, List, length, refl, sym, ◌∙◌, arith, leb-true, le-leb}
 use Rattle.std.proofs.Common.{Option, Some, None, nat_le}
-use mathlib.Core.Bool.{and-eq-true_iff, false≢true}
+use mathlib.Core.Bool.{and-eq-true_iff}
 use Rattle.text.specs.Text.{all, is_digit, number}
 use Rattle.text.specs.Buffer.{digits_in}
 use Rattle.text.specs.declared.Digits.{Digits}

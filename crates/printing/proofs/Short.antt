@@ -4,10 +4,9 @@ use Prim.Native.Nat.{ℕ, ◌≤◌, ◌<◌}
 use native.Mathlib.Omega.{arith}
 use mathlib.Core.Bool.{Bool, true, false, cond}
 use mathlib.Core.List.{List, [], ◌++◌}
-use Rattle.std.proofs.Common.{Option, Some, None, take, drop, sym, ◌∙◌, take_at}
+use Rattle.std.proofs.Common.{Option, Some, None}
 use Rattle.std.specs.Prelude.{nat_le, nat_lt}
 use lib.Dec.{leb, ltb}
-use lib.IntN.{pos}
 use lib.ListN.{length, length-append}
 use borrow.Author.Tests.{ltb-false}
 use Rattle.arc.specs.declared.Refusal.{Refusal}
@@ -16,13 +15,10 @@ use Rattle.arc.specs.Scales.{chart_series}
 use Rattle.text.specs.Text.{bytes, decimal}
 use Rattle.card.specs.declared.Card.{Card}
 use Rattle.card.specs.declared.PositionAnswer.{PositionAnswer}
-use Rattle.card.specs.declared.Pair.{Pair}
-use Rattle.card.specs.Grid.{position_of}
 use Rattle.card.specs.Read.{read_of, Known}
 use Rattle.printing.specs.Lines.{numbers_of}
 use Rattle.printing.specs.declared.parse.TwoNumbers.{TwoNumbers}
 use Rattle.printing.specs.declared.ReadCard.{ReadCard}
-use Rattle.whole.specs.Lists.{over}
 use Rattle.printing.specs.Printed.{bad_line, too_long, answer_text, pixel_text, line_out, line_for, card_out}
 use Rattle.printing.specs.Run.{line_at, next_at, Opened, closed, opened_with, opened_card, opening_of}
 use Rattle.printing.specs.Steps.{opening_for, opening_text, served, text_at, line_text}

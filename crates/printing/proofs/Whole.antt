@@ -1,14 +1,13 @@
 -- What a writer was given, put together, is all that is to be printed. Assumes nothing.
-use Rattle.std.proofs.Common.{◌≡◌, ℕ, ◌+◌, ◌≤◌, ◌<◌, List, [], ◌∷◌, ◌++◌, length, take, drop, refl, sym, ◌∙◌, append_assoc, append-nil, arith, take_at}
+use Rattle.std.proofs.Common.{◌≡◌, ℕ, ◌≤◌, ◌<◌, List, [], ◌++◌, length, take, drop, refl, sym, ◌∙◌, append_assoc, append-nil, arith, take_at}
 use Rattle.std.proofs.Common.{Option, Some, None, Result, Ok, Err, OnOk, le-ltb, lt-ltb, le-leb}
 use borrow.Author.Tests.{lt-leb}
 use Rattle.std.specs.Io.KnownBytes.{Appends}
 use Rattle.std.proofs.KnownBytes.{Appends-nil, Appends-trans}
-use Rattle.whole.specs.Lists.{over}
 use Rattle.card.specs.declared.Card.{Card}
 use Rattle.printing.specs.Lines.{lines_of}
 use Rattle.printing.specs.Printed.{line_for, lines_for, printed}
-use Rattle.printing.specs.Run.{line_at, next_at, opening_of, goes_on, lines_from}
+use Rattle.printing.specs.Run.{line_at, opening_of, goes_on, lines_from}
 use Rattle.printing.specs.Steps.{opening_for, opening_text, opening_left, text_at, line_text, line_left}
 use Rattle.printing.specs.declared.ReadCard.{ReadCard}
 use Rattle.printing.specs.declared.OpeningText.{OpeningText}

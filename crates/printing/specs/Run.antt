@@ -13,7 +13,7 @@ use Rattle.std.specs.Prelude.{◌≡◌, ℕ, zero, suc, ◌+◌, ◌≤◌, ◌
 use Rattle.arc.specs.declared.Verdict.{Verdict}
 use Rattle.arc.specs.Scales.{chart_series}
 use Rattle.card.specs.declared.Card.{Card}
-use Rattle.card.specs.Read.{read_of, no_card}
+use Rattle.card.specs.Read.{read_of}
 use Rattle.printing.specs.Lines.{up_to, numbers_of}
 use Rattle.printing.specs.Printed.{header, bad_line, too_long, line_for, card_out, printed}
 use Rattle.printing.specs.declared.ReadCard.{ReadCard}

@@ -1,6 +1,6 @@
 -- The first text and the lines are the whole. Assumes nothing.
-use Rattle.std.proofs.Common.{arith, sym, length-take-le}
-use Rattle.printing.proofs.Short.{opening_fits, opening_follows}
+use Rattle.std.proofs.Common.{arith}
+use Rattle.printing.proofs.Short.{opening_follows}
 use Rattle.std.proofs.KnownBytes.{Appends-trans}
 use Rattle.printing.proofs.Whole.{whole-some, whole-none, on-ok}
 use Rattle.printing.proofs.print.Goals as goal

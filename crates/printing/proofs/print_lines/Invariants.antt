@@ -1,4 +1,4 @@
-use Rattle.std.proofs.Common.{◌≤◌, ◌-◌, length, drop}
+use Rattle.std.proofs.Common.{◌-◌, length, drop}
 use Rattle.printing.specs.Lines.{lines_of}
 use Rattle.printing.specs.Printed.{lines_for}
 use Rattle.printing.proofs.Whole.{SoFar}
