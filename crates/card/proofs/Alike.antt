@@ -10,20 +10,19 @@ use lib.Dec.{leb}
 use lib.IntN.{ℤ, pos, ◌+ℤ◌, ◌-ℤ◌, ◌*ℤ◌}
 use Rattle.whole.specs.Whole.{floor_div, nearest, modulo, outside, raise}
 use Rattle.whole.proofs.Signed.{Is, is-equal, equal_is, is-raise}
-use Rattle.arc.specs.declared.Series.{Series}
-use Rattle.arc.specs.declared.Verdict.{Verdict}
+use Rattle.arc.specs.declared.series.Series.{Series}
 use Rattle.arc.specs.Refusals.{refusal}
 use Rattle.arc.specs.Zones.{circle, half}
-use Rattle.card.specs.declared.Card.{Card}
+use Rattle.card_text.specs.declared.Fields.{Fields}
 use Rattle.card.specs.declared.Pair.{Pair}
-use Rattle.card.specs.declared.Extents.{Extents}
+use Rattle.card_text.specs.declared.Extents.{Extents}
 use Rattle.card.specs.declared.PlaceAnswer.{PlaceAnswer}
-use Rattle.card.specs.Read.{Accepted}
+use Rattle.card_text.specs.Read.{Accepted}
 use Rattle.card.specs.Grid.{place_row, place_column, in_tiles, in_chart, extents_of, row_value, row_of, column_of, verdict_of, place_of, position_of, pixel_of}
 use Rattle.card.specs.Steps.{inward}
 use Rattle.card.specs.Copies.{Alike, AnswerAlike, AlikeExactly}
-use Rattle.card.proofs.Walked.{between}
-use Rattle.card.proofs.Laid.{Laid, accepted-laid, same-spacing}
+use Rattle.card_text.proofs.Walked.{between}
+use Rattle.card_text.proofs.Laid.{Laid, accepted-laid, same-spacing}
 use Rattle.card.proofs.Axes.{east-high, row_is, column-place, column-at}
 use Rattle.card.proofs.Regions.{tiles-inside, chart-tiles}
 use Rattle.card.proofs.Chain.{mod-add}
@@ -31,7 +30,7 @@ use Rattle.card.proofs.Copies.{placed, place-alike}
 
 -- ---- the extents of cards that answer alike
 
-module _ (pair : Pair) (j k : Card) (l : Laid j) (h : Alike pair j k) where
+module _ (pair : Pair) (j k : Fields) (l : Laid j) (h : Alike pair j k) where
   tiles-kept : (r c : ℤ) → in_tiles j r c ≡ true → in_tiles k r c ≡ true
   unfolding place_of
   tiles-kept r c t = go (in_tiles k r c) (sym (placed j r c t) ∙ h.place r c)
@@ -72,7 +71,7 @@ module _ (pair : Pair) (j k : Card) (l : Laid j) (h : Alike pair j k) where
       (omega (arith, x.row.below), omega (arith, x.column.below))
 
 -- as far as the upper left, lower right and last pixels tell
-record Covers (j k : Card) : Type 0 where
+record Covers (j k : Fields) : Type 0 where
   pub top : k.nul ≤ j.nul
   pub left : k.nls ≤ j.nls
   pub bottom : j.nll ≤ k.nll
@@ -80,7 +79,7 @@ record Covers (j k : Card) : Type 0 where
   pub down : j.nfl ≤ k.nfl
   pub across : j.nfc ≤ k.nfc
 
-covers : (pair : Pair) (j k : Card) → Laid j → Alike pair j k → Covers j k
+covers : (pair : Pair) (j k : Fields) → Laid j → Alike pair j k → Covers j k
 covers pair j k l h =
     let x = chart-fits pair j k l h j.nul j.nls (omega arith) l.top-down (omega arith) l.left-right in
     let y = chart-fits pair j k l h j.nll j.nus l.top-down (omega arith) l.left-right (omega arith) in
@@ -94,7 +93,7 @@ covers pair j k l h =
       across = omega (arith, z.1);
     }
 
-extents-alike : (pair : Pair) (j k : Card) → Laid j → Laid k → Alike pair j k → extents_of j ≡ extents_of k
+extents-alike : (pair : Pair) (j k : Fields) → Laid j → Laid k → Alike pair j k → extents_of j ≡ extents_of k
 extents-alike pair j k l l' h =
     let x = covers pair j k l h in
     let y = covers pair k j l' (record {
@@ -123,7 +122,7 @@ turned a x s t p q e =
     ∙ ap (λ (n : ℕ). n % a) (omega arith)
     ∙ add-mul-mod_self_right (x + (a - t)) 2 a
 
-module _ (series : Series) (j k : Card) (p : Accepted series j) (q : Accepted series k) where
+module _ (series : Series) (j k : Fields) (p : Accepted series j) (q : Accepted series k) where
   l : Laid j
   l = accepted-laid series j p
 
@@ -238,7 +237,7 @@ module _ (series : Series) (j k : Card) (p : Accepted series j) (q : Accepted se
           verdict = λ r c. rw (tiles-alike r c, chart-alike r c);
         }
 
-corner : (k : Card) → Laid k → in_tiles k (pos 0) (pos 0) ≡ true
+corner : (k : Fields) → Laid k → in_tiles k (pos 0) (pos 0) ≡ true
 corner k l = rw (lt-ltb 0 (128 * k.nfl) (omega (arith, l.down-some)), lt-ltb 0 (128 * k.nfc) (omega (arith, l.across-some)))
 
 pub answer-alike : AnswerAlike

@@ -10,15 +10,14 @@ use mir.Syntax.{w64}
 use mir.Val.{SFits, Fits, to_z, of_z}
 use mir.ValLaws.{to_z-of_z}
 use Rattle.whole.proofs.Machine.{casts}
-use Rattle.arc.specs.declared.Refusal.{Refusal}
-use Rattle.arc.specs.declared.Verdict.{Verdict}
+use Rattle.arc.specs.declared.refusal.Refusal.{Refusal}
 use Rattle.arc.specs.Refusals.{refusal, on_verdict}
-use Rattle.card.specs.declared.Card.{Card}
+use Rattle.card_text.specs.declared.Fields.{Fields}
 use Rattle.card.specs.Grid.{in_tiles, in_chart, verdict_of}
 use Rattle.card.proofs.Regions.{Within, PixelInside, tiles-inside}
 
 -- a pixel that is accepted passed both tests
-pub accepted-in : (k : Card) (r c : ℤ) → verdict_of k r c ≡ Verdict.Accepted → (in_tiles k r c ≡ true) × (in_chart k r c ≡ true)
+pub accepted-in : (k : Fields) (r c : ℤ) → verdict_of k r c ≡ Verdict.Accepted → (in_tiles k r c ≡ true) × (in_chart k r c ≡ true)
 accepted-in k r c = go (in_tiles k r c) (in_chart k r c)
   where
     go : (i j : Bool) → cond i (cond j Verdict.Accepted (Verdict.Refused (refusal 13))) (Verdict.Refused (refusal 12)) ≡ Verdict.Accepted
@@ -32,7 +31,7 @@ pub pair-asked : {A : Type 0} (f : ℤ → ℤ → A) {u v : ℤ} → SFits w64 
 pair-asked f {u} {v} fu fv = ap₂ f (to_z-of_z w64 u fu) (to_z-of_z w64 v fv)
 
 -- ---- a pixel's verdict, asked of what the machine holds
-module _ (k : Card) (r c : ℤ) (f : SFits w64 r) (g : SFits w64 c) {v : Verdict} (e : v ≡ verdict_of k (to_z w64 (of_z w64 r)) (to_z w64 (of_z w64 c))) where
+module _ (k : Fields) (r c : ℤ) (f : SFits w64 r) (g : SFits w64 c) {v : Verdict} (e : v ≡ verdict_of k (to_z w64 (of_z w64 r)) (to_z w64 (of_z w64 c))) where
   plain-verdict : v ≡ verdict_of k r c
   plain-verdict = e ∙ pair-asked (verdict_of k) f g
 

@@ -8,23 +8,23 @@ use Prim.Native.Char.{code}
 use Prim.Native.String.{String, [], ◌∷◌}
 use lib.IntN.{ℤ, pos, negsuc}
 use Rattle.whole.specs.Whole.{floor_div, ceil_div, nearest, modulo}
-use Rattle.arc.specs.declared.Series.{Series}
+use Rattle.arc.specs.declared.series.Series.{Series}
 use Rattle.arc.specs.Refusals.{refusal}
 use Rattle.arc.specs.Scales.{chart_series}
 use Rattle.arc.specs.Spacing.{spacing_at}
 use Rattle.origin.specs.Origin.{stored_angle}
-use Rattle.card.specs.declared.Card.{Card}
+use Rattle.card_text.specs.declared.Fields.{Fields}
 use Rattle.card.specs.declared.Pair.{Pair}
 use Rattle.card.specs.declared.PositionAnswer.{PositionAnswer}
 use Rattle.card.specs.declared.PixelAnswer.{PixelAnswer}
 use Rattle.text.specs.Text.{number, angle_laid, degrees, minutes, seconds, hundredths, angle_size, angle_of, angle_valid, name_laid}
-use Rattle.card.specs.Layout.{layout, judge_field}
-use Rattle.card.specs.Extents.{extents_hold}
-use Rattle.card.specs.Read.{card_of, Accepted}
+use Rattle.card_text.specs.Layout.{layout, judge_field}
+use Rattle.card_text.specs.Extents.{extents_hold}
+use Rattle.card_text.specs.Read.{card_of, Accepted}
 use Rattle.card.specs.Grid.{latitude_of, longitude_of, row_of, column_of, position_of, pixel_of}
 use Rattle.card.specs.Overview.{overview_pixel_of}
 use Rattle.card.specs.NoDrift.{Visit, gave, refused, visits, NoDriftFrom}
-use Rattle.card.proofs.Acceptance.{bytes-accepted}
+use Rattle.card_text.proofs.Acceptance.{bytes-accepted}
 use Rattle.card.proofs.Chain.{no-drift}
 
 abbrev bytes : String → List ℕ
@@ -62,22 +62,22 @@ town_series = chart_series 5000 1
 abbrev over_series : Series
 over_series = record { scale = 1000000; factor = 16; zone = 1 }
 
-abbrev paper_card : Card
+abbrev paper_card : Fields
 paper_card = card_of paper_series 369664 400384 (pos 100) (negsuc 19) paper
 
-abbrev beside_card : Card
+abbrev beside_card : Fields
 beside_card = card_of paper_series 369664 400384 (pos 101) (negsuc 20) beside
 
-abbrev town_card : Card
+abbrev town_card : Fields
 town_card = card_of town_series 73932800 80076800 (pos 100) (negsuc 19) town
 
-abbrev town_beside_card : Card
+abbrev town_beside_card : Fields
 town_beside_card = card_of town_series 73932800 80076800 (pos 101) (negsuc 20) town_beside
 
-abbrev over_card : Card
+abbrev over_card : Fields
 over_card = card_of over_series 23552 25088 (pos 7) (negsuc 1) over
 
-abbrev over_beside_card : Card
+abbrev over_beside_card : Fields
 over_beside_card = card_of over_series 23552 25088 (pos 8) (negsuc 2) over_beside
 
 pub all-accepted : (Accepted paper_series paper_card × Accepted paper_series beside_card)
@@ -133,12 +133,12 @@ abbrev gives : ℤ → ℤ → ℤ → ℤ → Visit
 gives r c lat lon = gave r c (PositionAnswer.At lat lon)
 
 -- over another card and back, from the position of a first card's pixel
-abbrev both-give : Pair → Card → ℤ → ℤ → Card → ℤ → ℤ → ℤ → ℤ → Type 0
+abbrev both-give : Pair → Fields → ℤ → ℤ → Fields → ℤ → ℤ → ℤ → ℤ → Type 0
 both-give p first r c other r' c' lat lon =
     (position_of p first r c ≡ PositionAnswer.At lat lon)
     × (visits p lat lon (other ∷ᴸ first ∷ᴸ []ᴸ) ≡ gives r' c' lat lon ∷ᴸ gives r c lat lon ∷ᴸ []ᴸ)
 
-abbrev one-refuses : Pair → Card → ℤ → ℤ → Card → ℕ → ℤ → ℤ → Type 0
+abbrev one-refuses : Pair → Fields → ℤ → ℤ → Fields → ℕ → ℤ → ℤ → Type 0
 one-refuses p first r c other number lat lon =
     (position_of p first r c ≡ PositionAnswer.At lat lon)
     × (visits p lat lon (other ∷ᴸ first ∷ᴸ []ᴸ) ≡ refused (refusal number) ∷ᴸ gives r c lat lon ∷ᴸ []ᴸ)

@@ -9,15 +9,14 @@ use lib.IntN.{ℤ, sub_ℕ}
 use Rattle.whole.specs.Whole.{outside, raise}
 use Rattle.whole.proofs.Signed.{is-raise, raise-high}
 use Rattle.arc.specs.Refusals.{refusal, on_verdict}
-use Rattle.arc.specs.declared.Verdict.{Verdict}
 use Rattle.arc.specs.Zones.{half, quarter}
-use Rattle.card.specs.declared.Card.{Card}
+use Rattle.card_text.specs.declared.Fields.{Fields}
 use Rattle.card.specs.declared.Pair.{Pair}
 use Rattle.card.specs.declared.PositionAnswer.{PositionAnswer}
 use Rattle.card.specs.declared.PixelAnswer.{PixelAnswer}
 use Rattle.card.specs.Grid.{in_tiles, in_chart, verdict_of, row_of, column_of, position_of, pixel_of, latitude_of, longitude_of}
 use Rattle.card.specs.Contained.{Contains, TilesContain, ChartContains, FoundContains, RefusedContains, CentreInside, AskedBack}
-use Rattle.card.proofs.Laid.{Laid, known-laid}
+use Rattle.card_text.proofs.Laid.{Laid, known-laid}
 use Rattle.card.proofs.Regions.{tiles-inside, chart-tiles}
 use Rattle.card.proofs.Answers.{accepted-in}
 use Rattle.card.proofs.Answered.{position_at}
@@ -26,7 +25,7 @@ use Rattle.card.proofs.Nearest.{found_at}
 use Rattle.card.proofs.Edges.{north, south, one-row, found-column, j, west, east, one-column}
 
 -- ---- any position in range
-module _ (k : Card) (l : Laid k) (lat lon : ℤ) (p : outside quarter lat ≡ false) (q : outside half lon ≡ false) where
+module _ (k : Fields) (l : Laid k) (lat lon : ℤ) (p : outside quarter lat ≡ false) (q : outside half lon ≡ false) where
   abbrev r₀ : ℤ
   r₀ = row_of Pair.Centre k lat
 

@@ -14,43 +14,42 @@ use lib.IntN.{ℤ, nat_abs, ◌-ℤ◌}
 use Rattle.whole.specs.Whole.{near}
 use Rattle.whole.proofs.Signed.{under, is-minus, is-size}
 use Rattle.whole.proofs.Near.{near-low, near-high}
-use Rattle.arc.specs.declared.Series.{Series}
-use Rattle.arc.specs.declared.Verdict.{Verdict}
+use Rattle.arc.specs.declared.series.Series.{Series}
 use Rattle.arc.specs.Refusals.{refusal}
-use Rattle.arc.specs.Spacing.{Grid}
+use Rattle.arc.specs.Pixels.{Grid}
 use Rattle.arc.proofs.Answered.{answered-grids}
 use Rattle.origin.specs.Origin.{stored_angle}
 use Rattle.origin.proofs.Axis.{tile_angle, stored_is}
 use Rattle.origin.proofs.Stored.{counted, counted_is, axis, stored-unique}
 use Rattle.text.specs.Text.{number, angle_of}
-use Rattle.card.specs.declared.Card.{Card}
-use Rattle.card.specs.declared.Fill.{Fill}
+use Rattle.card_text.specs.declared.Fields.{Fields}
+use Rattle.card_text.specs.declared.Fill.{Fill}
 use Rattle.card.specs.declared.Pair.{Pair}
 use Rattle.card.specs.declared.PlaceAnswer.{PlaceAnswer}
 use Rattle.card.specs.declared.PositionAnswer.{PositionAnswer}
-use Rattle.card.specs.Layout.{Subfield, STR, ARV, BRV, LSO, PSO, layout, bytes_of, right_kind, right_value, judge, judge_field, or_else, walk}
-use Rattle.card.specs.Read.{tile_storing, number_in, card_of, refused_card, with_origin, with_values, read_in, Accepted}
+use Rattle.card_text.specs.Layout.{Subfield, STR, ARV, BRV, LSO, PSO, layout, bytes_of, right_kind, right_value, judge, judge_field, or_else, walk}
+use Rattle.card_text.specs.Read.{tile_storing, number_in, card_of, refused_card, with_origin, with_values, read_in, Accepted}
 use Rattle.card.specs.NoDrift.{HasPlace}
 use Rattle.card.specs.Grid.{place_row, place_column, in_tiles, in_chart, place_of, position_of}
 use Rattle.card.specs.Places.{GivesPixel}
 use Rattle.card.specs.Copies.{Copies, PlaceAlike, BytesAlike, Moved, RoundedAgain}
 use Rattle.card.specs.Copies.{SameIn, others, LSOMoved, PSOMoved, MovedRefused}
-use Rattle.card.proofs.Walked.{or_else-both, or_else-accepted}
-use Rattle.card.proofs.Found.{Stores, tile-stores}
-use Rattle.card.proofs.Acceptance.{row_tile, column_tile, ReadTo, read-to}
-use Rattle.card.proofs.Laid.{accepted-laid}
+use Rattle.card_text.proofs.Walked.{or_else-both, or_else-accepted}
+use Rattle.card_text.proofs.Found.{Stores, tile-stores}
+use Rattle.card_text.proofs.Acceptance.{row_tile, column_tile, ReadTo, read-to}
+use Rattle.card_text.proofs.Laid.{accepted-laid}
 use Rattle.card.proofs.Regions.{chart-tiles}
 use Rattle.card.proofs.Chain.{no-drift}
 use Rattle.card.proofs.Places.{Told, told-by-place}
 
 -- ---- places and positions
 
-module _ (k : Card) (r c : ℤ) where
+module _ (k : Fields) (r c : ℤ) where
   pub placed : in_tiles k r c ≡ true → place_of k r c ≡ PlaceAnswer.At (place_row k r) (place_column k c)
   unfolding place_of
   placed t = rw t
 
-module _ (pair : Pair) (series : Series) (j k : Card) (p : Accepted series j) (q : Accepted series k) (r c : ℤ) (i : in_chart j r c ≡ true)
+module _ (pair : Pair) (series : Series) (j k : Fields) (p : Accepted series j) (q : Accepted series k) (r c : ℤ) (i : in_chart j r c ≡ true)
     (r' c' : ℤ) (i' : in_chart k r' c' ≡ true) where
   place_at : place_of j r c ≡ PlaceAnswer.At (place_row j r) (place_column j c)
   place_at = placed j r c (chart-tiles j r c (accepted-laid series j p) i)
@@ -198,7 +197,7 @@ no-column series a b t (some n) = refl
 moved_none : (x : ℕ) → Grid x → (t : ℕ) (y z k : ℤ) → Stores x t y k → Moved y z → tile_storing x t z ≡ none
 moved_none x g t y z k e h = rounded-again x g t k z (subst⁻¹ (λ (y : ℤ). Moved y z) e.same h)
 
-module _ (series : Series) (s t : List ℕ) (k : Card) (blanks : ℕ) (x : ReadTo Fill.Blanks series s k blanks) where
+module _ (series : Series) (s t : List ℕ) (k : Fields) (blanks : ℕ) (x : ReadTo Fill.Blanks series s k blanks) where
   no_origin : LSOMoved s t ⊎ PSOMoved s t
       → with_origin series x.a x.b t (row_tile x.b t) (column_tile x.a t) ≡ refused_card (refusal 10)
   no_origin (inl h) =

@@ -1,10 +1,5 @@
-pub mod Walked
-pub mod Spans
-pub mod Found
-pub mod Acceptance
-pub mod Laid
-pub mod Strict
 pub mod Line
+pub mod Known
 pub mod Pairs
 pub mod Axes
 pub mod Regions

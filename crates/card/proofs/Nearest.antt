@@ -13,19 +13,18 @@ use Rattle.whole.specs.Whole.{outside, raise}
 use Rattle.whole.proofs.Signed.{Is, over, under, is-parts, is_same, is-equal, equal_is, is-nat, is-neg, is-sub, is-add, is-minus, is_mul}
 use Rattle.whole.proofs.Signed.{is-times, is-size, le_is, lt-is, is-raise, raise-high, inside-size}
 use Rattle.whole.proofs.Near.{nearer}
-use Rattle.arc.specs.declared.Refusal.{Refusal}
-use Rattle.arc.specs.declared.Verdict.{Verdict}
+use Rattle.arc.specs.declared.refusal.Refusal.{Refusal}
 use Rattle.arc.specs.Refusals.{refusal, on_verdict}
 use Rattle.arc.specs.Zones.{circle, half, quarter}
-use Rattle.arc.specs.Spacing.{Grid}
-use Rattle.card.specs.declared.Card.{Card}
+use Rattle.arc.specs.Pixels.{Grid}
+use Rattle.card_text.specs.declared.Fields.{Fields}
 use Rattle.card.specs.declared.Pair.{Pair}
 use Rattle.card.specs.declared.PositionAnswer.{PositionAnswer}
 use Rattle.card.specs.declared.PixelAnswer.{PixelAnswer}
 use Rattle.card.specs.Grid.{place_row, place_column, row_of, column_of, in_tiles, in_chart, verdict_of, latitude_of, longitude_of, position_of, pixel_of}
 use Rattle.card.specs.Overview.{on_position, overview_pixel_of, apart, NearestRow, NearestColumn, NearestPlace, PixelNearest}
 use Rattle.card.specs.Overview.{OverviewFound, OverviewNearest, OverviewRefuses, OverviewRefused}
-use Rattle.card.proofs.Laid.{Laid, known-laid}
+use Rattle.card_text.proofs.Laid.{Laid, known-laid}
 use Rattle.card.proofs.Axes.{north-is, east-high, row_fits, row_at, column-at, column-place}
 use Rattle.card.proofs.Chain.{same_place}
 use Rattle.card.proofs.Answered.{answered-in-range}
@@ -102,7 +101,7 @@ round-nearest a v lon circles h within =
           other (m.1 ∙ ap pos (one-column a m.0 v turns circles m.2 h (ap (λ (q : ℤ). q -ℤ turns *ℤ pos a) (sym m.1) ∙ same)))));
     }
 
-module _ (k : Card) (l : Laid k) where
+module _ (k : Fields) (l : Laid k) where
   row-nearest : (lat : ℤ) → outside quarter lat ≡ false → NearestRow k.b lat (place_row k (row_of Pair.Corner k lat))
   row-nearest lat i =
       let p : ℕ = raise quarter lat in
@@ -153,13 +152,13 @@ module _ (k : Card) (l : Laid k) where
 
 -- ---- the pixel that is answered
 
-pub record FoundAt (p : Pair) (k : Card) (lat lon r c : ℤ) : Type 0 where
+pub record FoundAt (p : Pair) (k : Fields) (lat lon r c : ℤ) : Type 0 where
   pub lat-in : outside quarter lat ≡ false
   pub lon-in : outside half lon ≡ false
   pub row : row_of p k lat ≡ r
   pub column : column_of p k lon ≡ c
 
-pub found_at : (p : Pair) (k : Card) (lat lon r c : ℤ) → pixel_of p k lat lon ≡ PixelAnswer.At r c → FoundAt p k lat lon r c
+pub found_at : (p : Pair) (k : Fields) (lat lon r c : ℤ) → pixel_of p k lat lon ≡ PixelAnswer.At r c → FoundAt p k lat lon r c
 unfolding pixel_of
 found_at p k lat lon r c e = go (outside quarter lat) (outside half lon) (verdict_of k (row_of p k lat) (column_of p k lon)) refl refl e
   where
@@ -193,7 +192,7 @@ overview-nearest chart overview h w r c r' c' e = go (position_of Pair.Corner ch
     go (PositionAnswer.Refused n) p f = let z : ◌≡◌ {A = ℕ} 0 1 = cc in absurd (omega arith)
 
 -- a question that asks a pixel's verdict is refused with 12 or 13
-verdict-refuses : {A : Type 0} (F : Refusal → A) (x : A) (k : Card) (r c : ℤ) (e : Refusal) → ((n : Refusal) → F n ≡ F e → n ≡ e) → (x ≡ F e → ⊥)
+verdict-refuses : {A : Type 0} (F : Refusal → A) (x : A) (k : Fields) (r c : ℤ) (e : Refusal) → ((n : Refusal) → F n ≡ F e → n ≡ e) → (x ≡ F e → ⊥)
     → on_verdict (verdict_of k r c) F x ≡ F e → (e ≡ refusal 12) ⊎ (e ≡ refusal 13)
 verdict-refuses {A} F x k r c e one none f = go (in_tiles k r c) (in_chart k r c) f
   where

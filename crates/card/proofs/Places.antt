@@ -8,26 +8,26 @@ use Prim.Native.Nat.{ℕ, ◌+◌, ◌*◌, ◌/◌, ◌%◌}
 use native.Mathlib.Omega.{arith}
 use lib.IntN.{ℤ, pos, ◌*ℤ◌}
 use Rattle.whole.proofs.Signed.{over, under, is-parts, is-equal, equal_is, is-minus}
-use Rattle.arc.specs.declared.Series.{Series}
-use Rattle.arc.specs.declared.Refusal.{Refusal}
+use Rattle.arc.specs.declared.series.Series.{Series}
+use Rattle.arc.specs.declared.refusal.Refusal.{Refusal}
 use Rattle.arc.specs.Refusals.{refusal}
-use Rattle.card.specs.declared.Card.{Card}
+use Rattle.card_text.specs.declared.Fields.{Fields}
 use Rattle.card.specs.declared.Pair.{Pair}
 use Rattle.card.specs.declared.PositionAnswer.{PositionAnswer}
 use Rattle.card.specs.declared.PixelAnswer.{PixelAnswer}
-use Rattle.card.specs.Read.{Accepted}
+use Rattle.card_text.specs.Read.{Accepted}
 use Rattle.card.specs.Grid.{place_row, place_column, in_tiles, in_chart, position_of, pixel_of}
 use Rattle.card.specs.NoDrift.{HasPlace, TilesHave, ChartHas, Visit, gave, refused, visit_with, visit, visits, latitude_after, longitude_after}
 use Rattle.card.specs.NoDrift.{Right, Every}
 use Rattle.card.specs.Places.{OnlyAt, GivesWhere, GivesOnly, RefusesWhere, EachLater, GivesExactly, OnlyPixel, RefusesExactly, AskedAlike}
-use Rattle.card.proofs.Laid.{Laid, accepted-laid}
+use Rattle.card_text.proofs.Laid.{Laid, accepted-laid}
 use Rattle.card.proofs.Axes.{north-is, east-high, column-place}
 use Rattle.card.proofs.Regions.{Within, tiles-inside, chart-tiles}
 use Rattle.card.proofs.Chain.{same-column, no-drift}
 
 -- ---- a place has one pixel of the tiles
 
-module _ (k : Card) (l : Laid k) where
+module _ (k : Fields) (l : Laid k) where
   one-row : (r i : ℤ) → place_row k r ≡ place_row k i → r ≡ i
   one-row r i e =
       let s : ℕ = 128 * (k.b / 512) in
@@ -58,7 +58,7 @@ module _ (k : Card) (l : Laid k) where
 
 -- ---- what one later card answers
 
-pub record Told (p : Pair) (k : Card) (u v lat lon : ℤ) : Type 0 where
+pub record Told (p : Pair) (k : Fields) (u v lat lon : ℤ) : Type 0 where
   pub gives : GivesWhere p k u v lat lon
   pub only : GivesOnly p k u v lat lon
   pub back : (r c : ℤ) → pixel_of p k lat lon ≡ PixelAnswer.At r c → position_of p k r c ≡ PositionAnswer.At lat lon
@@ -84,7 +84,7 @@ refuses e g (lacks, inr (is, tiled)) =
     let q = g ∙ ap PixelAnswer.Refused is in
     (((λ f. not-both f q), (λ n. absurd (n tiled))), ((λ f. (tiled, lacks)), (λ n. q)))
 
-module _ (p : Pair) (k : Card) (l : Laid k) (u v lat lon : ℤ) where
+module _ (p : Pair) (k : Fields) (l : Laid k) (u v lat lon : ℤ) where
   told : (x : PixelAnswer) → pixel_of p k lat lon ≡ x → Right u v lat lon k (visit_with p k x) → Told p k u v lat lon
   told (PixelAnswer.At r c) g h =
       let tiles = chart-tiles k r c l h.0 in
@@ -111,9 +111,9 @@ module _ (p : Pair) (k : Card) (l : Laid k) (u v lat lon : ℤ) where
       }
 
 -- the walk over one later card
-module _ (p : Pair) (series : Series) (first : Card) (h : Accepted series first) (r c : ℤ) (within : in_chart first r c ≡ true)
+module _ (p : Pair) (series : Series) (first : Fields) (h : Accepted series first) (r c : ℤ) (within : in_chart first r c ≡ true)
     (lat lon : ℤ) (answered : position_of p first r c ≡ PositionAnswer.At lat lon) where
-  visit-right : (k : Card) → Accepted series k → Right (place_row first r) (place_column first c) lat lon k (visit p k lat lon)
+  visit-right : (k : Fields) → Accepted series k → Right (place_row first r) (place_column first c) lat lon k (visit p k lat lon)
   visit-right k q =
       let w = no-drift p series first (k ∷ []) (h, (q, tt)) r c within in
       let e = w.answered in
@@ -121,11 +121,11 @@ module _ (p : Pair) (series : Series) (first : Card) (h : Accepted series first)
       let y : w.lon ≡ lon = cc in
       subst₂ (λ (x y : ℤ). Right (place_row first r) (place_column first c) x y k (visit p k x y)) x y w.each.0
 
-  pub told-by-place : (k : Card) → Accepted series k → Told p k (place_row first r) (place_column first c) lat lon
+  pub told-by-place : (k : Fields) → Accepted series k → Told p k (place_row first r) (place_column first c) lat lon
   told-by-place k q = told p k (accepted-laid series k q) _ _ lat lon (pixel_of p k lat lon) refl (visit-right k q)
 
   -- the position that goes on is the same
-  kept : (k : Card) (x : Visit) → Right (place_row first r) (place_column first c) lat lon k x
+  kept : (k : Fields) (x : Visit) → Right (place_row first r) (place_column first c) lat lon k x
       → (latitude_after lat x ≡ lat) × (longitude_after lon x ≡ lon)
   kept k (gave i j a) h = (
     ap (λ (a : PositionAnswer). latitude_after lat (gave i j a)) h.2,
@@ -133,7 +133,7 @@ module _ (p : Pair) (series : Series) (first : Card) (h : Accepted series first)
   )
   kept k (refused e) h = (refl, refl)
 
-  alike : (rest : List Card) → Every (Accepted series) rest → visits p lat lon rest ≡ map (λ k. visit p k lat lon) rest
+  alike : (rest : List Fields) → Every (Accepted series) rest → visits p lat lon rest ≡ map (λ k. visit p k lat lon) rest
   alike [] q = refl
   alike (k ∷ rest) q =
       let e = kept k (visit p k lat lon) (visit-right k q.0) in
@@ -141,11 +141,11 @@ module _ (p : Pair) (series : Series) (first : Card) (h : Accepted series first)
 
 -- ---- the claims
 
-every : {A B : Card → Type 0} → ((k : Card) → A k → B k) → (ks : List Card) → Every A ks → Every B ks
+every : {A B : Fields → Type 0} → ((k : Fields) → A k → B k) → (ks : List Fields) → Every A ks → Every B ks
 every f [] h = tt
 every f (k ∷ ks) h = (f k h.0, every f ks h.1)
 
-each : {P : Pair → Card → ℤ → ℤ → ℤ → ℤ → Type 0} → ((p : Pair) (k : Card) (u v lat lon : ℤ) → Told p k u v lat lon → P p k u v lat lon)
+each : {P : Pair → Fields → ℤ → ℤ → ℤ → ℤ → Type 0} → ((p : Pair) (k : Fields) (u v lat lon : ℤ) → Told p k u v lat lon → P p k u v lat lon)
     → EachLater P
 each f p series first rest all r c i lat lon a =
     every (λ k q. f p k _ _ lat lon (told-by-place p series first all.0 r c i lat lon a k q)) rest all.1

@@ -1,33 +1,29 @@
 -- What a reading tells of a question put to its card. Assumes nothing.
-use mathlib.Core.Path.{◌≡◌, sym, ap, ◌∙◌}
+use mathlib.Core.Path.{◌≡◌, refl, sym, ap, ◌∙◌}
 use Prim.Native.Nat.{ℕ}
 use mathlib.Core.List.{List}
-use Rattle.arc.specs.declared.Series.{Series}
-use Rattle.arc.specs.declared.Refusal.{Refusal}
-use Rattle.arc.specs.declared.Verdict.{Verdict}
-use Rattle.arc.specs.Refusals.{on_verdict}
-use Rattle.card.specs.declared.Card.{Card}
+use Rattle.std.specs.Prelude.{Result, Ok, Err}
+use Rattle.arc.specs.declared.series.Series.{Series}
+use Rattle.arc.specs.declared.refusal.Refusal.{Refusal}
+use Rattle.card_text.specs.declared.Fields.{Fields}
+use Rattle.card_text.specs.declared.Reading.{Reading as TextReading}
+use Rattle.card_text.specs.Read.{read_of, on_card}
 use Rattle.card.specs.declared.Reading.{Reading}
-use Rattle.card.specs.Read.{read_of, Known, on_card}
+use Rattle.card.specs.Read.{as_card, card_read}
+
+-- a reading as a card, by cases on what was read
+on_reading : {A : Type 0} → Result Reading Refusal → (Refusal → A) → (Fields → A) → A
+on_reading (Ok x) f g = g x.card
+on_reading (Err r) f g = f r
+
+same : {A : Type 0} (f : Refusal → A) (g : Fields → A) (x : Result TextReading Refusal) → on_reading (as_card x) f g ≡ on_card x f g
+same f g (Ok x) = refl
+same f g (Err r) = refl
 
 -- x is what reading answered
-module _ (series : Series) (bytes : List ℕ) {x : Reading} (e : x ≡ read_of series bytes) where
-  pub card-known : x.verdict ≡ Verdict.Accepted → Known x.card
-  card-known v =
-      record {
-        series = series;
-        is_read =
-            record {
-              bytes = bytes;
-              blanks = x.blanks;
-              read = sym e ∙ ap (λ (w : Verdict). record { verdict = w; card = x.card; blanks = x.blanks }) v;
-            };
-      }
+module _ (series : Series) (bytes : List ℕ) {x : Result Reading Refusal} (e : x ≡ card_read series bytes) {A : Type 0} (f : Refusal → A) (g : Fields → A) where
+  pub card-answers : {y : Reading} → x ≡ Ok y → g y.card ≡ on_card (read_of series bytes) f g
+  card-answers v = sym (ap (λ w. on_reading w f g) v) ∙ ap (λ w. on_reading w f g) e ∙ same f g (read_of series bytes)
 
-  pub card-answers : {A : Type 0} (f : Refusal → A) (g : Card → A) → x.verdict ≡ Verdict.Accepted
-      → g x.card ≡ on_card (read_of series bytes) f g
-  card-answers f g v = sym (ap (λ (w : Verdict). on_verdict w f (g x.card)) v) ∙ ap (λ (y : Reading). on_card y f g) e
-
-  pub card-refuses : {A : Type 0} (f : Refusal → A) (g : Card → A) {r : Refusal} → x.verdict ≡ Verdict.Refused r
-      → f r ≡ on_card (read_of series bytes) f g
-  card-refuses f g v = sym (ap (λ (w : Verdict). on_verdict w f (g x.card)) v) ∙ ap (λ (y : Reading). on_card y f g) e
+  pub card-refuses : {r : Refusal} → x ≡ Err r → f r ≡ on_card (read_of series bytes) f g
+  card-refuses v = sym (ap (λ w. on_reading w f g) v) ∙ ap (λ w. on_reading w f g) e ∙ same f g (read_of series bytes)

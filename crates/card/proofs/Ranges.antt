@@ -10,15 +10,12 @@ use mir.ValLaws.{to_z-of_z}
 use Rattle.whole.specs.Whole.{outside, raise}
 use Rattle.whole.proofs.Signed.{Is, is-equal, is-unique, is-minus, is-difference, is-raise, raise-high}
 use Rattle.whole.proofs.Counts.{Inside, inside_is}
-use Rattle.arc.specs.declared.Refusal.{Refusal}
+use Rattle.arc.specs.declared.refusal.Refusal.{Refusal}
 use Rattle.arc.specs.Refusals.{refusal}
 use Rattle.arc.specs.Zones.{half, quarter}
 use Rattle.card.specs.declared.range.Ranged.{Ranged}
 use Rattle.card.specs.Steps.{ranged_of}
-
-pub raise-is : (t : ℕ) (z : ℤ) (n : ℕ) → Is z n t → raise t z ≡ n
-raise-is t (pos m) n e = e
-raise-is t (negsuc m) n e = omega arith
+use Rattle.card_text.proofs.Values.{raise-is}
 
 pub inside-raise : {k : ℕ} {z : ℤ} {n : ℕ} → Inside k z n → raise k z ≡ n
 inside-raise {k} {z} {n} i = raise-is k z n (inside_is i)

@@ -8,7 +8,7 @@ use Rattle.printing.specs.Lines.{numbers_of}
 use Rattle.printing.specs.Printed.{bad_line, too_long}
 use Rattle.printing.specs.Run.{line_at, next_at, closed, opened_card, opening_of}
 use Rattle.printing.specs.Steps.{opening_for, opening_text, opening_left, stopped, Opens}
-use Rattle.printing.specs.declared.ReadCard.{ReadCard}
+use Rattle.card.specs.declared.Reading.{Reading}
 use Rattle.printing.specs.declared.OpeningText.{OpeningText}
 
 module _ {x s t : List ℕ} {r : ℕ} (p : Put x 0 s t r) where
@@ -17,7 +17,7 @@ module _ {x s t : List ℕ} {r : ℕ} (p : Put x 0 s t r) where
   stops a end e = record { answer = e ∙ rw (front_length p); left = front-left p }
 
   -- lines follow
-  pub follows : (k : ReadCard) (n : ℕ)
+  pub follows : (k : Reading) (n : ℕ)
       → Opens (record { text = x; next = n; read = Some k }) s t (record { length = r; next = n; read = Some k })
   follows k n = record { answer = rw (front_length p); left = front-left p }
 

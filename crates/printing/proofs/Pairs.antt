@@ -4,8 +4,7 @@ use Rattle.std.proofs.Common.{Option, Some, None, nat_le}
 use mathlib.Core.Bool.{and-eq-true_iff}
 use Rattle.text.specs.Text.{all, is_digit, number}
 use Rattle.text.specs.Buffer.{digits_in}
-use Rattle.text.specs.declared.Digits.{Digits}
-use Rattle.text.proofs.Numbers.{number-below, digits-read}
+use Rattle.text.proofs.Numbers.{number-below}
 use Rattle.printing.specs.Lines.{up_to, after, is_number, number_in, both, numbers_of}
 use Rattle.printing.specs.Steps.{IsUncut}
 use Rattle.printing.specs.declared.parse.TwoNumbers.{TwoNumbers}
@@ -16,26 +15,26 @@ below s t =
     let d = (and-eq-true_iff (nat_le 1 (length s)) (nat_le (length s) 9)).0 b.0 in
     number-below 9 s (leb-true (length s) 9 d.1) b.1
 
+small : (s : List ℕ) {v : ℕ} → number_in s ≡ Some v → v < 1000000000
+small s {v} e = go (is_number s) refl e
+  where
+    go : (t : Bool) → is_number s ≡ t → cond t (Some (number s)) None ≡ Some v → v < 1000000000
+    go true t e = let n : number s ≡ v = cc in rw (← n) (below s t)
+    go false t e = absurd cc
+
 -- a run of 1 to 9 bytes as it was read
-module _ (s : List ℕ) {d : Digits} (e : d ≡ digits_in s) (least : 1 ≤ length s) (most : length s ≤ 9) where
-  tested : d.ok ≡ is_number s
-  tested = rw (le-leb 1 (length s) least, le-leb (length s) 9 most) (digits-read 9 s most (omega arith) e).tested
+module _ (s : List ℕ) (least : 1 ≤ length s) (most : length s ≤ 9) where
+  in-digits : digits_in s ≡ number_in s
+  unfolding digits_in
+  in-digits = rw (le-leb 1 (length s) least, le-leb (length s) 9 most, le-leb (length s) 17 (omega arith))
 
-  value : d.ok ≡ true → (is_number s ≡ true) × (d.value ≡ number s)
-  value t =
-      let n : is_number s ≡ true = sym tested ∙ t in
-      (n, (digits-read 9 s most (omega arith) e).read ((and-eq-true_iff _ (all is_digit s)).0 n).1)
+  pub number_is_read : {r : Option ℕ} → r ≡ digits_in s → r ≡ number_in s
+  number_is_read e = e ∙ in-digits
 
-  pub some_is_read : d.ok ≡ true → Some d.value ≡ number_in s
-  some_is_read t = let v = value t in rw (v.0, v.1)
+  pub some_is_below : {v : ℕ} → Some v ≡ digits_in s → v < 2 ^ 32
+  some_is_below e = omega (arith, small s (sym (e ∙ in-digits)))
 
-  pub some_is_below : d.ok ≡ true → d.value < 2 ^ 32
-  some_is_below t = let v = value t in omega (arith, v.1, below s v.0)
-
-  pub none_is_read : d.ok ≡ false → None ≡ number_in s
-  none_is_read t = rw (sym tested ∙ t)
-
-pub ruleset number_reads = (some_is_read, some_is_below, none_is_read)
+pub ruleset number_reads = (number_is_read, some_is_below)
 
 -- ---- the numbers of a line, whose parts are x and y
 
@@ -63,13 +62,6 @@ module _ (l : List ℕ) {x y : List ℕ} (p : x ≡ up_to 32 l) (q : y ≡ after
 pub ruleset line_reads = (uncut_has_none, no_left, no_right, two_numbers)
 
 -- ---- the numbers are below 10 ^ 9
-
-small : (s : List ℕ) {v : ℕ} → number_in s ≡ Some v → v < 1000000000
-small s {v} e = go (is_number s) refl e
-  where
-    go : (t : Bool) → is_number s ≡ t → cond t (Some (number s)) None ≡ Some v → v < 1000000000
-    go true t e = let n : number s ≡ v = cc in rw (← n) (below s t)
-    go false t e = absurd cc
 
 pub pair-below : (l : List ℕ) (p : TwoNumbers) → numbers_of l ≡ Some p → (p.left < 1000000000) × (p.right < 1000000000)
 unfolding numbers_of

@@ -7,7 +7,7 @@ use mathlib.Core.List.{List}
 use lib.Dec.{leb, ltb}
 use lib.ListN.{length}
 use borrow.Author.Tests.{leb-false, le-leb, lt-leb, lt-ltb, le-ltb}
-use Rattle.card.specs.declared.Card.{Card}
+use Rattle.card_text.specs.declared.Fields.{Fields}
 use Rattle.text.specs.Steps.{Put}
 use Rattle.printing.specs.Printed.{line_for}
 use Rattle.printing.specs.Run.{line_at, next_at, goes_on, RunEnds, NeverBack}
@@ -15,7 +15,7 @@ use Rattle.printing.specs.Steps.{text_at, line_text, line_left, no_line}
 use Rattle.printing.specs.declared.LineText.{LineText}
 use Rattle.text.proofs.Splices.{front_length, front-left}
 
-module _ (k : Card) (s : List ℕ) (at : ℕ) (out : List ℕ) where
+module _ (k : Fields) (s : List ℕ) (at : ℕ) (out : List ℕ) where
   -- where nothing is put, a caller goes on at the offset or at the end of the input
   pub past_text : length s ≤ at → {a : LineText} → a ≡ no_line at → a ≡ line_text k s at out
   unfolding text_at line_text goes_on
@@ -81,7 +81,7 @@ never_back s at out = go (leb (length s) at) (ltb 65536 (length s)) (leb 64 (len
     go false false false e = omega arith
 
 -- for a caller
-pub next_further : (k : Card) (s : List ℕ) (at : ℕ) (out : List ℕ) {r : LineText} → r ≡ line_text k s at out → at < length s → 64 ≤ length out
+pub next_further : (k : Fields) (s : List ℕ) (at : ℕ) (out : List ℕ) {r : LineText} → r ≡ line_text k s at out → at < length s → 64 ≤ length out
     → at < r.next
 unfolding line_text
 next_further k s at out e l m = rw e (run_ends s at out l m)

@@ -1,25 +1,25 @@
--- Every text that is printed at once fits 64 bytes, and lines follow only an accepted card. Assumes nothing.
+-- Every text that is printed at once fits 64 bytes, and lines follow only in an input that is taken. Assumes nothing.
 use mathlib.Core.Path.{◌≡◌, refl}
 use Prim.Native.Nat.{ℕ, ◌≤◌, ◌<◌}
 use native.Mathlib.Omega.{arith}
 use mathlib.Core.Bool.{Bool, true, false, cond}
 use mathlib.Core.List.{List, [], ◌++◌}
-use Rattle.std.proofs.Common.{Option, Some, None}
+use Rattle.std.proofs.Common.{Option, Some, None, Result, Ok, Err}
 use Rattle.std.specs.Prelude.{nat_le, nat_lt}
 use lib.Dec.{leb, ltb}
 use lib.ListN.{length, length-append}
 use borrow.Author.Tests.{ltb-false}
-use Rattle.arc.specs.declared.Refusal.{Refusal}
-use Rattle.arc.specs.declared.Verdict.{Verdict}
+use Rattle.arc.specs.declared.refusal.Refusal.{Refusal}
 use Rattle.arc.specs.Scales.{chart_series}
 use Rattle.text.specs.Text.{bytes, decimal}
-use Rattle.card.specs.declared.Card.{Card}
+use Rattle.card_text.specs.declared.Fields.{Fields}
 use Rattle.card.specs.declared.PositionAnswer.{PositionAnswer}
-use Rattle.card.specs.Read.{read_of, Known}
+use Rattle.card.specs.Read.{card_read}
+use Rattle.arc.specs.Refusals.{number_of, place_of}
 use Rattle.printing.specs.Lines.{numbers_of}
 use Rattle.printing.specs.declared.parse.TwoNumbers.{TwoNumbers}
-use Rattle.printing.specs.declared.ReadCard.{ReadCard}
-use Rattle.printing.specs.Printed.{bad_line, too_long, answer_text, pixel_text, line_out, line_for, card_out}
+use Rattle.card.specs.declared.Reading.{Reading}
+use Rattle.printing.specs.Printed.{bad_line, too_long, answer_text, pixel_text, line_out, line_for, refusal_text}
 use Rattle.printing.specs.Run.{line_at, next_at, Opened, closed, opened_with, opened_card, opening_of}
 use Rattle.printing.specs.Steps.{opening_for, opening_text, served, text_at, line_text}
 use Rattle.printing.specs.declared.OpeningText.{OpeningText}
@@ -37,7 +37,7 @@ put e f = put_if (e, f)
 
 pub answer-short : (a : PositionAnswer) → length (answer_text a) ≤ 29
 answer-short (PositionAnswer.At lat lon) = simp (length-append, length-angle) (omega arith)
-answer-short (PositionAnswer.Refused e) = simp length-append (omega (arith, decimal-most e.number))
+answer-short (PositionAnswer.Refused e) = simp length-append (omega (arith, decimal-most (number_of e)))
 
 -- row and column
 pub lead-short : (row column : ℕ) → row < 10000000000 → column < 10000000000 → length (decimal row ++ bytes " " ++ decimal column ++ bytes " ") ≤ 22
@@ -58,10 +58,10 @@ pub lead-put : (row column : ℕ) {s t u v w : List ℕ} {q p o r : ℕ} → row
     → Put (decimal row ++ bytes " " ++ decimal column ++ bytes " ") 0 s w r
 lead-put row column h l m a b c d = put_then (put_then (put_then a b) c) d (omega (arith, lead-short row column h l))
 
-pub refusal-short : (e : Refusal) (k : Card) → length (card_out (Verdict.Refused e) k []) ≤ 64
-refusal-short e k = simp length-append (omega (arith, decimal-most e.number, decimal-most e.at))
+pub refusal-short : (e : Refusal) → length (refusal_text e) ≤ 64
+refusal-short e = simp length-append (omega (arith, decimal-most (number_of e), decimal-most (place_of e)))
 
-pub line-short : (k : Card) (l : List ℕ) → length (line_for k l) ≤ 64
+pub line-short : (k : Fields) (l : List ℕ) → length (line_for k l) ≤ 64
 unfolding line_for
 line-short k l = split (numbers_of l) refl
   where
@@ -72,7 +72,7 @@ line-short k l = split (numbers_of l) refl
     split None e = omega arith
 
 -- what `pixel_line` puts
-pub text-short : (k : Card) (s : List ℕ) (at : ℕ) (out : List ℕ) → length (text_at k s at out) ≤ 64
+pub text-short : (k : Fields) (s : List ℕ) (at : ℕ) (out : List ℕ) → length (text_at k s at out) ≤ 64
 unfolding text_at
 text-short k s at out = split (served s at out)
   where
@@ -82,37 +82,20 @@ text-short k s at out = split (served s at out)
 
 -- ---- what `opening` puts
 
--- where lines follow, the card is one that reading accepts, and the input is no longer than the program takes
-pub record Follows (s : List ℕ) (r : ReadCard) : Type 0 where
-  pub known : Known r.card
-  pub taken : length s ≤ 65536
-
 pub record Opening (s : List ℕ) (o : Opened) : Type 0 where
   pub short : length o.text ≤ 64
-  pub follows : {r : ReadCard} → o.read ≡ Some r → Follows s r
+  pub taken : {r : Reading} → o.read ≡ Some r → length s ≤ 65536
 
 shut : (s x : List ℕ) → length x ≤ 64 → Opening s (closed x (length s))
-shut s x h = record { short = h; follows = λ e. absurd cc }
+shut s x h = record { short = h; taken = λ e. absurd cc }
 
 with-card : (s : List ℕ) → length s ≤ 65536 → (o : Option TwoNumbers) (card : List ℕ) (next : ℕ) → Opening s (opened_card o card next (length s))
 with-card s h None card next = shut s bad_line (omega arith)
-with-card s h (Some p) card next = let r = read_of (chart_series p.left p.right) card in verdict r.verdict r.card r.blanks refl
+with-card s h (Some p) card next = opened (card_read (chart_series p.left p.right) card)
   where
-    verdict : (v : Verdict) (k : Card) (blanks : ℕ) → read_of (chart_series p.left p.right) card ≡ record { verdict = v; card = k; blanks = blanks }
-        → Opening s (opened_with v k blanks next (length s))
-    verdict Verdict.Accepted k blanks e =
-        record {
-          short = omega arith;
-          follows = λ {r} m.
-              let q : record { card = k; blanks = blanks } ≡ r = cc in
-              rw (← q)
-              (record {
-                known = record { series = chart_series p.left p.right; is_read = record { bytes = card; blanks = blanks; read = e } };
-                taken = h;
-              });
-        }
-    verdict (Verdict.Refused n) k blanks e =
-        shut s (card_out (Verdict.Refused n) k []) (refusal-short n k)
+    opened : (x : Result Reading Refusal) → Opening s (opened_with x next (length s))
+    opened (Ok r) = record { short = omega arith; taken = λ m. h }
+    opened (Err e) = shut s (refusal_text e) (refusal-short e)
 
 pub openings : (s out : List ℕ) → Opening s (opening_for s out)
 unfolding opening_for opening_of
@@ -130,7 +113,7 @@ openings s out = split (nat_le 64 (length out)) (nat_lt 65536 (length s)) (nat_l
 
 -- ---- for a caller
 
-pub line_fits : (k : Card) (s : List ℕ) (at : ℕ) (out : List ℕ) {r : LineText} → r ≡ line_text k s at out → r.length ≤ 64
+pub line_fits : (k : Fields) (s : List ℕ) (at : ℕ) (out : List ℕ) {r : LineText} → r ≡ line_text k s at out → r.length ≤ 64
 unfolding line_text
 line_fits k s at out e = rw e (text-short k s at out)
 
@@ -138,5 +121,5 @@ module _ (s out : List ℕ) {r : OpeningText} (e : r ≡ opening_text (opening_f
   pub opening_fits : r.length ≤ 64
   opening_fits = rw e (openings s out).short
 
-  pub opening_follows : {k : ReadCard} → r.read ≡ Some k → Follows s k
-  opening_follows m = (openings s out).follows (rw e at m)
+  pub opening_taken : {k : Reading} → r.read ≡ Some k → length s ≤ 65536
+  opening_taken m = (openings s out).taken (rw e at m)

@@ -4,12 +4,12 @@ use Rattle.std.proofs.Common.{Option, Some, None, Result, Ok, Err, OnOk, le-ltb,
 use borrow.Author.Tests.{lt-leb}
 use Rattle.std.specs.Io.KnownBytes.{Appends}
 use Rattle.std.proofs.KnownBytes.{Appends-nil, Appends-trans}
-use Rattle.card.specs.declared.Card.{Card}
+use Rattle.card_text.specs.declared.Fields.{Fields}
 use Rattle.printing.specs.Lines.{lines_of}
 use Rattle.printing.specs.Printed.{line_for, lines_for, printed}
 use Rattle.printing.specs.Run.{line_at, opening_of, goes_on, lines_from}
 use Rattle.printing.specs.Steps.{opening_for, opening_text, opening_left, text_at, line_text, line_left}
-use Rattle.printing.specs.declared.ReadCard.{ReadCard}
+use Rattle.card.specs.declared.Reading.{Reading}
 use Rattle.printing.specs.declared.OpeningText.{OpeningText}
 use Rattle.printing.specs.declared.LineText.{LineText}
 use Rattle.printing.proofs.Prints.{lines_at, lines_end, from-lines, run_prints}
@@ -37,11 +37,11 @@ on-ok (Err e) p f = tt
 
 -- ---- the lines
 
-pub none-left : (k : Card) (s : List ℕ) (at : ℕ) → length s ≤ at → lines_for k (lines_of (drop at s)) ≡ []
+pub none-left : (k : Fields) (s : List ℕ) (at : ℕ) → length s ≤ at → lines_for k (lines_of (drop at s)) ≡ []
 none-left k s at h = rw (lines_end s at h)
 
 -- a turn of the loop
-pub line-turn : (k : Card) (s : List ℕ) (at : ℕ) (out : List ℕ) → at < length s → length s ≤ 65536 → 64 ≤ length out → {r : LineText} {t : List ℕ}
+pub line-turn : (k : Fields) (s : List ℕ) (at : ℕ) (out : List ℕ) → at < length s → length s ≤ 65536 → 64 ≤ length out → {r : LineText} {t : List ℕ}
     → r ≡ line_text k s at out → t ≡ line_left k s at out → lines_for k (lines_of (drop at s)) ≡ take r.length t ++ lines_for k (lines_of (drop r.next s))
 unfolding text_at line_text goes_on
 line-turn k s at out h l m e f =
@@ -65,5 +65,5 @@ module _ (s out : List ℕ) (room : 64 ≤ length out) {r : OpeningText} {t : Li
   pub whole-none : r.read ≡ None → take r.length t ≡ printed s
   whole-none m = sym (append-nil (take r.length t)) ∙ (rw m at run)
 
-  pub whole-some : {k : ReadCard} → r.read ≡ Some k → take r.length t ++ lines_for k.card (lines_of (drop r.next s)) ≡ printed s
+  pub whole-some : {k : Reading} → r.read ≡ Some k → take r.length t ++ lines_for k.card (lines_of (drop r.next s)) ≡ printed s
   whole-some {k} m = rw (← from-lines k.card s (length s) r.next (omega arith)) (rw m at run)

@@ -9,14 +9,14 @@
 --     RunPrints          a run prints what is to be printed
 --     RunEnds            a run with buffers of 64 bytes or more ends: it goes on above the offset wherever a line starts
 --     NeverBack          a caller never goes on below the offset
-use Rattle.std.specs.Prelude.{◌≡◌, ℕ, zero, suc, ◌+◌, ◌≤◌, ◌<◌, List, [], ◌++◌, cond, nat_lt, nat_le, length, drop, Option, Some, None}
-use Rattle.arc.specs.declared.Verdict.{Verdict}
+use Rattle.std.specs.Prelude.{◌≡◌, ℕ, zero, suc, ◌+◌, ◌≤◌, ◌<◌, List, [], ◌++◌, cond, nat_lt, nat_le, length, drop, Option, Some, None, Result, Ok, Err}
+use Rattle.arc.specs.declared.refusal.Refusal.{Refusal}
 use Rattle.arc.specs.Scales.{chart_series}
-use Rattle.card.specs.declared.Card.{Card}
-use Rattle.card.specs.Read.{read_of}
+use Rattle.card_text.specs.declared.Fields.{Fields}
+use Rattle.card.specs.declared.Reading.{Reading}
+use Rattle.card.specs.Read.{card_read}
 use Rattle.printing.specs.Lines.{up_to, numbers_of}
-use Rattle.printing.specs.Printed.{header, bad_line, too_long, line_for, card_out, printed}
-use Rattle.printing.specs.declared.ReadCard.{ReadCard}
+use Rattle.printing.specs.Printed.{header, bad_line, too_long, line_for, refusal_text, printed}
 use Rattle.printing.specs.declared.parse.TwoNumbers.{TwoNumbers}
 
 -- up to the line feed
@@ -33,18 +33,18 @@ next_at s at = at + length (line_at s at) + 1
 pub record Opened : Type 0 where
   pub text : List ℕ
   pub next : ℕ
-  pub read : Option ReadCard
+  pub read : Option Reading
 
 -- no line follows: the next one would start at the end of the input
 abbrev pub closed : List ℕ → ℕ → Opened
 closed text end = record { text = text; next = end; read = None }
 
-abbrev pub opened_with : Verdict → Card → ℕ → ℕ → ℕ → Opened
-opened_with Verdict.Accepted k blanks next end = record { text = header; next = next; read = Some (record { card = k; blanks = blanks }) }
-opened_with (Verdict.Refused e) k blanks next end = closed (card_out (Verdict.Refused e) k []) end
+abbrev pub opened_with : Result Reading Refusal → ℕ → ℕ → Opened
+opened_with (Ok r) next end = record { text = header; next = next; read = Some r }
+opened_with (Err e) next end = closed (refusal_text e) end
 
 abbrev pub opened_card : Option TwoNumbers → List ℕ → ℕ → ℕ → Opened
-opened_card (Some p) card next end = let r = read_of (chart_series p.left p.right) card in opened_with r.verdict r.card r.blanks next end
+opened_card (Some p) card next end = opened_with (card_read (chart_series p.left p.right) card) next end
 opened_card None card next end = closed bad_line end
 
 -- no second line where the first one reaches the end of the input
@@ -54,7 +54,7 @@ opening_of s =
     (cond (nat_le (length s) (next_at s 0)) (closed bad_line (length s))
     (opened_card (numbers_of (line_at s 0)) (line_at s (next_at s 0)) (next_at s (next_at s 0)) (length s)))
 
-abbrev pub blanks_of : Option ReadCard → ℕ
+abbrev pub blanks_of : Option Reading → ℕ
 blanks_of (Some r) = r.blanks
 blanks_of None = 0
 
@@ -65,12 +65,12 @@ goes_on s at out =
     (cond (nat_lt 65536 (length s)) (length s)
     (cond (nat_le 64 (length out)) (next_at s at) at))
 
-abbrev pub from_on : Card → List ℕ → ℕ → ℕ → List ℕ
+abbrev pub from_on : Fields → List ℕ → ℕ → ℕ → List ℕ
 from_on k s at zero = []
 from_on k s at (suc n) = cond (nat_lt at (length s)) (line_for k (line_at s at) ++ from_on k s (next_at s at) n) []
 
 -- the lines of a card that was read
-abbrev pub lines_from : Option ReadCard → List ℕ → ℕ → List ℕ
+abbrev pub lines_from : Option Reading → List ℕ → ℕ → List ℕ
 lines_from (Some r) s next = from_on r.card s next (length s)
 lines_from None s next = []
 

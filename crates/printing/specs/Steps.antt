@@ -9,7 +9,7 @@
 --     line_text k s at out    the same as `pixel_line` answers it
 --     line_left k s at out    what the buffer then holds
 use Rattle.std.specs.Prelude.{◌≡◌, ℕ, Bool, cond, ◌&&◌, List, [], nat_le, nat_lt, length, None}
-use Rattle.card.specs.declared.Card.{Card}
+use Rattle.card_text.specs.declared.Fields.{Fields}
 use Rattle.whole.specs.Lists.{over}
 use Rattle.printing.specs.Lines.{up_to, after}
 use Rattle.printing.specs.Printed.{line_for}
@@ -44,15 +44,15 @@ pub record Opens (o : Opened) (s t : List ℕ) (r : OpeningText) : Type 0 where
 abbrev pub served : List ℕ → ℕ → List ℕ → Bool
 served s at out = nat_le (length s) 65536 && nat_lt at (length s) && nat_le 64 (length out)
 
-unfoldable pub text_at : Card → List ℕ → ℕ → List ℕ → List ℕ
+unfoldable pub text_at : Fields → List ℕ → ℕ → List ℕ → List ℕ
 text_at k s at out = cond (served s at out) (line_for k (line_at s at)) []
 
-unfoldable pub line_text : Card → List ℕ → ℕ → List ℕ → LineText
+unfoldable pub line_text : Fields → List ℕ → ℕ → List ℕ → LineText
 line_text k s at out = record { length = length (text_at k s at out); next = goes_on s at out }
 
 -- nothing is printed for a line
 abbrev pub no_line : ℕ → LineText
 no_line next = record { length = 0; next = next }
 
-abbrev pub line_left : Card → List ℕ → ℕ → List ℕ → List ℕ
+abbrev pub line_left : Fields → List ℕ → ℕ → List ℕ → List ℕ
 line_left k s at out = over (text_at k s at out) out

@@ -3,13 +3,12 @@
 
 ghost use Rattle.std.specs.Prelude.{◌≡◌, ◌≤◌, OnOk, length, drop};
 ghost use Rattle.std.specs.Io.KnownBytes.{Appends};
-ghost use Rattle.card.specs.Read.{Known};
 ghost use Rattle.printing.specs.Lines.{lines_of};
 ghost use Rattle.printing.specs.Printed.{lines_for, printed};
 ghost use Rattle.printing.specs.Run.{blanks_of};
 ghost use Rattle.printing.specs.Steps.{opening_for, opening_text, opening_left, line_text, line_left, no_line};
 
-use card::Card;
+use card::{Card, Reading};
 use std::io;
 use std::io::Write;
 
@@ -24,20 +23,13 @@ const LONGEST: usize = 65536;
 /// The room that a text may need, in bytes.
 const ROOM: usize = 64;
 
-/// A card that was read, and the total of blanks met in reading it.
-#[derive(Clone, Copy)]
-pub struct ReadCard {
-    pub card: Card,
-    pub blanks: u64,
-}
-
 /// What is printed first: its length in the buffer, the offset to go on from, and the card that the lines there ask of.
 /// Where no lines follow, there is no card, and the offset is the end of the input.
 #[derive(Clone, Copy)]
 pub struct OpeningText {
     pub length: usize,
     pub next: usize,
-    pub read: Option<ReadCard>,
+    pub read: Option<Reading>,
 }
 
 /// What is printed for a line: its length in the buffer, and the offset to go on from.
@@ -83,7 +75,6 @@ fn no_line(next: usize) -> LineText
 /// Nothing, where no line starts there, or the input is above 64 KiB or the buffer below 64 bytes; with a longer buffer the caller may come again.
 #[tactic(auto, using(crate::proofs::Served::line_serves))]
 pub fn pixel_line(card: Card, input: &[u8], at: usize, out: &mut [u8]) -> LineText
-    requires { Known card }
     ensures answer { result ≡ line_text card input.now at out.old }
     ensures left { out.new ≡ line_left card input.now at out.old }
 {
@@ -106,8 +97,7 @@ pub fn pixel_line(card: Card, input: &[u8], at: usize, out: &mut [u8]) -> LineTe
 
 /// The lines of row and column, from an offset on.
 fn print_lines<W: Write>(card: Card, input: &[u8], start: usize, out: &mut W) -> io::Result<()>
-    requires known { Known card }
-    requires taken { length input.now ≤ 65536 }
+    requires { length input.now ≤ 65536 }
     ensures { OnOk result (Appends (W.contents out.old) (W.contents out.new) (lines_for card (lines_of (drop start input.now)))) }
 {
     let mut at = start;
@@ -128,8 +118,9 @@ pub fn print<W: Write>(input: &[u8], out: &mut W) -> io::Result<()>
     let mut buffer = [0u8; ROOM];
     let first = opening(input, &mut buffer);
     out.write_all(&buffer[..first.length])?;
-    match first.read {
-        Some(read) => print_lines(read.card, input, first.next, out),
+    let read = first.read;
+    match read {
+        Some(reading) => print_lines(reading.card, input, first.next, out),
         None => Ok(()),
     }
 }

@@ -1,6 +1,5 @@
 // What is printed for a line of row and column.
 ghost use Rattle.std.specs.Prelude.{◌≡◌, ◌+◌, ◌≤◌, length};
-ghost use Rattle.card.specs.Read.{Known};
 ghost use Rattle.text.specs.Steps.{Put};
 ghost use Rattle.printing.specs.Printed.{answer_text, pixel_text, line_for};
 
@@ -21,7 +20,7 @@ fn put_answer(out: &mut [u8], o: usize, answer: PositionAnswer) -> usize
         }
         PositionAnswer::Refused(refusal) => {
             let o1 = text::put_bytes(out, o, b"refused ");
-            let o2 = text::put_decimal(out, o1, u64::from(refusal.number));
+            let o2 = text::put_decimal(out, o1, u64::from(refusal.number()));
             text::put_byte(out, o2, b'\n')
         }
     }
@@ -41,8 +40,7 @@ fn put_line(out: &mut [u8], row: u32, column: u32, answer: PositionAnswer) -> us
 
 /// Row, column and the answer of the corner pair, or "bad line".
 pub fn put_pixel(out: &mut [u8], card: Card, line: &[u8]) -> usize
-    requires known { Known card }
-    requires room { 64 ≤ length out.old }
+    requires { 64 ≤ length out.old }
     ensures { Put (line_for card line.now) 0 out.old out.new result }
 {
     let Some(TwoNumbers { left, right }) = parse::numbers_in(line) else {

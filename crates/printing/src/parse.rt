@@ -48,12 +48,8 @@ fn number_in(s: &[u8]) -> Option<u32>
     if !(1..=9).contains(&s.len()) {
         return None;
     }
-    let digits = text::digits_of(s);
-    if digits.ok {
-        Some(digits.value as u32)
-    } else {
-        None
-    }
+    let number = text::digits_of(s)?;
+    Some(number as u32)
 }
 
 /// The two numbers of a line.

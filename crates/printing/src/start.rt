@@ -1,26 +1,24 @@
 // What is printed first.
-ghost use Rattle.std.specs.Prelude.{◌≡◌, [], ◌≤◌, length};
-ghost use Rattle.arc.specs.declared.Verdict.{Verdict};
-ghost use Rattle.card.specs.Read.{no_card};
+ghost use Rattle.std.specs.Prelude.{◌≡◌, ◌≤◌, length};
 ghost use Rattle.text.specs.Steps.{Put};
-ghost use Rattle.printing.specs.Printed.{card_out};
+ghost use Rattle.printing.specs.Printed.{refusal_text};
 ghost use Rattle.printing.specs.Run.{closed, opened_with, opening_of};
 ghost use Rattle.printing.specs.Steps.{stopped, Opens};
 
 use crate::parse::{self, TwoNumbers};
-use crate::{LONGEST, OpeningText, ReadCard};
-use arc::{Refusal, Series, Verdict};
-use card::Reading;
+use crate::{LONGEST, OpeningText};
+use arc::{Refusal, Series};
+use card::{Card, Reading};
 
 /// A refused card: the number and the place.
 fn put_refusal(out: &mut [u8], refusal: Refusal) -> usize
     requires { 64 ≤ length out.old }
-    ensures { Put (card_out (Verdict.Refused refusal) no_card []) 0 out.old out.new result }
+    ensures { Put (refusal_text refusal) 0 out.old out.new result }
 {
     let o1 = text::put_bytes(out, 0, b"card refused ");
-    let o2 = text::put_decimal(out, o1, u64::from(refusal.number));
+    let o2 = text::put_decimal(out, o1, u64::from(refusal.number()));
     let o3 = text::put_byte(out, o2, b' ');
-    let o4 = text::put_decimal(out, o3, refusal.at);
+    let o4 = text::put_decimal(out, o3, refusal.place());
     text::put_byte(out, o4, b'\n')
 }
 
@@ -45,20 +43,20 @@ fn stop_with(out: &mut [u8], text: &[u8], end: usize) -> OpeningText
 }
 
 /// The header, where the card is accepted, with lines from `next` on; the input ends at `end`.
-fn opened(out: &mut [u8], reading: Reading, next: usize, end: usize) -> OpeningText
+fn opened(out: &mut [u8], answer: Result<Reading, Refusal>, next: usize, end: usize) -> OpeningText
     requires { 64 ≤ length out.old }
-    ensures { Opens (opened_with reading.verdict reading.card reading.blanks next end) out.old out.new result }
+    ensures { Opens (opened_with answer next end) out.old out.new result }
 {
-    match reading.verdict {
-        Verdict::Accepted => {
+    match answer {
+        Ok(reading) => {
             let length = text::put_bytes(out, 0, b"row column latitude longitude\n");
-            let read = Some(ReadCard {
-                card: reading.card,
-                blanks: reading.blanks,
-            });
-            OpeningText { length, next, read }
+            OpeningText {
+                length,
+                next,
+                read: Some(reading),
+            }
         }
-        Verdict::Refused(refusal) => {
+        Err(refusal) => {
             let length = put_refusal(out, refusal);
             stop(length, end)
         }
@@ -88,6 +86,6 @@ pub fn opening_of(out: &mut [u8], input: &[u8]) -> OpeningText
         factor: 1,
         zone: u64::from(right),
     };
-    let reading = card_text::read_card(series, second);
-    opened(out, reading, from + second.len() + 1, end)
+    let answer = Card::read(series, second);
+    opened(out, answer, from + second.len() + 1, end)
 }

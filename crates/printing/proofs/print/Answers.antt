@@ -1,15 +1,12 @@
 -- The first text and the lines are the whole. Assumes nothing.
 use Rattle.std.proofs.Common.{arith}
-use Rattle.printing.proofs.Short.{opening_follows}
+use Rattle.printing.proofs.Short.{opening_taken}
 use Rattle.std.proofs.KnownBytes.{Appends-trans}
 use Rattle.printing.proofs.Whole.{whole-some, whole-none, on-ok}
 use Rattle.printing.proofs.print.Goals as goal
 
-pub print_lines-requires-clause-known : goal.print_lines-requires-clause-known
-print_lines-requires-clause-known g c = (opening_follows _ _ c.opening-first.ensures.answer c.in-Some.is).known
-
-pub print_lines-requires-clause-taken : goal.print_lines-requires-clause-taken
-print_lines-requires-clause-taken g c = (opening_follows _ _ c.opening-first.ensures.answer c.in-Some.is).taken
+pub print_lines-requires : goal.print_lines-requires
+print_lines-requires g c = opening_taken _ _ c.opening-first.ensures.answer c.in-Some.is
 
 pub returns-in-Some : goal.returns-in-Some
 returns-in-Some g c =

@@ -17,7 +17,7 @@ loop-at-smaller g c = omega (arith, next_further _ _ _ _ c.pixel_line-line.ensur
 pub loop-at-preserved : goal.loop-at-preserved
 loop-at-preserved g c =
     let p = c.pixel_line-line.ensures in
-    let e = line-turn _ _ _ _ (omega arith) c.requires.taken (omega arith) p.answer p.left in
+    let e = line-turn _ _ _ _ (omega arith) c.requires (omega arith) p.answer p.left in
     record { put = sofar-next _ _ _ _ _ _ _ c.loop-at.invariant.put c.in_ok-write_all.ensures.bytes e }
 
 pub returns : goal.returns

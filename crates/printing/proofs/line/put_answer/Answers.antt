@@ -21,7 +21,7 @@ returns-in-At c =
 pub returns-in-Refused : goal.returns-in-Refused
 returns-in-Refused c =
     let p1 = c.put_bytes-o1.ensures in
-    let p2 = rw c.from.ensures at c.put_decimal-o2.ensures in
+    let p2 = rw (c.from.ensures, c.number.ensures) at c.put_decimal-o2.ensures in
     let p3 = c.put_byte-in-Refused.ensures in
     let p = put_then (put_then (put p1.answer p1.left) (put p2.answer p2.left)) (put p3.answer p3.left) in
     rw c.in-Refused.is (p (omega (arith, answer-short (PositionAnswer.Refused c.in-Refused.refusal))))

@@ -18,5 +18,5 @@ returns-in_default c =
 pub returns : goal.returns
 returns c =
     let e = opened-two c.args.input.now _ c.line_at-first.ensures.line (omega arith) _ (omega arith) c.line_at-second.ensures.line in
-    let r = rw (c.from.ensures, c.from-2.ensures) at c.read_card-reading.ensures in
+    let r = rw (c.from.ensures, c.from-2.ensures) at c.read-answer.ensures in
     rw (← e, ← c.in-Some.ensures, ← r) c.opened.ensures
