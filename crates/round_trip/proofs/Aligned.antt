@@ -12,7 +12,6 @@ use lib.ListN.{length, take}
 use borrow.Author.Tests.{le-leb}
 use Rattle.whole.specs.Whole.{outside}
 use Rattle.arc.specs.declared.series.Series.{Series}
-use Rattle.arc.specs.declared.series.Spacing.{Spacing}
 use Rattle.arc.specs.Zones.{half, quarter, is_polar}
 use Rattle.arc.specs.Spacing.{spacing_of, Grids}
 use Rattle.arc.proofs.Answered.{answered-grids}

@@ -16,7 +16,6 @@ use Rattle.arc.proofs.Answered.{answered-grids}
 use Rattle.arc.proofs.TownScales.{written_from}
 use Rattle.card_text.specs.declared.Fields.{Fields}
 use Rattle.card_text.specs.declared.Fill.{Fill}
-use Rattle.card_text.specs.declared.Reading.{Reading}
 use Rattle.text.specs.Text.{all, is_digit, is_flag, angle_laid, angle_valid, angle_of, digits, angle_text}
 use Rattle.card_text.specs.Layout.{Subfield, STR, ARV, BRV, LSO, PSO, NUL, NUS, NLL, NLS, NFL, NFC, PNC, PNL, COD, ROD, POR, PCB, PVB, TIF, layout, bytes_of}
 use Rattle.card_text.specs.Read.{number_in, card_of, accepted_card, blanks_told, read_of, read_strict}
