@@ -1,6 +1,10 @@
 -- Demand 3, for both pairs at once. A pixel of a later card has the first pixel's place exactly when it is the one that the position gives (the round
 -- trip of each axis), so that card's two tests decide what it answers, and the same place has the same two numbers again.
 -- Then by induction down the list. Assumes nothing.
+use Rattle.std.specs.Prelude.{Ok, Err}
+use Rattle.arc.specs.declared.refusal.Refusal.{Refusal}
+use Rattle.card_text.specs.Layout.{Judged}
+use Rattle.card.specs.Grid.{at_position, at_pixel}
 use mathlib.Core.Path.{◌≡◌, refl, sym, ap, ap₂, ◌∙◌, subst⁻¹, subst₂}
 use mathlib.Core.Bool.{Bool, true, false, false≢true}
 use mathlib.Core.List.{List, [], ◌∷◌}
@@ -13,14 +17,12 @@ use Rattle.whole.specs.Whole.{near, nearest, outside}
 use Rattle.whole.proofs.Signed.{Is, over, under, is-parts, is_same, is-equal, equal_is, is-sub, is-add, is-minus, is_mul}
 use Rattle.whole.proofs.Near.{near_le, near-shift}
 use Rattle.arc.specs.declared.series.Series.{Series}
-use Rattle.arc.specs.Refusals.{refusal, on_verdict}
+use Rattle.whole.specs.Results.{◌>>=◌}
 use Rattle.arc.specs.Zones.{circle, half, quarter}
 use Rattle.arc.specs.Pixels.{Grid}
 use Rattle.origin.proofs.Line.{is-inside, Line, angle-is, angle-close}
 use Rattle.card_text.specs.declared.Fields.{Fields}
 use Rattle.card.specs.declared.Pair.{Pair}
-use Rattle.card.specs.declared.PositionAnswer.{PositionAnswer}
-use Rattle.card.specs.declared.PixelAnswer.{PixelAnswer}
 use Rattle.card_text.specs.Read.{Accepted}
 use Rattle.card.specs.Grid.{place_row, place_column, exact_row, exact_column, in_tiles, in_chart, verdict_of}
 use Rattle.card.specs.Grid.{latitude_of, longitude_of, row_of, column_of, position_of, pixel_of}
@@ -182,12 +184,12 @@ module _ (p : Pair) (u w lat lon : ℤ) (k : Fields) (l : Laid k) (t : Thread p 
   at_place = record { row = place-of-row; column = place-of-column }
 
   -- its position is the position last answered
-  back : PositionAnswer.At (latitude_of p k ρ) (longitude_of p k γ) ≡ PositionAnswer.At lat lon
+  back : at_position (latitude_of p k ρ) (longitude_of p k γ) ≡ at_position lat lon
   unfolding latitude_of
   back =
       let o : ℕ = inward p in
       let x : ℕ = t.y * circle - o in
-      ap₂ PositionAnswer.At
+      ap₂ at_position
       (ap (λ (z : ℤ). nearest (exact_row p z) k.b) place-of-row
       ∙ is-equal (nearest (exact_row p u) k.b) lat (near x k.b) quarter (near x k.b) quarter
       (angle-is (rows-line k.b l.rows) (exact_row p u) x (exact-row p u t.y (128 * (k.b / 512)) t.y-some t.u-is)) t.lat-is refl)
@@ -207,7 +209,7 @@ module _ (p : Pair) (u w lat lon : ℤ) (k : Fields) (l : Laid k) (t : Thread p 
       ap₂ (in_chart k) (sym (row-of-place h.r h.at.row)) (sym (column-of-place h.c i.column h.at.column)) ∙ h.within
 
   -- what the card answers, by its verdict
-  answers : (v : Verdict) → verdict_of k ρ γ ≡ v → visit p k lat lon ≡ visit_with p k (on_verdict v PixelAnswer.Refused (PixelAnswer.At ρ γ))
+  answers : (v : Judged) → verdict_of k ρ γ ≡ v → visit p k lat lon ≡ visit_with p k (v >>= (λ _. at_pixel ρ γ))
   unfolding pixel_of ρ γ
   answers v e = rw (lat-inside p k.a k.b u w lat lon t, lon-inside p k.a k.b u w lat lon t, e)
 
@@ -215,24 +217,24 @@ module _ (p : Pair) (u w lat lon : ℤ) (k : Fields) (l : Laid k) (t : Thread p 
   unfolding position_of
   go false c ei ec =
       record {
-        does = refused (refusal 12);
-        visited = answers (Verdict.Refused (refusal 12)) (rw ei);
+        does = refused Refusal.OutsideTiles;
+        visited = answers (Err Refusal.OutsideTiles) (rw ei);
         right = ((λ h. false≢true (sym ei ∙ chart-tiles k ρ γ l (chart-decide h))), inl (refl, λ h. false≢true (sym ei ∙ tiles-decide h)));
         latitude-kept = refl;
         longitude-kept = refl;
       }
   go true false ei ec =
       record {
-        does = refused (refusal 13);
-        visited = answers (Verdict.Refused (refusal 13)) (rw (ei, ec));
+        does = refused Refusal.Padding;
+        visited = answers (Err Refusal.Padding) (rw (ei, ec));
         right = ((λ h. false≢true (sym ec ∙ chart-decide h)), inr (refl, record { r = ρ; c = γ; within = ei; at = at_place }));
         latitude-kept = refl;
         longitude-kept = refl;
       }
   go true true ei ec =
       record {
-        does = gave ρ γ (PositionAnswer.At lat lon);
-        visited = answers Verdict.Accepted (rw (ei, ec)) ∙ ap (gave ρ γ) (rw (ei, ec) back);
+        does = gave ρ γ (at_position lat lon);
+        visited = answers (Ok tt) (rw (ei, ec)) ∙ ap (gave ρ γ) (rw (ei, ec) back);
         right = (ec, at_place, refl);
         latitude-kept = refl;
         longitude-kept = refl;

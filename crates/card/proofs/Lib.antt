@@ -1,5 +1,6 @@
 pub mod Line
 pub mod Known
+pub mod Same
 pub mod Pairs
 pub mod Axes
 pub mod Regions
@@ -15,4 +16,3 @@ pub mod Answered
 pub mod Nearest
 mod Edges
 pub mod Containing
-pub mod Questions

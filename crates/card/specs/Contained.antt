@@ -7,14 +7,14 @@
 --     InsideItsPixel k r c           the position answered for a pixel lies in that pixel, and asked back it gives that pixel
 --     CentreInside                   so it is with every pixel of the chart of every accepted card
 --     AskedBack                      in either pair a position asked back gives its pixel
+use Rattle.std.specs.Prelude.{Err}
+use Rattle.arc.specs.declared.refusal.Refusal.{Refusal}
+use Rattle.card.specs.Grid.{at_position, at_pixel}
 use Rattle.std.specs.Prelude.{◌≡◌, true, false, ◌↔◌, ℤ, pos, ◌+ℤ◌, ◌*ℤ◌, ◌≤ℤ◌, ◌<ℤ◌}
 use Rattle.whole.specs.Whole.{outside}
-use Rattle.arc.specs.Refusals.{refusal}
 use Rattle.arc.specs.Zones.{circle, half, quarter}
 use Rattle.card_text.specs.declared.Fields.{Fields}
 use Rattle.card.specs.declared.Pair.{Pair}
-use Rattle.card.specs.declared.PositionAnswer.{PositionAnswer}
-use Rattle.card.specs.declared.PixelAnswer.{PixelAnswer}
 use Rattle.card_text.specs.Read.{Known}
 use Rattle.card.specs.Grid.{place_row, grid_column, in_tiles, in_chart, position_of, pixel_of}
 
@@ -50,24 +50,24 @@ pub record ChartContains (k : Fields) (lat lon : ℤ) : Type 0 where
 abbrev pub FoundContains : Type 0
 FoundContains =
     (k : Fields) → Known k → (lat lon : ℤ) → outside quarter lat ≡ false → outside half lon ≡ false
-    → (r c : ℤ) → pixel_of Pair.Centre k lat lon ≡ PixelAnswer.At r c ↔ ((in_chart k r c ≡ true) × Contains k r c lat lon)
+    → (r c : ℤ) → pixel_of Pair.Centre k lat lon ≡ at_pixel r c ↔ ((in_chart k r c ≡ true) × Contains k r c lat lon)
 
 abbrev pub RefusedContains : Type 0
 RefusedContains =
     (k : Fields) → Known k → (lat lon : ℤ) → outside quarter lat ≡ false → outside half lon ≡ false
-    → (pixel_of Pair.Centre k lat lon ≡ PixelAnswer.Refused (refusal 12) ↔ (¬ TilesContain k lat lon))
-    × (pixel_of Pair.Centre k lat lon ≡ PixelAnswer.Refused (refusal 13) ↔ (TilesContain k lat lon × (¬ ChartContains k lat lon)))
+    → (pixel_of Pair.Centre k lat lon ≡ Err Refusal.OutsideTiles ↔ (¬ TilesContain k lat lon))
+    × (pixel_of Pair.Centre k lat lon ≡ Err Refusal.Padding ↔ (TilesContain k lat lon × (¬ ChartContains k lat lon)))
 
 pub record InsideItsPixel (k : Fields) (r c : ℤ) : Type 0 where
   pub lat : ℤ
   pub lon : ℤ
-  pub answered : position_of Pair.Centre k r c ≡ PositionAnswer.At lat lon
+  pub answered : position_of Pair.Centre k r c ≡ at_position lat lon
   pub inside : Contains k r c lat lon
-  pub back : pixel_of Pair.Centre k lat lon ≡ PixelAnswer.At r c
+  pub back : pixel_of Pair.Centre k lat lon ≡ at_pixel r c
 
 abbrev pub CentreInside : Type 0
 CentreInside = (k : Fields) → Known k → (r c : ℤ) → in_chart k r c ≡ true → InsideItsPixel k r c
 
 abbrev pub AskedBack : Type 0
 AskedBack =
-    (p : Pair) (k : Fields) → Known k → (r c lat lon : ℤ) → position_of p k r c ≡ PositionAnswer.At lat lon → pixel_of p k lat lon ≡ PixelAnswer.At r c
+    (p : Pair) (k : Fields) → Known k → (r c lat lon : ℤ) → position_of p k r c ≡ at_position lat lon → pixel_of p k lat lon ≡ at_pixel r c

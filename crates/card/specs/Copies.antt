@@ -10,10 +10,12 @@
 --     Moved y z              the angle z is not y, and is at most two seconds of arc from it
 --     RoundedAgain           an angle so moved from a stored angle is that of no tile
 --     MovedRefused           a card whose origin is so moved is refused
+use Rattle.std.specs.Prelude.{Err}
+use Rattle.arc.specs.declared.refusal.Refusal.{Refusal}
 use Rattle.std.specs.Prelude.{◌≡◌, true, List, [], ◌∷◌, ◌⊎◌, ◌↔◌, ℕ, ◌≤◌, ℤ, pos, nat_abs, ◌-ℤ◌, length}
 use Rattle.std.proofs.Math.Option.{none}
 use Rattle.arc.specs.declared.series.Series.{Series}
-use Rattle.arc.specs.Refusals.{refusal, on_verdict}
+use Rattle.whole.specs.Results.{◌>>=◌}
 use Rattle.arc.specs.Pixels.{Grid}
 use Rattle.origin.specs.Origin.{stored_angle}
 use Rattle.text.specs.Text.{angle_of}
@@ -22,7 +24,7 @@ use Rattle.card_text.specs.declared.Fill.{Fill}
 use Rattle.card.specs.declared.Pair.{Pair}
 use Rattle.card_text.specs.Layout.{STR, ARV, BRV, LSO, PSO, NUL, NUS, NLL, NLS, NFL, NFC, PNC, PNL, COD, ROD, POR, PCB, PVB, BAD, TIF}
 use Rattle.card_text.specs.Layout.{Subfield, bytes_of, judge_field, or_else}
-use Rattle.card_text.specs.Read.{tile_storing, accepted_card, refused_card, read_of, Accepted}
+use Rattle.card_text.specs.Read.{tile_storing, accepted_card, read_of, Accepted}
 use Rattle.card.specs.Grid.{in_chart, extents_of, place_of, position_of, pixel_of, verdict_of}
 
 -- ---- copies
@@ -90,4 +92,4 @@ abbrev pub MovedRefused : Type 0
 MovedRefused =
     (series : Series) (s t : List ℕ) (k : Fields) (total : ℕ) → read_of series s ≡ accepted_card k total
     → length t ≡ length s → SameIn others s t → LSOMoved s t ⊎ PSOMoved s t
-    → read_of series t ≡ on_verdict (or_else (judge_field Fill.Blanks LSO t) (judge_field Fill.Blanks PSO t)) refused_card (refused_card (refusal 10))
+    → read_of series t ≡ or_else (judge_field Fill.Blanks LSO t) (judge_field Fill.Blanks PSO t) >>= (λ _. Err Refusal.Origin)

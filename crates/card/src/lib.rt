@@ -12,15 +12,13 @@ use std::marker::Model;
 mod grid;
 mod offsets;
 mod overview;
-mod parts;
 mod range;
 
 pub use offsets::offset_from;
-pub use parts::{OffsetParts, PixelParts, PlaceParts, PositionParts};
-pub use range::{Ranged, RangedParts, count_position};
+pub use range::{Ranged, count_position};
 
 /// A card that reading did not refuse.
-#[derive(Clone, Copy)]
+#[derive(Clone, Copy, Debug)]
 pub struct Card {
     fields: Fields,
 }
@@ -39,14 +37,14 @@ impl Model for Card {
 }
 
 /// A card as it was read, and the total of blanks that its numbers start with.
-#[derive(Clone, Copy)]
+#[derive(Clone, Copy, Debug)]
 pub struct Reading {
     pub card: Card,
     pub blanks: u64,
 }
 
 impl Card {
-    /// Reads a card, in which blanks may stand before a number's digits. Refuses 1, 17, 1, 2, 3, 6, the subfields' 7 and 8, 9, 10, 11.
+    /// Reads a card, in which blanks may stand before a number's digits. Refuses as `card_text::read_card` does.
     pub fn read(series: Series, bytes: &[u8]) -> Result<Reading, Refusal>
         ensures { result ≡ card_read series bytes.now }
     {
@@ -81,41 +79,37 @@ impl Card {
     }
 }
 
-// The two pairs of questions (02, E8): a pixel's corner and the pixel whose corner is nearest, or its centre and the pixel that contains a position.
-#[derive(Clone, Copy)]
+/// The two pairs of questions: a pixel's corner and the pixel whose corner is nearest, or its centre and the pixel that contains a position.
+#[derive(Clone, Copy, Debug, PartialEq, Eq)]
 pub enum Pair {
     Corner,
     Centre,
 }
 
-// A place of the zone grid.
-#[derive(Clone, Copy)]
-pub enum PlaceAnswer {
-    At { row: i64, column: i64 },
-    Refused(Refusal),
+/// A place of the zone grid, in pixels: rows from the Equator north, columns round the circle.
+#[derive(Clone, Copy, Debug, PartialEq, Eq)]
+pub struct Place {
+    pub row: i64,
+    pub column: i64,
 }
 
-#[derive(Clone, Copy)]
-pub enum PositionAnswer {
-    At { lat: i64, lon: i64 },
-    Refused(Refusal),
+/// A position, in hundredths of an arc-second.
+#[derive(Clone, Copy, Debug, PartialEq, Eq)]
+pub struct Position {
+    pub lat: i64,
+    pub lon: i64,
 }
 
-#[derive(Clone, Copy)]
-pub enum PixelAnswer {
-    At { row: i64, column: i64 },
-    Refused(Refusal),
+/// A pixel of a card, counted from its upper left one.
+#[derive(Clone, Copy, Debug, PartialEq, Eq)]
+pub struct Pixel {
+    pub row: i64,
+    pub column: i64,
 }
 
-// An offset from a centre, in whole hundredths of an arc-second.
-#[derive(Clone, Copy)]
+/// An offset from a centre, in whole hundredths of an arc-second.
+#[derive(Clone, Copy, Debug)]
 pub struct Offset {
     pub lat: f64,
     pub lon: f64,
-}
-
-#[derive(Clone, Copy)]
-pub enum OffsetAnswer {
-    At(Offset),
-    Refused(Refusal),
 }

@@ -1,20 +1,20 @@
--- The four tests are those of `in_chart`: what the machine compares are the numbers themselves. Assumes nothing.
+-- The two tests are those of `in_chart`: what the machine compares are the numbers themselves. Assumes nothing.
 use Rattle.std.proofs.Common.{arith, w64}
 use mir.ValLaws.{to_z-of_z, to_z_pos}
 use Rattle.card.proofs.Known.{laid-as}
 use Rattle.card.proofs.Card.in_chart.Goals as goal
 
-pub overflow_cast-result : goal.overflow_cast-result
-overflow_cast-result c = rw c.self.view_is (record { sfits = omega (arith, laid-as c.self.view_is c.self.invariant) })
+pub overflow_cast-top : goal.overflow_cast-top
+overflow_cast-top c = rw c.self.view_is (record { sfits = omega (arith, laid-as c.self.view_is c.self.invariant) })
 
-pub overflow_cast-result-2 : goal.overflow_cast-result-2
-overflow_cast-result-2 c = rw c.self.view_is (record { sfits = omega (arith, laid-as c.self.view_is c.self.invariant) })
+pub overflow_cast-bottom : goal.overflow_cast-bottom
+overflow_cast-bottom c = rw c.self.view_is (record { sfits = omega (arith, laid-as c.self.view_is c.self.invariant) })
 
-pub overflow_cast-result-3 : goal.overflow_cast-result-3
-overflow_cast-result-3 c = rw c.self.view_is (record { sfits = omega (arith, laid-as c.self.view_is c.self.invariant) })
+pub overflow_cast-left : goal.overflow_cast-left
+overflow_cast-left c = rw c.self.view_is (record { sfits = omega (arith, laid-as c.self.view_is c.self.invariant) })
 
-pub overflow_cast-result-4 : goal.overflow_cast-result-4
-overflow_cast-result-4 c = rw c.self.view_is (record { sfits = omega (arith, laid-as c.self.view_is c.self.invariant) })
+pub overflow_cast-right : goal.overflow_cast-right
+overflow_cast-right c = rw c.self.view_is (record { sfits = omega (arith, laid-as c.self.view_is c.self.invariant) })
 
 pub returns-clause-value : goal.returns-clause-value
 returns-clause-value c =

@@ -1,20 +1,20 @@
--- The four tests are those of `in_tiles`: what the machine compares are the numbers themselves. Assumes nothing.
+-- The two tests are those of `in_tiles`: what the machine compares are the numbers themselves. Assumes nothing.
 use Rattle.std.proofs.Common.{◌*◌, arith, w64}
 use mir.ValLaws.{to_z-of_z, to_z_pos}
 use Rattle.card.proofs.Known.{laid-as}
 use Rattle.card.proofs.Card.in_tiles.Goals as goal
 
-pub overflow_mul-result : goal.overflow_mul-result
-overflow_mul-result c = rw c.self.view_is (omega (arith, laid-as c.self.view_is c.self.invariant))
+pub overflow_mul-rows : goal.overflow_mul-rows
+overflow_mul-rows c = rw c.self.view_is (omega (arith, laid-as c.self.view_is c.self.invariant))
 
-pub overflow_cast-result : goal.overflow_cast-result
-overflow_cast-result c = rw c.self.view_is (record { sfits = omega (arith, laid-as c.self.view_is c.self.invariant) })
+pub overflow_cast-rows : goal.overflow_cast-rows
+overflow_cast-rows c = rw c.self.view_is (record { sfits = omega (arith, laid-as c.self.view_is c.self.invariant) })
 
-pub overflow_mul-result-2 : goal.overflow_mul-result-2
-overflow_mul-result-2 c = rw c.self.view_is (omega (arith, laid-as c.self.view_is c.self.invariant))
+pub overflow_mul-columns : goal.overflow_mul-columns
+overflow_mul-columns c = rw c.self.view_is (omega (arith, laid-as c.self.view_is c.self.invariant))
 
-pub overflow_cast-result-2 : goal.overflow_cast-result-2
-overflow_cast-result-2 c = rw c.self.view_is (record { sfits = omega (arith, laid-as c.self.view_is c.self.invariant) })
+pub overflow_cast-columns : goal.overflow_cast-columns
+overflow_cast-columns c = rw c.self.view_is (record { sfits = omega (arith, laid-as c.self.view_is c.self.invariant) })
 
 pub returns-clause-value : goal.returns-clause-value
 returns-clause-value c =
