@@ -13,7 +13,7 @@ use Rattle.arc.specs.declared.refusal.Refusal.{Refusal}
 use Rattle.arc.specs.Scales.{chart_series}
 use Rattle.text.specs.Text.{bytes, decimal}
 use Rattle.card_text.specs.declared.Fields.{Fields}
-use Rattle.card.specs.declared.PositionAnswer.{PositionAnswer}
+use Rattle.card.specs.declared.Position.{Position}
 use Rattle.card.specs.Read.{card_read}
 use Rattle.arc.specs.Refusals.{number_of, place_of}
 use Rattle.printing.specs.Lines.{numbers_of}
@@ -35,9 +35,9 @@ use Rattle.printing.proofs.Pairs.{pair-below}
 pub put : {x s t : List ℕ} {o r : ℕ} → r ≡ end_of x o s → t ≡ put_at x o s → PutIf x o s t r
 put e f = put_if (e, f)
 
-pub answer-short : (a : PositionAnswer) → length (answer_text a) ≤ 29
-answer-short (PositionAnswer.At lat lon) = simp (length-append, length-angle) (omega arith)
-answer-short (PositionAnswer.Refused e) = simp length-append (omega (arith, decimal-most (number_of e)))
+pub answer-short : (a : Result Position Refusal) → length (answer_text a) ≤ 29
+answer-short (Ok p) = simp (length-append, length-angle) (omega arith)
+answer-short (Err e) = simp length-append (omega (arith, decimal-most (number_of e)))
 
 -- row and column
 pub lead-short : (row column : ℕ) → row < 10000000000 → column < 10000000000 → length (decimal row ++ bytes " " ++ decimal column ++ bytes " ") ≤ 22
@@ -47,7 +47,7 @@ lead-short row column h l =
     simp length-append (omega arith)
 
 -- row, column and the answer
-pixel-short : (row column : ℕ) → row < 10000000000 → column < 10000000000 → (a : PositionAnswer) → length (pixel_text row column a) ≤ 64
+pixel-short : (row column : ℕ) → row < 10000000000 → column < 10000000000 → (a : Result Position Refusal) → length (pixel_text row column a) ≤ 64
 pixel-short row column h l a =
     let lead = decimal row ++ bytes " " ++ decimal column ++ bytes " " in
     omega (arith, length-append lead (answer_text a), lead-short row column h l, answer-short a)

@@ -8,7 +8,7 @@ use Rattle.arc.specs.Scales.{chart_series}
 use Rattle.card_text.specs.declared.Fields.{Fields}
 use Rattle.card.specs.declared.Reading.{Reading}
 use Rattle.card.specs.declared.Pair.{Pair}
-use Rattle.card.specs.declared.PositionAnswer.{PositionAnswer}
+use Rattle.card.specs.declared.Position.{Position}
 use Rattle.text.specs.Text.{bytes, decimal, angle_text}
 use Rattle.card.specs.Read.{card_read}
 use Rattle.card.specs.Grid.{position_of}
@@ -24,13 +24,17 @@ bad_line = bytes "bad line\n"
 abbrev pub too_long : List ℕ
 too_long = bytes "input too long\n"
 
--- latitude and longitude in card form, or "refused" and the number
-abbrev pub answer_text : PositionAnswer → List ℕ
-answer_text (PositionAnswer.At lat lon) = angle_text 2 lat ++ bytes " " ++ angle_text 3 lon ++ bytes "\n"
-answer_text (PositionAnswer.Refused e) = bytes "refused " ++ decimal (number_of e) ++ bytes "\n"
+-- latitude and longitude in card form
+abbrev pub position_text : Position → List ℕ
+position_text p = angle_text 2 p.lat ++ bytes " " ++ angle_text 3 p.lon ++ bytes "\n"
+
+-- the position, or "refused" and the number
+abbrev pub answer_text : Result Position Refusal → List ℕ
+answer_text (Ok p) = position_text p
+answer_text (Err e) = bytes "refused " ++ decimal (number_of e) ++ bytes "\n"
 
 -- row, column, and the answer
-abbrev pub pixel_text : ℕ → ℕ → PositionAnswer → List ℕ
+abbrev pub pixel_text : ℕ → ℕ → Result Position Refusal → List ℕ
 pixel_text row column a = decimal row ++ bytes " " ++ decimal column ++ bytes " " ++ answer_text a
 
 -- other lines print "bad line"
