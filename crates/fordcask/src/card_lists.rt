@@ -16,7 +16,7 @@ fn list_on_card(
     series: Series,
     card: &[u8],
     pair: Pair,
-    asked: Asked,
+    question: Asked,
     list: &[i64],
     values: &mut [i64],
     numbers: &mut [u32],
@@ -24,13 +24,13 @@ fn list_on_card(
     ensures answer { result ≡ verdict_block (asked (card_read series card.now)
         (λ k. lists_verdict (length list.now) (length values.old) (length numbers.old))) }
     ensures values { values.new ≡ on_reading (card_read series card.now) values.old
-        (λ k. values_left (report_at pair asked k) list.now values.old numbers.old) }
+        (λ k. values_left (report_at pair question k) list.now values.old numbers.old) }
     ensures numbers { numbers.new ≡ on_reading (card_read series card.now) numbers.old
-        (λ k. numbers_left (report_at pair asked k) list.now values.old numbers.old) }
+        (λ k. numbers_left (report_at pair question k) list.now values.old numbers.old) }
 {
     let answer = match Card::read(series, card) {
         Ok(Reading { card, blanks }) => {
-            lists::answer_list(pair, card, asked, list, values, numbers).map(|answer| OnCard {
+            lists::answer_list(pair, card, question, list, values, numbers).map(|answer| OnCard {
                 answer,
                 blanks,
             })

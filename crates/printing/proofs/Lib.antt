@@ -5,3 +5,4 @@ pub mod Openings
 pub mod Served
 pub mod Short
 pub mod Shown
+pub mod Whole

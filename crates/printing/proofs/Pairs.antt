@@ -1,107 +1,76 @@
--- The two numbers of a line are those of its parts before and after the first space. Assumes nothing.
-use mathlib.Core.Path.{◌≡◌, refl, sym, ◌∙◌}
-use Prim.Native.Nat.{ℕ, ◌+◌, ◌-◌, ◌≤◌, ◌<◌}
-use native.Mathlib.Nat.{zero-add}
-use native.Mathlib.Omega.{arith}
-use lib.Dec.{leb}
-use borrow.Author.Tests.{leb-true}
-use mathlib.Core.Bool.{Bool, true, false, cond, ◌&&◌, and-false, and-eq-true_iff}
-use mathlib.Core.List.{List, []}
-use mathlib.Core.Option.{Option, some, none}
-use lib.ListN.{length, take, drop, drop_of_length-le, length-drop}
-use lib.Seq.{take_all}
+-- The two numbers of a line are those of its parts before and after the first space, each below 10 ^ 9. Assumes nothing.
+use Rattle.std.proofs.Common.{◌≡◌, ℕ, ◌≤◌, ◌<◌, ◌^◌, Bool, true, false, cond, ◌&&◌, List, length, refl, sym, ◌∙◌, arith, leb-true, le-leb}
+use Rattle.std.proofs.Common.{Option, Some, None, nat_le}
+use mathlib.Core.Bool.{and-eq-true_iff}
 use Rattle.text.specs.Text.{all, is_digit, number}
 use Rattle.text.specs.Buffer.{digits_in}
-use Rattle.text.specs.declared.Digits.{Digits}
-use Rattle.text.proofs.Numbers.{number-below, digits-read}
-use Rattle.printing.specs.Lines.{up_to, before_space, after_space, is_number, TwoNumbers, numbers_of}
-use Rattle.printing.specs.Steps.{ReadNumber, numbers_answer}
-use Rattle.printing.specs.declared.parse.Numbers.{Numbers}
-use Rattle.printing.proofs.Scan.{up_to-take, space-drop, is-number}
+use Rattle.text.proofs.Numbers.{number-below}
+use Rattle.printing.specs.Lines.{up_to, after, is_number, number_in, both, numbers_of}
+use Rattle.printing.specs.Steps.{IsUncut}
+use Rattle.printing.specs.declared.parse.TwoNumbers.{TwoNumbers}
 
--- what stands after place k
-abbrev rest : List ℕ → ℕ → List ℕ
-rest s k = take (length s - (k + 1)) (drop (k + 1) s)
+below : (s : List ℕ) → is_number s ≡ true → number s < 1000000000
+below s t =
+    let b = (and-eq-true_iff (nat_le 1 (length s) && nat_le (length s) 9) (all is_digit s)).0 t in
+    let d = (and-eq-true_iff (nat_le 1 (length s)) (nat_le (length s) 9)).0 b.0 in
+    number-below 9 s (leb-true (length s) 9 d.1) b.1
 
--- k is where the first space stands, or the end
-module _ (s : List ℕ) (k : ℕ) (e : k ≡ 0 + length (up_to 32 s)) where
-  left-part : take k s ≡ before_space s
-  left-part = rw (e, zero-add) (up_to-take 32 s)
-
-  right-part : rest s k ≡ after_space s
-  right-part = take_all (length s - (k + 1)) (drop (k + 1) s) (omega (arith, length-drop (k + 1) s)) ∙ rw (e, zero-add) (space-drop s)
-
-  -- there is no space
-  pub bad-whole : length s ≤ k → Numbers.Bad ≡ numbers_answer (numbers_of s)
-  unfolding numbers_of
-  bad-whole h =
-      let n : [] ≡ after_space s = sym (drop_of_length-le s {i = k + 1} (omega arith)) ∙ rw (e, zero-add) (space-drop s) in
-      rw (← n, and-false (is_number (before_space s)))
-
-  -- x and y tell whether the parts are numbers
-  module _ {x y : Bool} (p : x ≡ is_number (take k s)) (q : y ≡ is_number (rest s k)) where
-    pub bad-parts : x && y ≡ false → Numbers.Bad ≡ numbers_answer (numbers_of s)
-    unfolding numbers_of
-    bad-parts t = rw (← left-part, ← right-part, ← p, ← q, t)
-
-    pub good-parts : x && y ≡ true → {v w : ℕ} → (is_number (take k s) ≡ true → v ≡ number (take k s))
-        → (is_number (rest s k) ≡ true → w ≡ number (rest s k)) → Numbers.Two v w ≡ numbers_answer (numbers_of s)
-    unfolding numbers_of
-    good-parts t f g =
-        let b = (and-eq-true_iff x y).0 t in rw (← left-part, ← right-part, ← p, ← q, t, f (sym p ∙ b.0), g (sym q ∙ b.1))
-
--- a part as it was read
-pub number_of : (s : List ℕ) {d : Digits} → d ≡ digits_in s
-    → ReadNumber s (record { value = d.value; ok = leb 1 (length s) && leb (length s) 9 && d.ok })
-number_of s {d} e =
-    record {
-      tested = go (leb (length s) 9) refl;
-      read = λ t. let n = is-number s t in (digits-read 9 s n.nine-digits (omega arith) e).read n.of-digits;
-    }
+small : (s : List ℕ) {v : ℕ} → number_in s ≡ Some v → v < 1000000000
+small s {v} e = go (is_number s) refl e
   where
-    go : (t : Bool) → leb (length s) 9 ≡ t → (leb 1 (length s) && t && d.ok) ≡ (leb 1 (length s) && t && all is_digit s)
-    go true t = rw (digits-read 9 s (leb-true (length s) 9 t) (omega arith) e).tested
-    go false t = rw (and-false (leb 1 (length s)))
+    go : (t : Bool) → is_number s ≡ t → cond t (Some (number s)) None ≡ Some v → v < 1000000000
+    go true t e = let n : number s ≡ v = cc in rw (← n) (below s t)
+    go false t e = absurd cc
+
+-- a run of 1 to 9 bytes as it was read
+module _ (s : List ℕ) (least : 1 ≤ length s) (most : length s ≤ 9) where
+  in-digits : digits_in s ≡ number_in s
+  unfolding digits_in
+  in-digits = rw (le-leb 1 (length s) least, le-leb (length s) 9 most, le-leb (length s) 17 (omega arith))
+
+  pub number_is_read : {r : Option ℕ} → r ≡ digits_in s → r ≡ number_in s
+  number_is_read e = e ∙ in-digits
+
+  pub some_is_below : {v : ℕ} → Some v ≡ digits_in s → v < 2 ^ 32
+  some_is_below e = omega (arith, small s (sym (e ∙ in-digits)))
+
+pub ruleset number_reads = (number_is_read, some_is_below)
+
+-- ---- the numbers of a line, whose parts are x and y
+
+both-none : (o : Option ℕ) → None ≡ both o None
+both-none None = refl
+both-none (Some x) = refl
+
+pub uncut_has_none : (l : List ℕ) → IsUncut 32 l → None ≡ numbers_of l
+unfolding numbers_of
+uncut_has_none l u = rw u.ended (both-none (number_in (up_to 32 l)))
+
+module _ (l : List ℕ) {x y : List ℕ} (p : x ≡ up_to 32 l) (q : y ≡ after 32 l) where
+  pub no_left : None ≡ number_in x → None ≡ numbers_of l
+  unfolding numbers_of
+  no_left e = rw (← p, ← e)
+
+  pub no_right : None ≡ number_in y → None ≡ numbers_of l
+  unfolding numbers_of
+  no_right e = rw (← q, ← e) (both-none (number_in (up_to 32 l)))
+
+  pub two_numbers : {v w : ℕ} → Some v ≡ number_in x → Some w ≡ number_in y → Some (record { left = v; right = w }) ≡ numbers_of l
+  unfolding numbers_of
+  two_numbers e f = rw (← p, ← q, ← e, ← f)
+
+pub ruleset line_reads = (uncut_has_none, no_left, no_right, two_numbers)
 
 -- ---- the numbers are below 10 ^ 9
 
-below : (s : List ℕ) → is_number s ≡ true → number s < 1000000000
-below s t = let n = is-number s t in number-below 9 s n.nine-digits n.of-digits
-
-pub pair-below : (l : List ℕ) (p : TwoNumbers) → numbers_of l ≡ some p → (p.left < 1000000000) × (p.right < 1000000000)
+pub pair-below : (l : List ℕ) (p : TwoNumbers) → numbers_of l ≡ Some p → (p.left < 1000000000) × (p.right < 1000000000)
 unfolding numbers_of
-pair-below l p e = split (is_number (before_space l) && is_number (after_space l)) refl e
+pair-below l p e = go (number_in (up_to 32 l)) (number_in (after 32 l)) refl refl e
   where
-    x : TwoNumbers
-    x = record { left = number (before_space l); right = number (after_space l) }
-
-    split : (t : Bool) → is_number (before_space l) && is_number (after_space l) ≡ t → cond t (some x) none ≡ some p
+    go : (x y : Option ℕ) → number_in (up_to 32 l) ≡ x → number_in (after 32 l) ≡ y → both x y ≡ Some p
         → (p.left < 1000000000) × (p.right < 1000000000)
-    split true t e =
-        let b = (and-eq-true_iff (is_number (before_space l)) (is_number (after_space l))).0 t in
-        let w : x ≡ p = cc in
-        rw (← w) (below (before_space l) b.0, below (after_space l) b.1)
-    split false t e = let z : ◌≡◌ {A = ℕ} 0 1 = cc in absurd (omega arith)
-
--- ---- what `numbers_in` tells of a line
-
-pair_of : (o : Option TwoNumbers) {x y : ℕ} → numbers_answer o ≡ Numbers.Two x y → o ≡ some (record { left = x; right = y })
-pair_of (some p) {x} {y} e =
-    let l : p.left ≡ x = cc in
-    let r : p.right ≡ y = cc in
-    rw (← l, ← r)
-pair_of none e = let z : ◌≡◌ {A = ℕ} 0 1 = cc in absurd (omega arith)
-
-none_of : (o : Option TwoNumbers) → numbers_answer o ≡ Numbers.Bad → o ≡ none
-none_of (some p) e = let z : ◌≡◌ {A = ℕ} 0 1 = cc in absurd (omega arith)
-none_of none e = refl
-
-module _ (l : List ℕ) {a : Numbers} (e : a ≡ numbers_answer (numbers_of l)) where
-  pub told-pair : {x y : ℕ} → a ≡ Numbers.Two x y → numbers_of l ≡ some (record { left = x; right = y })
-  told-pair w = pair_of (numbers_of l) (sym e ∙ w)
-
-  pub told_below : {x y : ℕ} → a ≡ Numbers.Two x y → (x < 1000000000) × (y < 1000000000)
-  told_below {x} {y} w = pair-below l (record { left = x; right = y }) (told-pair w)
-
-  pub told-bad : a ≡ Numbers.Bad → numbers_of l ≡ none
-  told-bad w = none_of (numbers_of l) (sym e ∙ w)
+    go (Some v) (Some w) f g e =
+        let q : record { left = v; right = w } ≡ p = cc in
+        rw (← q) (small (up_to 32 l) f, small (after 32 l) g)
+    go (Some v) None f g e = absurd cc
+    go None y f g e = absurd cc

@@ -6,17 +6,19 @@ use native.Mathlib.Numerals.{add-one}
 use native.Mathlib.Omega.{arith}
 use mathlib.Core.Bool.{Bool, true, false, cond}
 use mathlib.Core.List.{List, [], ◌∷◌, ◌++◌, append-nil}
-use mathlib.Core.Option.{Option, some, none}
+use Rattle.std.proofs.Common.{Option, Some, None, Result, Ok, Err}
 use lib.Dec.{ltb, leb, eqb}
 use lib.ListN.{length, drop, drop_of_length-le, length-drop}
 use lib.Seq.{drop-drop}
 use borrow.Author.Tests.{ltb-true, ltb-false, leb-true, leb-false}
-use Rattle.arc.specs.declared.Verdict.{Verdict}
+use Rattle.arc.specs.declared.refusal.Refusal.{Refusal}
 use Rattle.arc.specs.Scales.{chart_series}
-use Rattle.card.specs.declared.Card.{Card}
-use Rattle.card.specs.Read.{read_of}
-use Rattle.printing.specs.Lines.{into_first, lines_of, TwoNumbers, numbers_of}
-use Rattle.printing.specs.Printed.{bad_line, too_long, line_for, lines_for, card_out, with_card, run, printed}
+use Rattle.card_text.specs.declared.Fields.{Fields}
+use Rattle.card.specs.Read.{card_read}
+use Rattle.card.specs.declared.Reading.{Reading}
+use Rattle.printing.specs.Lines.{into_first, lines_of, numbers_of}
+use Rattle.printing.specs.declared.parse.TwoNumbers.{TwoNumbers}
+use Rattle.printing.specs.Printed.{bad_line, too_long, line_for, lines_for, refusal_text, card_out, with_card, run, printed}
 use Rattle.printing.specs.Run.{first_line, line_at, next_at, Opened, closed, opened_with, opened_card, opening_of, from_on, run_from, RunPrints}
 
 -- the first line and the lines after it
@@ -45,7 +47,7 @@ unfolding lines_of
 lines_end s at h = rw (drop_of_length-le s {i = at} h)
 
 -- what the loop prints, with turns enough
-pub from-lines : (k : Card) (s : List ℕ) (n at : ℕ) → length s ≤ at + n → from_on k s at n ≡ lines_for k (lines_of (drop at s))
+pub from-lines : (k : Fields) (s : List ℕ) (n at : ℕ) → length s ≤ at + n → from_on k s at n ≡ lines_for k (lines_of (drop at s))
 from-lines k s zero at h = rw (lines_end s at (omega arith))
 from-lines k s (suc n) at h = turn (ltb at (length s)) refl (λ g. from-lines k s n (next_at s at) g)
   where
@@ -57,13 +59,13 @@ from-lines k s (suc n) at h = turn (ltb at (length s)) refl (λ g. from-lines k 
 
 -- what is printed of a card, its lines being ls
 opened-card : (o : Option TwoNumbers) (card : List ℕ) (next end : ℕ) (s : List ℕ) (ls : List (List ℕ))
-    → ((k : Card) → from_on k s next (length s) ≡ lines_for k ls) → run_from (opened_card o card next end) s ≡ with_card o card ls
-opened-card none card next end s ls more = refl
-opened-card (some p) card next end s ls more = let r = read_of (chart_series p.left p.right) card in verdict r.verdict r.card r.blanks
+    → ((k : Fields) → from_on k s next (length s) ≡ lines_for k ls) → run_from (opened_card o card next end) s ≡ with_card o card ls
+opened-card None card next end s ls more = refl
+opened-card (Some p) card next end s ls more = opened (card_read (chart_series p.left p.right) card)
   where
-    verdict : (v : Verdict) (k : Card) (blanks : ℕ) → run_from (opened_with v k blanks next end) s ≡ card_out v k ls
-    verdict Verdict.Accepted k blanks = rw (more k)
-    verdict (Verdict.Refused e) k blanks = append-nil (card_out (Verdict.Refused e) k ls)
+    opened : (x : Result Reading Refusal) → run_from (opened_with x next end) s ≡ card_out x ls
+    opened (Ok r) = rw (more r.card)
+    opened (Err e) = append-nil (refusal_text e)
 
 -- no second line
 no_second : (s : List ℕ) → length s ≤ next_at s 0 → bad_line ≡ run (lines_of s)
@@ -78,9 +80,9 @@ second s h =
     (opened-card (numbers_of (line_at s 0)) (line_at s (next_at s 0)) (next_at s (next_at s 0)) (length s) s (lines_of (drop (next_at s (next_at s 0)) s))
     (λ k. from-lines k s (length s) (next_at s (next_at s 0)) (omega arith)))
 
-pub run-prints : RunPrints
+pub run_prints : RunPrints
 unfolding opening_of printed
-run-prints s = limit (ltb 65536 (length s)) (leb (length s) (next_at s 0)) refl
+run_prints s = limit (ltb 65536 (length s)) (leb (length s) (next_at s 0)) refl
   where
     rest : Opened
     rest = opened_card (numbers_of (line_at s 0)) (line_at s (next_at s 0)) (next_at s (next_at s 0)) (length s)

@@ -1,68 +1,64 @@
--- A scan takes one byte a turn off what is left, and what is left with what was found is the whole. Assumes nothing.
-use mathlib.Core.Path.{◌≡◌, refl, ap}
-use Prim.Native.Nat.{ℕ, suc, ◌+◌, ◌-◌, ◌≤◌, ◌<◌}
-use native.Mathlib.Nat.{add-zero}
-use native.Mathlib.Numerals.{add-one}
-use native.Mathlib.Omega.{arith}
-use mathlib.Core.Bool.{Bool, true, false, cond, ◌&&◌, and-eq-true_iff}
-use mathlib.Core.List.{List, [], ◌∷◌}
-use lib.Dec.{eqb, leb}
-use lib.ListN.{length, get_or, take, drop, drop_of_length-le}
+-- The first place of a byte parts a text in what stands before it and what stands after it. Assumes nothing.
+use Rattle.std.proofs.Common.{◌≡◌, ℕ, suc, ◌+◌, ◌≤◌, ◌<◌, Bool, true, false, cond, List, [], ◌∷◌, length, take, drop, refl, ap, sym, ◌∙◌}
+use Rattle.std.proofs.Common.{add-one, arith, take_all, length-drop, drop_of_length-le, ltb-false, ltb-true, Option, Some, None, MatchOption, ◌==◌, nat_lt}
+use Rattle.std.proofs.lemmas.List.Recursion.{is_position_or_len}
+use Rattle.std.specs.List.{position, position_or_len}
 use lib.Seq.{drop-nil}
-use borrow.Author.Tests.{eq-eqb, ne_eqb, leb-true}
-use Rattle.text.specs.Text.{all, is_digit}
-use Rattle.text.proofs.Bytes.{drop-next}
-use Rattle.printing.specs.Lines.{up_to, before_space, after_space, is_number}
-
--- ---- the first e
-
-module _ (e : ℕ) (s : List ℕ) (i : ℕ) where
-  -- where it stands
-  pub up_to-here : i < length s → get_or s i 0 ≡ e → i + length (up_to e (drop i s)) ≡ i
-  up_to-here h t = rw (drop-next s i h, eq-eqb (get_or s i 0) e t, add-zero)
-
-  -- before it
-  pub up_to-next : i < length s → (get_or s i 0 ≡ e → ⊥) → i + 1 + length (up_to e (drop (i + 1) s)) ≡ i + length (up_to e (drop i s))
-  up_to-next h t = rw (drop-next s i h, ne_eqb (get_or s i 0) e t) (omega arith)
-
-  -- nowhere
-  pub up_to-end : length s ≤ i → i + length (up_to e (drop i s)) ≡ i
-  up_to-end h = rw (drop_of_length-le s {i = i} h, add-zero)
+use Rattle.printing.specs.Lines.{up_to, after}
+use Rattle.printing.specs.Steps.{IsUncut}
 
 -- what stands before it is a part from the front
 pub up_to-take : (e : ℕ) (s : List ℕ) → take (length (up_to e s)) s ≡ up_to e s
 up_to-take e [] = refl
-up_to-take e (b ∷ bs) = split (eqb b e) (up_to-take e bs)
+up_to-take e (b ∷ bs) = split (b == e) (up_to-take e bs)
   where
     split : (t : Bool) → take (length (up_to e bs)) bs ≡ up_to e bs → take (length (cond t [] (b ∷ up_to e bs))) (b ∷ bs) ≡ cond t [] (b ∷ up_to e bs)
     split true m = refl
     split false m = ap (λ (t : List ℕ). b ∷ t) m
 
--- the part from an offset up to e, e being the line's end
-pub line-part : (s : List ℕ) (at e : ℕ) → e ≡ at + length (up_to 10 (drop at s)) → take (e - at) (drop at s) ≡ up_to 10 (drop at s)
-line-part s at e h =
-    let n : e - at ≡ length (up_to 10 (drop at s)) = omega arith in
-    rw n (up_to-take 10 (drop at s))
-
--- what stands after the first space
-pub space-drop : (s : List ℕ) → drop (length (before_space s) + 1) s ≡ after_space s
-space-drop [] = drop-nil (0 + 1)
-space-drop (b ∷ bs) = rw add-one (split (eqb b 32) (rw add-one at (space-drop bs)))
+up_to-short : (e : ℕ) (s : List ℕ) → length (up_to e s) ≤ length s
+up_to-short e [] = omega arith
+up_to-short e (b ∷ bs) = split (b == e) (up_to-short e bs)
   where
-    split : (t : Bool) → drop (suc (length (up_to 32 bs))) bs ≡ after_space bs
-        → drop (length (cond t [] (b ∷ up_to 32 bs))) bs ≡ cond t bs (after_space bs)
+    split : (t : Bool) → length (up_to e bs) ≤ length bs → length (cond t [] (b ∷ up_to e bs)) ≤ suc (length bs)
+    split true m = omega arith
+    split false m = omega arith
+
+-- from an offset on, it ends within the whole
+pub up_to-within : (e : ℕ) (s : List ℕ) (at : ℕ) → at ≤ length s → at + length (up_to e (drop at s)) ≤ length s
+up_to-within e s at h = omega (arith, up_to-short e (drop at s), length-drop at s)
+
+-- what stands after it
+after-drop : (e : ℕ) (s : List ℕ) → drop (length (up_to e s) + 1) s ≡ after e s
+after-drop e [] = drop-nil (0 + 1)
+after-drop e (b ∷ bs) = rw add-one (split (b == e) (rw add-one at (after-drop e bs)))
+  where
+    split : (t : Bool) → drop (suc (length (up_to e bs))) bs ≡ after e bs
+        → drop (length (cond t [] (b ∷ up_to e bs))) bs ≡ cond t bs (after e bs)
     split true m = refl
     split false m = m
 
--- ---- a number of 1 to 9 digits
+-- its place
+first-is : (e : ℕ) (s : List ℕ) → length (up_to e s) ≡ position_or_len (λ b. b == e) s
+first-is e s = is_position_or_len (λ t. length (up_to e t)) (λ b. b == e) refl (λ b bs. step (b == e) b bs) s
+  where
+    step : (t : Bool) (b : ℕ) (bs : List ℕ) → length (cond t [] (b ∷ up_to e bs)) ≡ cond t 0 (1 + length (up_to e bs))
+    step true b bs = refl
+    step false b bs = omega arith
 
-pub record IsNumber (s : List ℕ) : Type 0 where
-  pub some-digit : 1 ≤ length s
-  pub nine-digits : length s ≤ 9
-  pub of-digits : all is_digit s ≡ true
+pub cut-is : (e : ℕ) (s : List ℕ) {r : Option ℕ} → r ≡ position (λ b. b == e) s
+    → MatchOption r (IsUncut e s) (λ i. (i < length s) × (take i s ≡ up_to e s) × (drop (i + 1) s ≡ after e s))
+cut-is e s {r} q = rw (q, ← first-is e s) (go (nat_lt (length (up_to e s)) (length s)) refl)
+  where
+    n : ℕ
+    n = length (up_to e s)
 
-pub is-number : (s : List ℕ) → is_number s ≡ true → IsNumber s
-is-number s t =
-    let b = (and-eq-true_iff (leb 1 (length s) && leb (length s) 9) (all is_digit s)).0 t in
-    let d = (and-eq-true_iff (leb 1 (length s)) (leb (length s) 9)).0 b.0 in
-    record { some-digit = leb-true 1 (length s) d.0; nine-digits = leb-true (length s) 9 d.1; of-digits = b.1 }
+    go : (t : Bool) → nat_lt n (length s) ≡ t
+        → MatchOption (cond t (Some n) None) (IsUncut e s) (λ i. (i < length s) × (take i s ≡ up_to e s) × (drop (i + 1) s ≡ after e s))
+    go true h = (ltb-true n (length s) h, up_to-take e s, after-drop e s)
+    go false h =
+        let m = ltb-false n (length s) h in
+        record {
+          whole = sym (up_to-take e s) ∙ take_all n s m;
+          ended = sym (after-drop e s) ∙ drop_of_length-le s {i = n + 1} (omega arith);
+        }

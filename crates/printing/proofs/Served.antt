@@ -1,54 +1,66 @@
 -- A line that is served is put whole, and the next one starts after its line feed; a run ends, and never goes back. Assumes nothing.
-use mathlib.Core.Path.{◌≡◌, refl}
-use Prim.Native.Nat.{ℕ, ◌+◌, ◌-◌, ◌≤◌, ◌<◌}
+use mathlib.Core.Path.{◌≡◌, refl, ◌∙◌}
+use Prim.Native.Nat.{ℕ, ◌+◌, ◌≤◌, ◌<◌}
 use native.Mathlib.Omega.{arith}
 use mathlib.Core.Bool.{Bool, true, false, cond, ◌&&◌, and-false}
 use mathlib.Core.List.{List}
 use lib.Dec.{leb, ltb}
-use lib.ListN.{length, take, drop}
+use lib.ListN.{length}
 use borrow.Author.Tests.{leb-false, le-leb, lt-leb, lt-ltb, le-ltb}
-use Rattle.card.specs.declared.Card.{Card}
-use Rattle.whole.specs.Lists.{over}
+use Rattle.card_text.specs.declared.Fields.{Fields}
 use Rattle.text.specs.Steps.{Put}
-use Rattle.printing.specs.Lines.{up_to}
 use Rattle.printing.specs.Printed.{line_for}
 use Rattle.printing.specs.Run.{line_at, next_at, goes_on, RunEnds, NeverBack}
-use Rattle.printing.specs.Steps.{text_at, line_answer, nothing}
-use Rattle.printing.specs.declared.LineAnswer.{LineAnswer}
-use Rattle.printing.proofs.Scan.{line-part}
+use Rattle.printing.specs.Steps.{text_at, line_text, line_left, no_line}
+use Rattle.printing.specs.declared.LineText.{LineText}
 use Rattle.text.proofs.Splices.{front_length, front-left}
 
--- where nothing is put, a caller goes on at the offset or at the end of the input
-module _ (k : Card) (s : List ℕ) (at : ℕ) (out : List ℕ) where
-  pub line-served : (t : List ℕ) (r e : ℕ) → at < length s → length s ≤ 65536 → 64 ≤ length out → e ≡ at + length (up_to 10 (drop at s))
-      → Put (line_for k (take (e - at) (drop at s))) 0 out t r
-      → (◌≡◌ {A = LineAnswer} (record { length = r; next = e + 1 }) (line_answer k s at out)) × (t ≡ over (text_at k s at out) out)
-  unfolding text_at line_answer goes_on
-  line-served t r e l h m n p =
-      let q : Put (line_for k (line_at s at)) 0 out t r = rw (line-part s at e n) at p in
-      rw (lt-leb (length s) at l, le-ltb 65536 (length s) h, lt-ltb at (length s) l, le-leb (length s) 65536 h, le-leb 64 (length out) m)
-      (rw (n, front_length q), front-left q)
+module _ (k : Fields) (s : List ℕ) (at : ℕ) (out : List ℕ) where
+  -- where nothing is put, a caller goes on at the offset or at the end of the input
+  pub past_text : length s ≤ at → {a : LineText} → a ≡ no_line at → a ≡ line_text k s at out
+  unfolding text_at line_text goes_on
+  past_text h e = rw (le-leb (length s) at h, le-ltb at (length s) h, and-false (leb (length s) 65536)) e
 
-  pub line-past : {a : LineAnswer} → a ≡ nothing at → length s ≤ at → (a ≡ line_answer k s at out) × (out ≡ over (text_at k s at out) out)
-  unfolding text_at line_answer goes_on
-  line-past e h = rw (le-leb (length s) at h, le-ltb at (length s) h, and-false (leb (length s) 65536)) (e, refl)
+  pub past_left : length s ≤ at → out ≡ line_left k s at out
+  unfolding text_at
+  past_left h = rw (le-ltb at (length s) h, and-false (leb (length s) 65536))
 
-  pub line-long : {a : LineAnswer} → a ≡ nothing (length s) → at < length s → 65536 < length s
-      → (a ≡ line_answer k s at out) × (out ≡ over (text_at k s at out) out)
-  unfolding text_at line_answer goes_on
-  line-long e l h = rw (lt-leb (length s) at l, lt-ltb 65536 (length s) h, lt-leb (length s) 65536 h) (e, refl)
+  pub long_text : at < length s → 65536 < length s → {a : LineText} → a ≡ no_line (length s) → a ≡ line_text k s at out
+  unfolding text_at line_text goes_on
+  long_text l h e = rw (lt-leb (length s) at l, lt-ltb 65536 (length s) h, lt-leb (length s) 65536 h) e
 
-  pub line-again : {a : LineAnswer} → a ≡ nothing at → at < length s → length s ≤ 65536 → length out < 64
-      → (a ≡ line_answer k s at out) × (out ≡ over (text_at k s at out) out)
-  unfolding text_at line_answer goes_on
-  line-again e l h m =
+  pub long_left : 65536 < length s → out ≡ line_left k s at out
+  unfolding text_at
+  long_left h = rw (lt-leb (length s) 65536 h)
+
+  pub again_text : at < length s → length s ≤ 65536 → length out < 64 → {a : LineText} → a ≡ no_line at → a ≡ line_text k s at out
+  unfolding text_at line_text goes_on
+  again_text l h m e =
       rw (
         lt-leb (length s) at l,
         le-ltb 65536 (length s) h,
         lt-leb 64 (length out) m,
         and-false (leb (length s) 65536 && ltb at (length s)),
       )
-      (e, refl)
+      e
+
+  pub again_left : length out < 64 → out ≡ line_left k s at out
+  unfolding text_at
+  again_left m = rw (lt-leb 64 (length out) m, and-false (leb (length s) 65536 && ltb at (length s)))
+
+  -- a line that is served
+  module _ (h : at < length s) (m : length s ≤ 65536) (n : 64 ≤ length out) {l t : List ℕ} (e : l ≡ line_at s at) {r : ℕ} where
+    pub served-text : Put (line_for k l) 0 out t r → record { length = r; next = at + length l + 1 } ≡ line_text k s at out
+    unfolding text_at line_text goes_on
+    served-text p =
+        rw (front_length p, e, lt-leb (length s) at h, le-ltb 65536 (length s) m, lt-ltb at (length s) h, le-leb (length s) 65536 m)
+        (rw (le-leb 64 (length out) n))
+
+    pub served-left : Put (line_for k l) 0 out t r → t ≡ line_left k s at out
+    unfolding text_at
+    served-left p = front-left p ∙ rw (e, lt-ltb at (length s) h, le-leb (length s) 65536 m, le-leb 64 (length out) n)
+
+pub ruleset line_serves = (past_text, past_left, long_text, long_left, again_text, again_left)
 
 pub run_ends : RunEnds
 unfolding goes_on
@@ -69,7 +81,9 @@ never_back s at out = go (leb (length s) at) (ltb 65536 (length s)) (leb 64 (len
     go false false false e = omega arith
 
 -- for a caller
-pub next-further : (k : Card) (s : List ℕ) (at : ℕ) (out : List ℕ) {r : LineAnswer} → r ≡ line_answer k s at out → at < length s → 64 ≤ length out
+pub next_further : (k : Fields) (s : List ℕ) (at : ℕ) (out : List ℕ) {r : LineText} → r ≡ line_text k s at out → at < length s → 64 ≤ length out
     → at < r.next
-unfolding line_answer
-next-further k s at out e l m = rw e (run_ends s at out l m)
+unfolding line_text
+next_further k s at out e l m = rw e (run_ends s at out l m)
+
+pub ruleset runs = (run_ends, never_back)

@@ -1,4 +1,4 @@
--- Document 01's worked example, whole (01, "The printing program"). A claim: the proof is proofs/Shown.antt.
+-- A worked example, whole: the input, and all that is printed of it. A claim: `prints_the_worked_example` in src/laws.rt has it.
 use Rattle.std.specs.Prelude.{◌≡◌, List, ◌++◌, ℕ}
 use Rattle.text.specs.Text.{bytes}
 use Rattle.printing.specs.Printed.{printed}

@@ -1,67 +1,58 @@
-// What is printed for a line of row and column (01, "The printing program").
-ghost use Rattle.std.specs.Prelude.{◌≡◌, ◌+◌, ◌<◌, ◌≤◌, pos, length};
-ghost use Rattle.card.specs.declared.Pair.{Pair};
-ghost use Rattle.card.specs.Grid.{position_of};
-ghost use Rattle.card.specs.Read.{Known};
+// What is printed for a line of row and column.
+ghost use Rattle.std.specs.Prelude.{◌≡◌, ◌+◌, ◌≤◌, length};
 ghost use Rattle.text.specs.Steps.{Put};
-ghost use Rattle.printing.specs.Printed.{answer_text, pixel_text, line_for};
+ghost use Rattle.printing.specs.Printed.{position_text, answer_text, pixel_text, line_for};
 
-use crate::parse::{self, Numbers};
-use card::{Card, Pair, PositionAnswer};
+use crate::parse::{self, TwoNumbers};
+use arc::Refusal;
+use card::{Card, Pair, Position};
 
-// Latitude and longitude in card form, or "refused" and the number.
-fn put_answer(out: &mut [u8], o: usize, a: PositionAnswer) -> usize
+/// Latitude and longitude in card form.
+fn put_position(out: &mut [u8], o: usize, position: Position) -> usize
     requires { o + 29 ≤ length out.old }
-    ensures { Put (answer_text a) o out.old out.new result }
+    ensures { Put (position_text position) o out.old out.new result }
 {
-    match a {
-        PositionAnswer::At { lat, lon } => {
-            let o1 = text::put_angle(out, o, 2, lat);
-            let o2 = text::put_byte(out, o1, 32);
-            let o3 = text::put_angle(out, o2, 3, lon);
-            text::put_byte(out, o3, 10)
-        }
-        PositionAnswer::Refused(e) => {
+    let o1 = text::put_angle(out, o, 2, position.lat);
+    let o2 = text::put_byte(out, o1, b' ');
+    let o3 = text::put_angle(out, o2, 3, position.lon);
+    text::put_byte(out, o3, b'\n')
+}
+
+/// Latitude and longitude in card form, or "refused" and the number.
+fn put_answer(out: &mut [u8], o: usize, answer: Result<Position, Refusal>) -> usize
+    requires { o + 29 ≤ length out.old }
+    ensures { Put (answer_text answer) o out.old out.new result }
+{
+    match answer {
+        Ok(position) => put_position(out, o, position),
+        Err(refusal) => {
             let o1 = text::put_bytes(out, o, b"refused ");
-            let o2 = text::put_decimal(out, o1, e.number as u64);
-            text::put_byte(out, o2, 10)
+            let o2 = text::put_decimal(out, o1, u64::from(refusal.number()));
+            text::put_byte(out, o2, b'\n')
         }
     }
 }
 
-// Row, column and the answer.
-fn put_line(out: &mut [u8], row: u64, column: u64, a: PositionAnswer) -> usize
-    requires { (64 ≤ length out.old) × (row < 1000000000) × (column < 1000000000) }
-    ensures { Put (pixel_text row column a) 0 out.old out.new result }
+/// Row, column and the answer.
+fn put_line(out: &mut [u8], row: u32, column: u32, answer: Result<Position, Refusal>) -> usize
+    requires { 64 ≤ length out.old }
+    ensures { Put (pixel_text row column answer) 0 out.old out.new result }
 {
-    let o1 = text::put_decimal(out, 0, row);
-    let o2 = text::put_byte(out, o1, 32);
-    let o3 = text::put_decimal(out, o2, column);
-    let o4 = text::put_byte(out, o3, 32);
-    put_answer(out, o4, a)
+    let o1 = text::put_decimal(out, 0, u64::from(row));
+    let o2 = text::put_byte(out, o1, b' ');
+    let o3 = text::put_decimal(out, o2, u64::from(column));
+    let o4 = text::put_byte(out, o3, b' ');
+    put_answer(out, o4, answer)
 }
 
-// The answer for a row and a column of up to nine digits, in the corner pair (02, E8).
-fn position_at(k: Card, row: u64, column: u64) -> PositionAnswer
-    requires known { Known k }
-    requires row_in_range { row < 1000000000 }
-    requires column_in_range { column < 1000000000 }
-    ensures { result ≡ position_of Pair.Corner k (pos row) (pos column) }
+/// Row, column and the answer of the corner pair, or "bad line".
+pub fn put_pixel(out: &mut [u8], card: Card, line: &[u8]) -> usize
+    requires { 64 ≤ length out.old }
+    ensures { Put (line_for card line.now) 0 out.old out.new result }
 {
-    k.position_in(Pair::Corner, row as i64, column as i64)
-}
-
-// Row, column and the answer, or "bad line".
-pub fn put_pixel(out: &mut [u8], k: Card, line: &[u8]) -> usize
-    requires known { Known k }
-    requires room { 64 ≤ length out.old }
-    ensures { Put (line_for k line.now) 0 out.old out.new result }
-{
-    match parse::numbers_in(line) {
-        Numbers::Two { left, right } => {
-            let a = position_at(k, left, right);
-            put_line(out, left, right, a)
-        }
-        Numbers::Bad => text::put_bytes(out, 0, b"bad line\n"),
-    }
+    let Some(TwoNumbers { left, right }) = parse::numbers_in(line) else {
+        return text::put_bytes(out, 0, b"bad line\n");
+    };
+    let answer = card.position_in(Pair::Corner, i64::from(left), i64::from(right));
+    put_line(out, left, right, answer)
 }

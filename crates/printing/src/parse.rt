@@ -1,59 +1,64 @@
-// A line of the input and its two numbers (01, "The printing program").
-ghost use Rattle.std.specs.Prelude.{◌≡◌, ◌+◌, ◌≤◌, length, drop};
-ghost use Rattle.printing.specs.Lines.{up_to, numbers_of};
-ghost use Rattle.printing.specs.Steps.{ReadNumber, numbers_answer};
+// A line of the input and its two numbers.
+ghost use Rattle.std.specs.Prelude.{◌≡◌, ◌+◌, ◌≤◌, ◌==◌, length, MatchOption};
+ghost use Rattle.std.specs.List.{position};
+ghost use Rattle.printing.specs.Lines.{up_to, after, number_in, numbers_of};
+ghost use Rattle.printing.specs.Run.{line_at};
+ghost use Rattle.printing.specs.Steps.{IsUncut};
 
-use text::Digits;
-
-// What a line holds.
+/// The two numbers of a line, of up to nine digits each.
 #[derive(Clone, Copy)]
-pub enum Numbers {
-    Two { left: u64, right: u64 },
-    Bad,
+pub struct TwoNumbers {
+    pub left: u32,
+    pub right: u32,
 }
 
-// Where the first e stands from an offset on, or the end.
-pub fn until(s: &[u8], at: usize, e: u8) -> usize
-    requires { at ≤ length s.now }
-    ensures { (result ≡ at + length (up_to e (drop at s.now))) × (result ≤ length s.now) }
+/// Where a byte first stands.
+fn first_of(s: &[u8], byte: u8) -> Option<usize>
+    ensures { result ≡ position (λ b. b == byte) s.now }
 {
-    let mut i = at;
-    while i < s.len() {
-        if s[i] == e {
-            return i;
-        }
-        i += 1;
-    }
-    i
+    s.iter().position(|&b| b == byte)
 }
 
-// A number of 1 to 9 digits.
-fn number_of(s: &[u8]) -> Digits
-    ensures { ReadNumber s.now result }
+/// What stands before and after the first of a byte.
+fn split_once(s: &[u8], byte: u8) -> Option<(&[u8], &[u8])>
+    ensures { MatchOption result (IsUncut byte s.now) (λ p. (p.0.now ≡ up_to byte s.now) × (p.1.now ≡ after byte s.now)) }
 {
-    let d = text::digits_of(s);
-    Digits {
-        value: d.value,
-        ok: (1 <= s.len()) & (s.len() <= 9) & d.ok,
+    let at = first_of(s, byte)?;
+    Some((&s[..at], &s[at + 1..]))
+}
+
+/// The line that starts at an offset.
+pub fn line_at(input: &[u8], at: usize) -> &[u8]
+    requires { at ≤ length input.now }
+    ensures line { result.now ≡ line_at input.now at }
+    ensures within { at + length result.now ≤ length input.now }
+{
+    let rest = &input[at..];
+    match split_once(rest, b'\n') {
+        Some((line, _)) => line,
+        None => rest,
     }
 }
 
-// The two numbers of a line.
-pub fn numbers_in(s: &[u8]) -> Numbers
-    ensures { result ≡ numbers_answer (numbers_of s.now) }
+/// A number of 1 to 9 digits.
+#[tactic(auto, using(crate::proofs::Pairs::number_reads))]
+fn number_in(s: &[u8]) -> Option<u32>
+    ensures { result ≡ number_in s.now }
 {
-    let k = until(s, 0, 32);
-    if s.len() <= k {
-        return Numbers::Bad;
+    if !(1..=9).contains(&s.len()) {
+        return None;
     }
-    let left = number_of(&s[..k]);
-    let right = number_of(&s[k + 1..]);
-    if left.ok & right.ok {
-        Numbers::Two {
-            left: left.value,
-            right: right.value,
-        }
-    } else {
-        Numbers::Bad
-    }
+    let number = text::digits_of(s)?;
+    Some(number as u32)
+}
+
+/// The two numbers of a line.
+#[tactic(auto, using(crate::proofs::Pairs::line_reads))]
+pub fn numbers_in(line: &[u8]) -> Option<TwoNumbers>
+    ensures { result ≡ numbers_of line.now }
+{
+    let (left, right) = split_once(line, b' ')?;
+    let left = number_in(left)?;
+    let right = number_in(right)?;
+    Some(TwoNumbers { left, right })
 }
