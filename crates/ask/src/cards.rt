@@ -73,9 +73,13 @@ pub fn extents(rt: &HostRuntime, words: &mut Words<'_>) -> Result<(), Fault> {
     let mut bytes = [0; MOST];
     let card = words.card(&mut bytes)?;
     words.end()?;
-    let (r, e) = library::extents(card);
-    print!(rt; "{} {} {} {} {}", r.number, r.at, e.nul, e.nus, e.nll)?;
-    println!(rt; " {} {} {}", e.nls, e.nfl, e.nfc)?;
+    match library::extents(card) {
+        Ok(e) => {
+            print!(rt; "0 0 {} {} {}", e.nul, e.nus, e.nll)?;
+            println!(rt; " {} {} {}", e.nls, e.nfl, e.nfc)?;
+        }
+        Err(e) => println!(rt; "{} {} 0 0 0 0 0 0", e.number(), e.place())?,
+    }
     Ok(())
 }
 
@@ -177,8 +181,10 @@ pub fn judge_pixel(rt: &HostRuntime, words: &mut Words<'_>) -> Result<(), Fault>
     let card = words.card(&mut bytes)?;
     let pixel = words.pixel()?;
     words.end()?;
-    let r = library::judge_pixel(card, pixel);
-    println!(rt; "{} {}", r.number, r.at)?;
+    match library::judge_pixel(card, pixel) {
+        Ok(()) => println!(rt; "0 0")?,
+        Err(e) => println!(rt; "{} {}", e.number(), e.place())?,
+    }
     Ok(())
 }
 

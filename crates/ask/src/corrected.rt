@@ -6,6 +6,7 @@ use crate::shown::{Blanks, Ends};
 use crate::stated::{Corrections, Form, Index, MOST, MOST_WORDS, Pixel, Stated};
 use crate::words::Words;
 use fordcask::{BandsOnCard, CorrectedTile};
+use tiles::Source;
 
 /// What is asked of: an index, its store, the corrections beside it, and a pixel.
 #[derive(Clone, Copy)]
@@ -54,8 +55,16 @@ pub fn ask(
 }
 
 fn number(rt: &HostRuntime, q: Question<'_>) -> Result<(), Fault> {
-    let r = library::corrected_number(q.stated, q.store, q.corrections, q.pixel);
-    println!(rt; "{} {} {} {}", r.number, r.at, r.source, r.stored)?;
+    match library::corrected_number(q.stated, q.store, q.corrections, q.pixel) {
+        Ok(stored) => {
+            let source = match stored.source {
+                Source::Base => 0,
+                Source::Corrections => 1,
+            };
+            println!(rt; "0 0 {source} {}", stored.number)?;
+        }
+        Err(e) => println!(rt; "{} {} 0 0", e.number(), e.place())?,
+    }
     Ok(())
 }
 

@@ -1,121 +1,99 @@
 //! What is asked of the crates below `fordcask`, for which it has no function.
-use crate::stated::{Card, Corrections, Index, Pixel, Stated};
-use arc::{ConstantParts, Refusal, Verdict};
-use card::Extents;
-use tiles::{NumberAnswer, NumberParts, SourceAnswer, SourceParts};
+use crate::stated::{Corrections, Index, Pixel, Stated};
+use crate::stated;
+use arc::Refusal;
+use card::Card;
+use card_text::Extents;
+use tiles::{ByBits, ByList, Corrected, Stored, Stores};
 
 /// B.
-pub fn b_constant(scale: u64, factor: u64) -> ConstantParts {
-    arc::b_constant(scale, factor).into_parts()
+pub fn b_constant(scale: u64, factor: u64) -> Result<u64, Refusal> {
+    let pixels = arc::b_constant(scale, factor)?;
+    Ok(pixels.count())
 }
 
-/// Reading's refusal, and the edges and the tiles, 0 where it refuses.
-pub fn extents(card: Card<'_>) -> (Refusal, Extents) {
-    let reading = card_text::read_card(card.series, card.bytes);
-    let verdict = reading.verdict;
-    let k = reading.card;
-    (verdict.refusal(), k.extents())
+/// The edges and the tiles, or reading's refusal.
+pub fn extents(card: stated::Card<'_>) -> Result<Extents, Refusal> {
+    let reading = Card::read(card.series, card.bytes)?;
+    Ok(reading.card.extents())
 }
 
-/// Reading's refusal, then what the pixel is refused with.
-#[tactic(auto, using(fordcask::proofs::KnownCards::known_cards))]
-pub fn judge_pixel(card: Card<'_>, pixel: Pixel) -> Refusal {
-    let reading = card_text::read_card(card.series, card.bytes);
-    let verdict = reading.verdict;
-    let k = reading.card;
-    match verdict {
-        Verdict::Accepted => k.judge_pixel(pixel.row, pixel.column).refusal(),
-        Verdict::Refused(e) => e,
-    }
-}
-
-/// Reading's refusals, then those of the stored number.
-#[tactic(auto, using(fordcask::proofs::KnownCards::known_cards))]
-fn stored(s: Stated<'_>, store: &[u8], pixel: Pixel) -> NumberAnswer {
-    let Pixel { row, column } = pixel;
-    let reading = card_text::read_card(s.card.series, s.card.bytes);
-    let verdict = reading.verdict;
-    let k = reading.card;
-    match (verdict, s.index) {
-        (Verdict::Refused(e), _) => NumberAnswer::Refused(e),
-        (Verdict::Accepted, Index::List(index)) => {
-            tiles::stored_number(k, index, s.count, store, row, column)
-        }
-        (Verdict::Accepted, Index::Bits(bits)) => {
-            tiles::bits_number(k, bits, s.count, store, row, column)
-        }
-    }
+/// Reading's refusal, or what the pixel is refused with.
+pub fn judge_pixel(card: stated::Card<'_>, pixel: Pixel) -> Result<(), Refusal> {
+    let reading = Card::read(card.series, card.bytes)?;
+    reading.card.judge_pixel(pixel.row, pixel.column)
 }
 
 /// The number of a pixel's tile among the stored ones.
-pub fn number(s: Stated<'_>, store: &[u8], pixel: Pixel) -> NumberParts {
-    stored(s, store, pixel).into_parts()
+pub fn number(s: Stated<'_>, store: &[u8], pixel: Pixel) -> Result<Stored, Refusal> {
+    let Pixel { row, column } = pixel;
+    let card = Card::read(s.card.series, s.card.bytes)?.card;
+    let count = s.count;
+    let stores = Stores {
+        base: store,
+        corrections: &[],
+    };
+    match s.index {
+        Index::List(entries) => {
+            tiles::look_up(card, &ByList { entries, count }, stores, row, column)
+        }
+        Index::Bits(words) => tiles::look_up(card, &ByBits { words, count }, stores, row, column),
+    }
 }
 
 /// The part of the store that is a pixel's tile; empty where reading refuses.
-#[tactic(auto, using(fordcask::proofs::KnownCards::known_cards))]
 pub fn part<'a>(s: Stated<'_>, store: &'a [u8], pixel: Pixel) -> &'a [u8] {
     let Pixel { row, column } = pixel;
-    let reading = card_text::read_card(s.card.series, s.card.bytes);
-    let verdict = reading.verdict;
-    let k = reading.card;
-    match (verdict, s.index) {
-        (Verdict::Refused(_), _) => &[],
-        (Verdict::Accepted, Index::List(index)) => {
-            tiles::tile(k, index, s.count, store, row, column)
-        }
-        (Verdict::Accepted, Index::Bits(bits)) => {
-            tiles::bits_tile(k, bits, s.count, store, row, column)
-        }
+    let Ok(reading) = Card::read(s.card.series, s.card.bytes) else {
+        return &[];
+    };
+    let card = reading.card;
+    let count = s.count;
+    let stores = Stores {
+        base: store,
+        corrections: &[],
+    };
+    match s.index {
+        Index::List(entries) => tiles::tile(card, &ByList { entries, count }, stores, row, column),
+        Index::Bits(words) => tiles::tile(card, &ByBits { words, count }, stores, row, column),
     }
 }
 
-/// Reading's refusals, then those of the number with corrections.
-#[tactic(auto, using(fordcask::proofs::KnownCards::known_cards))]
-fn source(s: Stated<'_>, store: &[u8], c: Corrections<'_>, pixel: Pixel) -> SourceAnswer {
-    let Pixel { row, column } = pixel;
-    let reading = card_text::read_card(s.card.series, s.card.bytes);
-    let verdict = reading.verdict;
-    let k = reading.card;
-    match (verdict, s.index) {
-        (Verdict::Refused(e), _) => SourceAnswer::Refused(e),
-        (Verdict::Accepted, Index::List(index)) => tiles::corrected_number(
-            k,
-            index,
-            s.count,
-            store,
-            c.entries,
-            c.corrected,
-            c.second,
-            row,
-            column,
-        ),
-        (Verdict::Accepted, Index::Bits(bits)) => tiles::corrected_bits_number(
-            k,
-            bits,
-            s.count,
-            store,
-            c.entries,
-            c.corrected,
-            c.second,
-            row,
-            column,
-        ),
-    }
-}
-
-/// Where a pixel's tile is stored, and its number there.
+/// Where a pixel's tile is stored, corrected first, and its number there.
 pub fn corrected_number(
     s: Stated<'_>,
     store: &[u8],
     c: Corrections<'_>,
     pixel: Pixel,
-) -> SourceParts {
-    source(s, store, c, pixel).into_parts()
+) -> Result<Stored, Refusal> {
+    let Pixel { row, column } = pixel;
+    let card = Card::read(s.card.series, s.card.bytes)?.card;
+    let count = s.count;
+    let stores = Stores {
+        base: store,
+        corrections: c.second,
+    };
+    match s.index {
+        Index::List(entries) => {
+            let index = Corrected {
+                base: ByList { entries, count },
+                entries: c.entries,
+                count: c.corrected,
+            };
+            tiles::look_up(card, &index, stores, row, column)
+        }
+        Index::Bits(words) => {
+            let index = Corrected {
+                base: ByBits { words, count },
+                entries: c.entries,
+                count: c.corrected,
+            };
+            tiles::look_up(card, &index, stores, row, column)
+        }
+    }
 }
 
 /// The part of either store that is a pixel's tile; empty where reading refuses.
-#[tactic(auto, using(fordcask::proofs::KnownCards::known_cards))]
 pub fn corrected_part<'a>(
     s: Stated<'_>,
     store: &'a [u8],
@@ -123,32 +101,31 @@ pub fn corrected_part<'a>(
     pixel: Pixel,
 ) -> &'a [u8] {
     let Pixel { row, column } = pixel;
-    let reading = card_text::read_card(s.card.series, s.card.bytes);
-    let verdict = reading.verdict;
-    let k = reading.card;
-    match (verdict, s.index) {
-        (Verdict::Refused(_), _) => &[],
-        (Verdict::Accepted, Index::List(index)) => tiles::corrected_tile(
-            k,
-            index,
-            s.count,
-            store,
-            c.entries,
-            c.corrected,
-            c.second,
-            row,
-            column,
-        ),
-        (Verdict::Accepted, Index::Bits(bits)) => tiles::corrected_bits_tile(
-            k,
-            bits,
-            s.count,
-            store,
-            c.entries,
-            c.corrected,
-            c.second,
-            row,
-            column,
-        ),
+    let Ok(reading) = Card::read(s.card.series, s.card.bytes) else {
+        return &[];
+    };
+    let card = reading.card;
+    let count = s.count;
+    let stores = Stores {
+        base: store,
+        corrections: c.second,
+    };
+    match s.index {
+        Index::List(entries) => {
+            let index = Corrected {
+                base: ByList { entries, count },
+                entries: c.entries,
+                count: c.corrected,
+            };
+            tiles::tile(card, &index, stores, row, column)
+        }
+        Index::Bits(words) => {
+            let index = Corrected {
+                base: ByBits { words, count },
+                entries: c.entries,
+                count: c.corrected,
+            };
+            tiles::tile(card, &index, stores, row, column)
+        }
     }
 }

@@ -36,8 +36,10 @@ pub fn ask(
 }
 
 fn number(rt: &HostRuntime, s: Stated<'_>, store: &[u8], pixel: Pixel) -> Result<(), Fault> {
-    let r = library::number(s, store, pixel);
-    println!(rt; "{} {} {}", r.number, r.at, r.stored)?;
+    match library::number(s, store, pixel) {
+        Ok(stored) => println!(rt; "0 0 {}", stored.number)?,
+        Err(e) => println!(rt; "{} {} 0", e.number(), e.place())?,
+    }
     Ok(())
 }
 

@@ -19,8 +19,10 @@ pub fn b_constant(rt: &HostRuntime, words: &mut Words<'_>) -> Result<(), Fault> 
     let scale = words.number()?;
     let factor = words.number()?;
     words.end()?;
-    let r = library::b_constant(scale, factor);
-    println!(rt; "{} {} {}", r.number, r.at, r.pixels)?;
+    match library::b_constant(scale, factor) {
+        Ok(b) => println!(rt; "0 0 {b}")?,
+        Err(e) => println!(rt; "{} {} 0", e.number(), e.place())?,
+    }
     Ok(())
 }
 
