@@ -1,4 +1,4 @@
--- What presence bits are held to (02, E7): every look-up and window answer is the same as from the list. Proved in proofs/AsList.antt.
+-- What presence bits are held to: every look-up and window answer is the same as from the list. Proved in proofs/AsList.antt.
 --     list_of k words        the list of these bits
 --     Forms k index words    the list and the bits are two forms of one index
 use Rattle.std.specs.Prelude.{◌≡◌, ℕ, List, false, length, get_or, ℤ}

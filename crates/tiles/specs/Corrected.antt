@@ -1,23 +1,20 @@
--- What corrections are held to (02, E1): proved in proofs/Corrected.antt and proofs/Setting.antt.
+-- What corrections are held to: proved in proofs/Corrections.antt and proofs/Setting.antt.
 --     SameAnswers ..         a pixel is answered alike by two indexes and two second lists
---     AsBase ..              a pixel has document 01's answers
+--     AsBase ..              a pixel has the base's answers alone
 --     PixelOf k t r c        (r, c) is a pixel of tile t
 --     Zero corrections       no tile is corrected
 --     OneSet before after t number    the two lists differ in entry t alone, which is `number` after
-use Rattle.std.specs.Prelude.{◌≡◌, ℕ, ◌+◌, ◌≤◌, List, [], true, false, length, get_or, ℤ, nat_abs}
+use Rattle.std.specs.Prelude.{◌≡◌, ℕ, ◌+◌, ◌≤◌, List, [], true, false, length, get_or, ℤ, nat_abs, Some, Ok, Err}
 use Rattle.whole.specs.Lists.{occurs}
 use Rattle.arc.specs.declared.Refusal.{Refusal}
-use Rattle.arc.specs.declared.Verdict.{Verdict}
 use Rattle.card.specs.declared.Card.{Card}
+use Rattle.arc.specs.declared.Verdict.{Verdict}
 use Rattle.card.specs.Grid.{in_tiles, verdict_of}
 use Rattle.tiles.specs.declared.Said.{Said}
-use Rattle.tiles.specs.declared.Source.{Source}
-use Rattle.tiles.specs.declared.SourceAnswer.{SourceAnswer}
-use Rattle.tiles.specs.declared.WindowAnswer.{WindowAnswer}
-use Rattle.tiles.specs.Index.{said_of, tile_of}
-use Rattle.tiles.specs.LookUp.{store_wrong, number_of, part_at, part_of, in_band, bands_at, bands_of, InPlace}
+use Rattle.tiles.specs.Index.{in_base, in_second, store_wrong, said_of, tile_of}
+use Rattle.tiles.specs.LookUp.{number_of, part_at, part_of, in_band, bands_at, bands_of, InPlace}
 use Rattle.tiles.specs.Window.{window_tiles, window_of}
-use Rattle.tiles.specs.Corrections.{list_wrong, corrections_wrong, sourced, source_of, either_part_of, either_bands_of, corrected_window_of, setting_of, set_of}
+use Rattle.tiles.specs.Corrections.{list_wrong, corrections_wrong, source_of, either_part_of, either_bands_of, corrected_window_of, setting_of, set_of}
 
 -- ---- look-up and window
 
@@ -38,13 +35,13 @@ StandbyAlike =
 abbrev pub Zero : List ℕ → Type 0
 Zero corrections = (t : ℕ) → get_or corrections t 0 ≡ 0
 
--- document 01's answers: the number, from the base store, the part and the values
+-- the base's answers alone: the number, from the base store, the part and the values
 pub record AsBase (k : Card) (index : List ℕ) (count : ℕ) (store corrections : List ℕ) (corrected : ℕ) (second : List ℕ) (r c : ℤ) : Type 0 where
-  pub number : source_of k index count store corrections corrected second r c ≡ sourced Source.Base (number_of k index count store r c)
+  pub number : source_of k index count store corrections corrected second r c ≡ number_of k index count store r c
   pub part : either_part_of k index count store corrections corrected second r c ≡ part_of k index count store r c
   pub values : either_bands_of k index count store corrections corrected second r c ≡ bands_of k index count store r c
 
--- past the new 6, an all-zero list gives document 01's answers
+-- past the new 6, an all-zero list gives the base's answers alone
 abbrev pub ZeroAsBase : Type 0
 ZeroAsBase =
     (k : Card) (index : List ℕ) (count : ℕ) (store corrections : List ℕ) (corrected : ℕ) (second : List ℕ) (r c : ℤ) → Zero corrections
@@ -78,15 +75,15 @@ EitherPartIs =
     (k : Card) (index : List ℕ) (count : ℕ) (store corrections : List ℕ) (corrected : ℕ) (second : List ℕ) (r c : ℤ)
     → let a = source_of k index count store corrections corrected second r c in
     let part = either_part_of k index count store corrections corrected second r c in
-    ((n : ℕ) → a ≡ SourceAnswer.Base n → InPlace count n part store)
-    × ((n : ℕ) → a ≡ SourceAnswer.Corrections n → InPlace corrected n part second)
-    × ((e : Refusal) → a ≡ SourceAnswer.Refused e → part ≡ [])
+    ((n : ℕ) → a ≡ Ok (in_base n) → InPlace count n part store)
+    × ((n : ℕ) → a ≡ Ok (in_second n) → InPlace corrected n part second)
+    × ((e : Refusal) → a ≡ Err e → part ≡ [])
 
 -- a corrected tile isn't missing: the tile that the window answers is not corrected, and not stored in the base
 abbrev pub MissingInBoth : Type 0
 MissingInBoth =
     (k : Card) (index : List ℕ) (count : ℕ) (corrections : List ℕ) (corrected top left height width t : ℕ)
-    → corrected_window_of k index count corrections corrected top left height width ≡ WindowAnswer.Missing t
+    → corrected_window_of k index count corrections corrected top left height width ≡ Ok (Some t)
     → (get_or corrections t 0 ≡ 0) × (said_of k index count t ≡ Said.Missing)
 
 -- ---- setting one entry
@@ -100,8 +97,8 @@ pub record OneSet (before after : List ℕ) (t number : ℕ) : Type 0 where
 abbrev pub SetsOne : Type 0
 SetsOne =
     (k : Card) (corrections : List ℕ) (corrected t number : ℕ)
-    → (setting_of k corrections corrected t number ≡ Verdict.Accepted → OneSet corrections (set_of k corrections corrected t number) t number)
-    × ((e : Refusal) → setting_of k corrections corrected t number ≡ Verdict.Refused e → set_of k corrections corrected t number ≡ corrections)
+    → (setting_of k corrections corrected t number ≡ Ok tt → OneSet corrections (set_of k corrections corrected t number) t number)
+    × ((e : Refusal) → setting_of k corrections corrected t number ≡ Err e → set_of k corrections corrected t number ≡ corrections)
 
 abbrev pub PixelOf : Card → ℕ → ℤ → ℤ → Type 0
 PixelOf k t r c = (in_tiles k r c ≡ true) × (tile_of k (nat_abs r) (nat_abs c) ≡ t)
@@ -120,14 +117,14 @@ OtherWindows =
     → corrected_window_of k index count (set_of k corrections corrected t number) corrected top left height width
     ≡ corrected_window_of k index count corrections corrected top left height width
 
--- past 6, 12 and 13, look-ups in it answer from the new entry: that tile of the corrections store, or document 01's answers where it is 0
+-- past 6, 12 and 13, look-ups in it answer from the new entry: that tile of the corrections store, or the base's answers alone where it is 0
 abbrev pub FromNewEntry : Type 0
 FromNewEntry =
     (k : Card) (index : List ℕ) (count : ℕ) (store corrections : List ℕ) (corrected : ℕ) (second : List ℕ) (t number : ℕ) (r c : ℤ)
-    → setting_of k corrections corrected t number ≡ Verdict.Accepted → store_wrong k index count store ≡ false
+    → setting_of k corrections corrected t number ≡ Ok tt → store_wrong k index count store ≡ false
     → corrections_wrong k corrections corrected second ≡ false → verdict_of k r c ≡ Verdict.Accepted → tile_of k (nat_abs r) (nat_abs c) ≡ t
     → let after = set_of k corrections corrected t number in
-    ((number ≡ 0 → ⊥) → (source_of k index count store after corrected second r c ≡ SourceAnswer.Corrections number)
+    ((number ≡ 0 → ⊥) → (source_of k index count store after corrected second r c ≡ Ok (in_second number))
     × (either_part_of k index count store after corrected second r c ≡ part_at number second)
-    × (either_bands_of k index count store after corrected second r c ≡ bands_at (part_at number second) (in_band r c)))
+    × (either_bands_of k index count store after corrected second r c ≡ Ok (bands_at (part_at number second) (in_band r c))))
     × (number ≡ 0 → AsBase k index count store after corrected second r c)

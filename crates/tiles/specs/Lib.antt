@@ -7,4 +7,6 @@ pub mod Corrected
 pub mod Bits
 pub mod AsList
 pub mod Steps
+pub mod Entries
+pub mod Laws
 pub mod Parts
