@@ -17,3 +17,5 @@ pub mod Apart
 pub mod Image
 pub mod Corrections
 pub mod Setting
+pub mod Orders
+pub mod Claims

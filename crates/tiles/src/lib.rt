@@ -15,6 +15,7 @@ mod bits;
 mod check;
 mod corrected;
 mod index;
+pub mod laws;
 mod list;
 mod parts;
 mod pixel;
