@@ -31,14 +31,14 @@ pub use pixel::{band_values, look_up, tile};
 pub use scan::first_missing;
 
 /// Which of the two stores holds a tile.
-#[derive(Clone, Copy)]
+#[derive(Clone, Copy, Debug, PartialEq, Eq, Hash)]
 pub enum Source {
     Base,
     Corrections,
 }
 
 /// A stored tile: the store that holds it, and its number there, from 1.
-#[derive(Clone, Copy)]
+#[derive(Clone, Copy, Debug, PartialEq, Eq, Hash)]
 pub struct Stored {
     pub source: Source,
     pub number: u64,
@@ -60,7 +60,7 @@ pub struct Stores<'a> {
 }
 
 /// The band values of a pixel.
-#[derive(Clone, Copy)]
+#[derive(Clone, Copy, Debug, PartialEq, Eq, Hash)]
 pub struct Bands {
     pub red: u8,
     pub green: u8,
@@ -68,7 +68,7 @@ pub struct Bands {
 }
 
 /// A window of tiles: its upper left tile's row and column in the image, from 0, and how many tiles it has down and across.
-#[derive(Clone, Copy)]
+#[derive(Clone, Copy, Debug, PartialEq, Eq, Hash)]
 pub struct Window {
     pub top: u64,
     pub left: u64,
