@@ -183,7 +183,9 @@ missing-in-both k index count corrections corrected top left height width t =
     says : ℕ → Said
     says = said_with corrections corrected (said_of k index count)
 
-    go : (a b x y : Bool) → unless_wrong a (unless_wrong b (Ok tt)) >>= (λ u. cond {A = Result (Option ℕ) Refusal} (x || y) (Err (refusal 12)) (scan says (window_tiles k top left height width))) ≡ Ok (Some t)
+    go : (a b x y : Bool) → unless_wrong a (unless_wrong b (Ok tt)) >>= (λ u.
+        cond {A = Result (Option ℕ) Refusal} (x || y) (Err (refusal 12)) (scan says (window_tiles k top left height width)))
+        ≡ Ok (Some t)
         → (get_or corrections t 0 ≡ 0) × (said_of k index count t ≡ Said.Missing)
     go true b x y e = let z : ◌≡◌ {A = ℕ} 0 1 = cc in absurd (omega arith)
     go false true x y e = let z : ◌≡◌ {A = ℕ} 0 1 = cc in absurd (omega arith)

@@ -29,7 +29,8 @@ module _ (k : Card) (top left height width : ℕ) (w : WindowRows k top left hei
     pub turn : (says glance : ℕ → Said) → IsGlance k glance says → (whole : Result (Option ℕ) Refusal)
         → whole ≡ scan says (up_from (start + c) (width - c) ++ window_tiles k (top + (r + 1)) left (height - (r + 1)) width)
         → (seen : Said) → seen ≡ glance (start + c) → (v : Said) → seen ≡ v
-        → whole ≡ scanned (start + c) v (scan says (up_from (start + (c + 1)) (width - (c + 1)) ++ window_tiles k (top + (r + 1)) left (height - (r + 1)) width))
+        → whole ≡ scanned (start + c) v
+        (scan says (up_from (start + (c + 1)) (width - (c + 1)) ++ window_tiles k (top + (r + 1)) left (height - (r + 1)) width))
     turn says glance law whole e seen s v o =
         let inside : start + c < tiles k = omega (arith, tile-inside (top + r) (left + c) k.nfl k.nfc (omega (arith, w.down)) (omega (arith, w.across))) in
         glanced says start c width _ i seen (ap kind s ∙ law (start + c) inside) v o whole e

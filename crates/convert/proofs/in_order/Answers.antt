@@ -9,7 +9,8 @@ use Rattle.convert.proofs.in_order.Goals.{then-entry-ne0+else-from-named, else-e
 pub returns-then-from-named : goal.returns-then-from-named
 returns-then-from-named c =
     let l = c.loop-entry in
-    sym (l.invariant.1 ∙ order-next l.named l.entry-index c.args.index.now c.loop-entry-test.true ∙ order-stop _ _ _ c.if-entry-ne0.true (λ z. c.if-from-named.true (c.from.ensures ∙ z)))
+    sym (l.invariant.1 ∙ order-next l.named l.entry-index c.args.index.now c.loop-entry-test.true
+    ∙ order-stop _ _ _ c.if-entry-ne0.true (λ z. c.if-from-named.true (c.from.ensures ∙ z)))
 
 pub loop-entry-preserved : goal.loop-entry-preserved
 loop-entry-preserved c =

@@ -29,11 +29,13 @@ returns-then-count-e-clause-left c =
 
 pub returns-then-marks-e-ne0-clause-answer : goal.returns-then-marks-e-ne0-clause-answer
 returns-then-marks-e-ne0-clause-answer c =
-    (stop-again _ _ _ _ _ _ c.loop-i.invariant c.loop-i-test.true _ (ap Err c.bad_entry-then-marks-e-ne0.ensures) c.if-count-e.false c.if-e-ne0.true c.if-marks-e-ne0.true).0
+    let stop = ap Err c.bad_entry-then-marks-e-ne0.ensures in
+    (stop-again _ _ _ _ _ _ c.loop-i.invariant c.loop-i-test.true _ stop c.if-count-e.false c.if-e-ne0.true c.if-marks-e-ne0.true).0
 
 pub returns-then-marks-e-ne0-clause-left : goal.returns-then-marks-e-ne0-clause-left
 returns-then-marks-e-ne0-clause-left c =
-    (stop-again _ _ _ _ _ _ c.loop-i.invariant c.loop-i-test.true _ (ap Err c.bad_entry-then-marks-e-ne0.ensures) c.if-count-e.false c.if-e-ne0.true c.if-marks-e-ne0.true).1
+    let stopped = ap Err c.bad_entry-then-marks-e-ne0.ensures in
+    (stop-again _ _ _ _ _ _ c.loop-i.invariant c.loop-i-test.true _ stopped c.if-count-e.false c.if-e-ne0.true c.if-marks-e-ne0.true).1
 
 pub returns-then-named-count-clause-answer : goal.returns-then-named-count-clause-answer
 returns-then-named-count-clause-answer c =

@@ -31,7 +31,8 @@ returns-in-Above g c =
     let says = (T.view a.index.now a.card).says in
     let law = subst (λ (e : ℕ). IsGlance a.card (T.glance a.index.now a.card e) says) (sym c.end-end.ensures) (g.met.I.TileIndex.glances a.index.now a.card) in
     let t = turn a.card w.top w.left w.height w.width c.requires c.rows.r c.rows-test.true c.loop-c.c c.loop-c-test.true says
-    (T.glance a.index.now a.card c.end-end.result) law _ c.loop-c.invariant.1 c.glance.result c.glance.ensures (Said.Above) c.in-Above.is in
+    (T.glance a.index.now a.card c.end-end.result) law _ c.loop-c.invariant.1 c.glance.result c.glance.ensures
+    (Said.Above) c.in-Above.is in
     ap Err c.bad_entry.ensures ∙ sym t
 
 pub loop-c-preserved : goal.loop-c-preserved
@@ -42,7 +43,8 @@ loop-c-preserved g c =
     let says = (T.view a.index.now a.card).says in
     let law = subst (λ (e : ℕ). IsGlance a.card (T.glance a.index.now a.card e) says) (sym c.end-end.ensures) (g.met.I.TileIndex.glances a.index.now a.card) in
     let t = turn a.card w.top w.left w.height w.width c.requires c.rows.r c.rows-test.true c.loop-c.c c.loop-c-test.true says
-    (T.glance a.index.now a.card c.end-end.result) law _ c.loop-c.invariant.1 c.glance.result c.glance.ensures (Said.Stored c.in-Stored.field-0) c.in-Stored.is in
+    (T.glance a.index.now a.card c.end-end.result) law _ c.loop-c.invariant.1 c.glance.result c.glance.ensures
+    (Said.Stored c.in-Stored.field-0) c.in-Stored.is in
     (c.loop-c.invariant.0, t)
 
 pub returns-in-Missing : goal.returns-in-Missing
@@ -53,5 +55,6 @@ returns-in-Missing g c =
     let says = (T.view a.index.now a.card).says in
     let law = subst (λ (e : ℕ). IsGlance a.card (T.glance a.index.now a.card e) says) (sym c.end-end.ensures) (g.met.I.TileIndex.glances a.index.now a.card) in
     let t = turn a.card w.top w.left w.height w.width c.requires c.rows.r c.rows-test.true c.loop-c.c c.loop-c-test.true says
-    (T.glance a.index.now a.card c.end-end.result) law _ c.loop-c.invariant.1 c.glance.result c.glance.ensures (Said.Missing) c.in-Missing.is in
+    (T.glance a.index.now a.card c.end-end.result) law _ c.loop-c.invariant.1 c.glance.result c.glance.ensures
+    (Said.Missing) c.in-Missing.is in
     sym t
