@@ -7,9 +7,9 @@ use native.Mathlib.Nat.{mul-le-mul_left, mul-one}
 use native.Mathlib.Omega.{arith}
 use borrow.Author.Tests.{leb-true, ltb-false, le-leb, lt-leb, le-ltb, lt-ltb}
 use lib.Dec.{leb, ltb}
-use Rattle.arc.specs.declared.ScaleAnswer.{ScaleAnswer}
-use Rattle.arc.specs.Refusals.{refusal}
-use Rattle.arc.specs.Scales.{is_scale, is_factor, overview_scale, chart_scale, ScaleRefused, FactorRefused, ProductRefused, ProductServed}
+use Rattle.std.specs.Prelude.{Ok, Err}
+use Rattle.arc.specs.declared.refusal.Refusal.{Refusal}
+use Rattle.arc.specs.Scales.{is_scale, is_factor, Served, overview_scale, chart_scale, ScaleRefused, FactorRefused, ProductRefused, ProductServed}
 use Rattle.arc.specs.Scales.{OverviewOf, ScaleIs, ScaleAtOne}
 
 -- the tests' ends
@@ -66,8 +66,8 @@ pub scale-is : ScaleIs
 scale-is s factor t e = go (is_scale s) (is_factor factor) (ltb 20000000 (s * factor)) refl refl refl e
   where
     go : (x y z : Bool) → is_scale s ≡ x → is_factor factor ≡ y → ltb 20000000 (s * factor) ≡ z
-        → cond (not x) (ScaleAnswer.Refused (refusal 1)) (cond (not y) (ScaleAnswer.Refused (refusal 17))
-        (cond z (ScaleAnswer.Refused (refusal 1)) (ScaleAnswer.Scale (s * factor)))) ≡ ScaleAnswer.Scale t
+        → cond (not x) (Err Refusal.Scale) (cond (not y) (Err Refusal.Factor)
+        (cond z (Err Refusal.Scale) (Ok (s * factor)))) ≡ Ok t
         → OverviewOf s factor t
     go true true false p q r f =
         let g : t ≡ s * factor = cc in
@@ -84,3 +84,14 @@ scale-at-one s = go (is_scale s) refl
     go : (x : Bool) → is_scale s ≡ x → overview_scale s 1 ≡ chart_scale s
     go true p = rw (p, mul-one s, le-ltb 20000000 s (scale-most s p)) refl
     go false p = rw p refl
+
+-- ---- what `Scale::of_overview` makes
+pub served-is : (s : ℕ) → Served s → is_scale s ≡ true
+served-is s h = scale-inside s h.least h.most
+
+pub served-product : (s factor : ℕ) → is_scale s ≡ true → is_factor factor ≡ true → s * factor ≤ 20000000 → Served (s * factor)
+served-product s factor g h m = record { least = product-least s factor g h; most = m }
+
+pub ruleset products = (product-most, served-product)
+
+pub ruleset claims = (scale-refused, factor-refused, product-refused, product-served, scale-is, scale-at-one)

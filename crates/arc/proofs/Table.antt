@@ -1,11 +1,11 @@
--- The table by a row's place in it, 0 to 8: each column of the table is one equation that computes, and so is the most that a cell has; and a zone number
--- against the two zones of a row. Assumes nothing.
+-- The table by a row's place in it, 0 to 8: each column of the table is one equation that computes; and a zone number against the two zones
+-- of a row. Assumes nothing.
 use mathlib.Core.Path.{◌≡◌, refl, sym, ap, ◌∙◌}
-use mathlib.Core.Bool.{Bool, true, false, cond, ◌&&◌, ◌||◌, and-eq-true_iff, false≢true}
+use mathlib.Core.Bool.{Bool, true, false, cond, ◌||◌, false≢true}
 use mathlib.Core.List.{List, [], ◌∷◌, map}
 use mathlib.Core.Logic.{◌⊎◌, inl, inr, ⊎_elim}
-use mathlib.Core.Option.{some}
-use Prim.Native.Nat.{ℕ, zero, suc, ◌+◌, ◌≤◌, ◌<◌}
+use Rattle.std.specs.Prelude.{Some}
+use Prim.Native.Nat.{ℕ, suc, ◌+◌, ◌≤◌, ◌<◌}
 use native.Mathlib.Nat.{zero-add}
 use native.Mathlib.Omega.{arith}
 use borrow.Author.Tests.{leb-true, ltb-true, eqb-true, ne_eqb}
@@ -13,8 +13,8 @@ use lib.Dec.{leb, ltb, eqb}
 use lib.ListN.{length, get_or, get_or-eq_default}
 use Rattle.whole.specs.Lists.{up_from}
 use Rattle.whole.proofs.Lists.{agree, up_from-at}
-use Rattle.arc.specs.Zones.{quarter, Row, table, has_zone, row_in, table_row, is_polar, from, to, row_at, no_row}
-use Rattle.arc.specs.Steps.{cells, cell_at}
+use Rattle.arc.specs.Zones.{quarter, table, has_zone, row_in, table_row, is_polar, row_at, no_row}
+use Rattle.arc.specs.declared.zone_table.Row.{Row}
 
 module _ (i : ℕ) (h : i < 9) where
   -- a column of the table as a function of the row's place
@@ -27,44 +27,44 @@ module _ (i : ℕ) (h : i < 9) where
   pub southern-at : (row_at i).southern ≡ 10 + i
   southern-at = column (λ (r : Row). r.southern) (λ (n : ℕ). n) 10 refl
 
-  pub row-north : table_row (1 + i) ≡ some (row_at i)
-  row-north = sym (column some table_row 1 refl)
+  pub row-north : table_row (1 + i) ≡ Some (row_at i)
+  row-north = sym (column Some table_row 1 refl)
 
-  pub row-south : table_row (10 + i) ≡ some (row_at i)
-  row-south = sym (column some table_row 10 refl)
+  pub row-south : table_row (10 + i) ≡ Some (row_at i)
+  row-south = sym (column Some table_row 10 refl)
 
   pub polar-at : is_polar (row_at i).northern ≡ eqb i 8
   polar-at = column (λ (r : Row). is_polar r.northern) (λ (n : ℕ). eqb n 8) 0 refl ∙ ap (λ (n : ℕ). eqb n 8) (zero-add i)
 
-  pub last-at : eqb (row_at i).poleward 90 ≡ eqb i 8
-  last-at = column (λ (r : Row). eqb r.poleward 90) (λ (n : ℕ). eqb n 8) 0 refl ∙ ap (λ (n : ℕ). eqb n 8) (zero-add i)
+  pub last-at : eqb (row_at i).poleward quarter ≡ eqb i 8
+  last-at = column (λ (r : Row). eqb r.poleward quarter) (λ (n : ℕ). eqb n 8) 0 refl ∙ ap (λ (n : ℕ). eqb n 8) (zero-add i)
 
-  pub from-to : from (row_at i) < to (row_at i)
-  from-to = ltb-true (from (row_at i)) (to (row_at i)) (column (λ (r : Row). ltb (from r) (to r)) (λ (n : ℕ). true) 0 refl)
+  pub from-to : (row_at i).equatorward < (row_at i).poleward
+  from-to = ltb-true (row_at i).equatorward (row_at i).poleward (column (λ (r : Row). ltb r.equatorward r.poleward) (λ (n : ℕ). true) 0 refl)
 
-  pub to-most : to (row_at i) ≤ quarter
-  to-most = leb-true (to (row_at i)) quarter (column (λ (r : Row). leb (to r) quarter) (λ (n : ℕ). true) 0 refl)
+  pub to-most : (row_at i).poleward ≤ quarter
+  to-most = leb-true (row_at i).poleward quarter (column (λ (r : Row). leb r.poleward quarter) (λ (n : ℕ). true) 0 refl)
 
   -- a zone of the row, on either side of the Equator
-  pub zone-row : (zone : ℕ) → (zone ≡ 1 + i) ⊎ (zone ≡ 10 + i) → table_row zone ≡ some (row_at i)
+  pub zone-row : (zone : ℕ) → (zone ≡ 1 + i) ⊎ (zone ≡ 10 + i) → table_row zone ≡ Some (row_at i)
   zone-row zone w = ⊎_elim (λ e. ap table_row e ∙ row-north) (λ e. ap table_row e ∙ row-south) w
 
 -- a row that is found stands at some place
-pub found_at : (rs : List Row) (zone : ℕ) (r : Row) → row_in rs zone ≡ some r → (j : ℕ) × (j < length rs) × (get_or rs j no_row ≡ r)
+pub found_at : (rs : List Row) (zone : ℕ) (r : Row) → row_in rs zone ≡ Some r → (j : ℕ) × (j < length rs) × (get_or rs j no_row ≡ r)
 found_at [] zone r e = let z : ◌≡◌ {A = ℕ} 0 1 = cc in absurd (omega arith)
 found_at (q ∷ rs) zone r e = go (has_zone q zone) e (λ k. found_at rs zone r k)
   where
-    go : (t : Bool) → cond t (some q) (row_in rs zone) ≡ some r → (row_in rs zone ≡ some r → (j : ℕ) × (j < length rs) × (get_or rs j no_row ≡ r))
+    go : (t : Bool) → cond t (Some q) (row_in rs zone) ≡ Some r → (row_in rs zone ≡ Some r → (j : ℕ) × (j < length rs) × (get_or rs j no_row ≡ r))
         → (j : ℕ) × (j < length (q ∷ rs)) × (get_or (q ∷ rs) j no_row ≡ r)
     go true p k = (0, omega arith, cc)
     go false p k = let w = k p in (suc w.0, omega (arith, w.1), w.2)
 
 -- a row that is found has the zone
-found-has : (rs : List Row) (zone : ℕ) (r : Row) → row_in rs zone ≡ some r → has_zone r zone ≡ true
+found-has : (rs : List Row) (zone : ℕ) (r : Row) → row_in rs zone ≡ Some r → has_zone r zone ≡ true
 found-has [] zone r e = let z : ◌≡◌ {A = ℕ} 0 1 = cc in absurd (omega arith)
 found-has (q ∷ rs) zone r e = go (has_zone q zone) refl e (λ k. found-has rs zone r k)
   where
-    go : (t : Bool) → has_zone q zone ≡ t → cond t (some q) (row_in rs zone) ≡ some r → (row_in rs zone ≡ some r → has_zone r zone ≡ true)
+    go : (t : Bool) → has_zone q zone ≡ t → cond t (Some q) (row_in rs zone) ≡ Some r → (row_in rs zone ≡ Some r → has_zone r zone ≡ true)
         → has_zone r zone ≡ true
     go true k p f = let g : q ≡ r = cc in rw g at k
     go false k p f = f p
@@ -76,7 +76,7 @@ pub record ZoneAt (zone : ℕ) (r : Row) : Type 0 where
   pub is_row : row_at at ≡ r
   pub is-zone : (zone ≡ 1 + at) ⊎ (zone ≡ 10 + at)
 
-pub zone-at : (zone : ℕ) (r : Row) → table_row zone ≡ some r → ZoneAt zone r
+pub zone-at : (zone : ℕ) (r : Row) → table_row zone ≡ Some r → ZoneAt zone r
 zone-at zone r e =
     let w = found_at table zone r e in
     record {
@@ -98,18 +98,3 @@ neither n s zone f = rw (ne_eqb zone n (λ e. f (inl e)), ne_eqb zone s (λ e. f
 -- no row past the last
 pub past-last : (i : ℕ) → 9 ≤ i → row_at i ≡ no_row
 past-last i h = get_or-eq_default table no_row h
-
--- no cell is above 782
-small : List ℕ → Bool
-small [] = true
-small (x ∷ l) = leb x 782 && small l
-
-small_at : (l : List ℕ) → small l ≡ true → (k : ℕ) → get_or l k 0 ≤ 782
-unfolding small
-small_at [] e k = omega arith
-small_at (x ∷ l) e zero = leb-true x 782 ((and-eq-true_iff (leb x 782) (small l)).0 e).0
-small_at (x ∷ l) e (suc k) = small_at l ((and-eq-true_iff (leb x 782) (small l)).0 e).1 k
-
-pub cell-most : (i : ℕ) → i < 9 → (k : ℕ) → cell_at i k ≤ 782
-unfolding small
-cell-most i h = small_at (cells (row_at i)) (column i h (λ (r : Row). small (cells r)) (λ (n : ℕ). true) 0 refl)

@@ -1,27 +1,58 @@
--- What a refusal carries, and what the paper has of any answer (01, "Numbers given in refusal"). Definitions only.
---     refusal n          the refusal of number n, its place 0
---     refusal_at n p     the refusal of number n at the place p
---     refusal_of v       what `Verdict::refusal` answers: number and place 0 where accepted
+-- What a refusal is called where numbers are handed out, and what is handed out of any answer. Definitions, and what they are held to.
+--     number_of r        the refusal's number
+--     place_of r         the subfield or the entry that is refused, and else 0
+--     number_in v        the number of a verdict's refusal, 0 where accepted
+--     place_in v         its place, 0 where accepted
+--     on_verdict v f x   f of the refusal, else x
 --     answered vs        a report that refuses nothing, with the value parts vs
 --     refused_with r k   the report of a refusal, its k value parts 0
 --     report_in v n l    the report of a verdict with a length and slots
---     on_verdict v f x   f of the refusal, else x
-use Rattle.std.specs.Prelude.{ℕ, List, ◌∷◌, map, replicate, ℤ, pos}
-use Rattle.arc.specs.declared.Refusal.{Refusal}
-use Rattle.arc.specs.declared.Verdict.{Verdict}
+use Rattle.std.specs.Prelude.{◌≡◌, ◌≢◌, ℕ, List, ◌∷◌, map, replicate, ℤ, pos}
+use Rattle.arc.specs.declared.refusal.Refusal.{Refusal}
+use Rattle.arc.specs.declared.refusal.Verdict.{Verdict}
 
--- the place is 0 save for 7, 8 and 15
-abbrev pub refusal : ℕ → Refusal
-refusal n = record { number = n; at = 0 }
+abbrev pub number_of : Refusal → ℕ
+number_of Refusal.Scale = 1
+number_of Refusal.Zone = 2
+number_of Refusal.Polar = 3
+number_of Refusal.Latitude = 4
+number_of Refusal.Longitude = 5
+number_of Refusal.Length = 6
+number_of (Refusal.Kind at) = 7
+number_of (Refusal.Value at) = 8
+number_of Refusal.Spacing = 9
+number_of Refusal.Origin = 10
+number_of Refusal.Extent = 11
+number_of Refusal.OutsideTiles = 12
+number_of Refusal.Padding = 13
+number_of Refusal.NotStored = 14
+number_of (Refusal.Entry at) = 15
+number_of Refusal.CrossedEdges = 16
+number_of Refusal.Factor = 17
+number_of Refusal.ReadingOrder = 20
+number_of Refusal.StrayBit = 21
+number_of Refusal.TownScale = 24
 
-abbrev pub refusal_at : ℕ → ℕ → Refusal
-refusal_at n p = record { number = n; at = p }
+abbrev pub place_of : Refusal → ℕ
+place_of (Refusal.Kind at) = at
+place_of (Refusal.Value at) = at
+place_of (Refusal.Entry at) = at
+place_of _ = 0
 
-abbrev pub refusal_of : Verdict → Refusal
-refusal_of Verdict.Accepted = refusal 0
-refusal_of (Verdict.Refused r) = r
+abbrev pub number_in : Verdict → ℕ
+number_in Verdict.Accepted = 0
+number_in (Verdict.Refused r) = number_of r
 
--- number given in refusal (0 where none is), place and value parts
+abbrev pub place_in : Verdict → ℕ
+place_in Verdict.Accepted = 0
+place_in (Verdict.Refused r) = place_of r
+
+-- what was refused before comes first
+abbrev pub on_verdict : {A : Type 0} → Verdict → (Refusal → A) → A → A
+on_verdict Verdict.Accepted f x = x
+on_verdict (Verdict.Refused r) f x = f r
+
+-- number of the refusal (0 where there is none), place and value parts
 pub record Report : Type 0 where
   pub number : ℕ
   pub place : ℕ
@@ -32,13 +63,18 @@ answered vs = record { number = 0; place = 0; values = vs }
 
 -- value parts are 0 in a refusal
 abbrev pub refused_with : Refusal → ℕ → Report
-refused_with r k = record { number = r.number; place = r.at; values = replicate k (pos 0) }
+refused_with r k = record { number = number_of r; place = place_of r; values = replicate k (pos 0) }
 
 -- a length and the slots are the values
 abbrev pub report_in : Verdict → ℕ → List ℕ → Report
-report_in v n l = record { number = (refusal_of v).number; place = (refusal_of v).at; values = map pos (n ∷ l) }
+report_in v n l = record { number = number_in v; place = place_in v; values = map pos (n ∷ l) }
 
--- what was refused before comes first
-abbrev pub on_verdict : {A : Type 0} → Verdict → (Refusal → A) → A → A
-on_verdict Verdict.Accepted f x = x
-on_verdict (Verdict.Refused r) f x = f r
+-- ---- what the numbers are held to: proved in proofs/Refused.antt
+
+-- no refusal looks like an answer
+abbrev pub NeverZero : Type 0
+NeverZero = (r : Refusal) → number_of r ≢ 0
+
+-- number and place tell one refusal from every other
+abbrev pub TellsApart : Type 0
+TellsApart = (r s : Refusal) → number_of r ≡ number_of s → place_of r ≡ place_of s → r ≡ s

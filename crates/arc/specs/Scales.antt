@@ -1,16 +1,14 @@
--- The scale that a spacing is read from (01, "Units and the zone table"; 02, E4, which calls the factor k). Definitions, and what they are held to.
---     Series                   what is stated beside a card: scale S, factor and zone
+-- The scale that a spacing is read from, of a chart or of an overview. Definitions, and what they are held to.
+--     Series                   what is stated beside a card: scale S, factor k and zone
 --     is_scale S               5,000 to 20,000,000
 --     is_factor factor         1 to 64
---     overview_scale S factor  S × k, or refusals 1, 17, 1
---     chart_scale S            S, or refusal 1: document 01, which has no factor
+--     Served S                 is_scale, as a fact
+--     overview_scale S factor  S × k, or the refusals Scale, Factor, Scale
+--     chart_scale S            S, or the refusal Scale: a chart has no factor
 --     chart_series S zone      scale and zone with the factor 1
---     on_scale x f g           f of the refusal, else g of the scale
-use Rattle.std.specs.Prelude.{◌≡◌, Bool, true, cond, not, ◌&&◌, ◌⊎◌, ℕ, ◌*◌, ◌≤◌, ◌<◌, leb, ltb}
-use Rattle.arc.specs.declared.Refusal.{Refusal}
-use Rattle.arc.specs.declared.ScaleAnswer.{ScaleAnswer}
-use Rattle.arc.specs.declared.Series.{Series}
-use Rattle.arc.specs.Refusals.{refusal}
+use Rattle.std.specs.Prelude.{◌≡◌, Bool, true, if◌then◌else◌, not, ◌&&◌, ◌⊎◌, ℕ, ◌*◌, ◌≤◌, ◌<◌, leb, ltb, Result, Ok, Err}
+use Rattle.arc.specs.declared.refusal.Refusal.{Refusal}
+use Rattle.arc.specs.declared.series.Series.{Series}
 
 abbrev pub is_scale : ℕ → Bool
 is_scale s = leb 5000 s && leb s 20000000
@@ -18,49 +16,47 @@ is_scale s = leb 5000 s && leb s 20000000
 abbrev pub is_factor : ℕ → Bool
 is_factor factor = leb 1 factor && leb factor 64
 
--- 1; 17 for k outside 1..64, right after 1; then 1 again if S × k exceeds 20,000,000
-abbrev pub overview_scale : ℕ → ℕ → ScaleAnswer
+pub record Served (s : ℕ) : Type 0 where
+  pub least : 5000 ≤ s
+  pub most : s ≤ 20000000
+
+-- the scale is judged first, then the factor, then their product
+abbrev pub overview_scale : ℕ → ℕ → Result ℕ Refusal
 overview_scale s factor =
-    cond (not (is_scale s)) (ScaleAnswer.Refused (refusal 1))
-    (cond (not (is_factor factor)) (ScaleAnswer.Refused (refusal 17))
-    (cond (ltb 20000000 (s * factor)) (ScaleAnswer.Refused (refusal 1))
-    (ScaleAnswer.Scale (s * factor))))
+    if not (is_scale s) then Err Refusal.Scale
+    else (if not (is_factor factor) then Err Refusal.Factor
+    else (if ltb 20000000 (s * factor) then Err Refusal.Scale
+    else Ok (s * factor)))
 
--- document 01's own: 1
-abbrev pub chart_scale : ℕ → ScaleAnswer
-chart_scale s = cond (not (is_scale s)) (ScaleAnswer.Refused (refusal 1)) (ScaleAnswer.Scale s)
+abbrev pub chart_scale : ℕ → Result ℕ Refusal
+chart_scale s = if not (is_scale s) then Err Refusal.Scale else Ok s
 
--- k = 1 is document 01 as it stands
+-- k = 1 is a chart
 abbrev pub chart_series : ℕ → ℕ → Series
 chart_series s zone = record { scale = s; factor = 1; zone = zone }
 
--- what was refused before comes first
-abbrev pub on_scale : {A : Type 0} → ScaleAnswer → (Refusal → A) → (ℕ → A) → A
-on_scale (ScaleAnswer.Scale t) f g = g t
-on_scale (ScaleAnswer.Refused r) f g = f r
-
 -- ---- what it is held to, one claim for each stretch of scales and factors: proved in proofs/ScaleLaws.antt
 
--- S outside its range: 1, whatever the factor
+-- S outside its range, whatever the factor
 abbrev pub ScaleRefused : Type 0
-ScaleRefused = (s factor : ℕ) → (s < 5000) ⊎ (20000000 < s) → overview_scale s factor ≡ ScaleAnswer.Refused (refusal 1)
+ScaleRefused = (s factor : ℕ) → (s < 5000) ⊎ (20000000 < s) → overview_scale s factor ≡ Err Refusal.Scale
 
--- k outside its range: 17
+-- k outside its range
 abbrev pub FactorRefused : Type 0
 FactorRefused =
-    (s factor : ℕ) → 5000 ≤ s → s ≤ 20000000 → (factor < 1) ⊎ (64 < factor) → overview_scale s factor ≡ ScaleAnswer.Refused (refusal 17)
+    (s factor : ℕ) → 5000 ≤ s → s ≤ 20000000 → (factor < 1) ⊎ (64 < factor) → overview_scale s factor ≡ Err Refusal.Factor
 
--- S × k above 20,000,000: 1 again
+-- S × k above 20,000,000: the scale again
 abbrev pub ProductRefused : Type 0
 ProductRefused =
     (s factor : ℕ) → 5000 ≤ s → s ≤ 20000000 → 1 ≤ factor → factor ≤ 64 → 20000000 < s * factor
-    → overview_scale s factor ≡ ScaleAnswer.Refused (refusal 1)
+    → overview_scale s factor ≡ Err Refusal.Scale
 
 -- every other pair: S × k
 abbrev pub ProductServed : Type 0
-ProductServed = (s factor : ℕ) → 5000 ≤ s → 1 ≤ factor → factor ≤ 64 → s * factor ≤ 20000000 → overview_scale s factor ≡ ScaleAnswer.Scale (s * factor)
+ProductServed = (s factor : ℕ) → 5000 ≤ s → 1 ≤ factor → factor ≤ 64 → s * factor ≤ 20000000 → overview_scale s factor ≡ Ok (s * factor)
 
--- what is answered is S × k, of a scale and a factor, and is a scale of 01 itself
+-- what is answered is S × k, of a scale and a factor, and is a scale itself
 pub record OverviewOf (s factor t : ℕ) : Type 0 where
   pub good_scale : is_scale s ≡ true
   pub good_factor : is_factor factor ≡ true
@@ -68,7 +64,7 @@ pub record OverviewOf (s factor t : ℕ) : Type 0 where
   pub served : is_scale t ≡ true
 
 abbrev pub ScaleIs : Type 0
-ScaleIs = (s factor t : ℕ) → overview_scale s factor ≡ ScaleAnswer.Scale t → OverviewOf s factor t
+ScaleIs = (s factor t : ℕ) → overview_scale s factor ≡ Ok t → OverviewOf s factor t
 
 -- S × 1 is S
 abbrev pub ScaleAtOne : Type 0

@@ -1,18 +1,17 @@
--- The zone table (01, "Units and the zone table"; 001, Tables 3-1 and 3-5). Definitions only.
+-- The zone table (DIGEST, "The ARC System", Tables 3-1 and 3-5). Definitions only.
 --     circle             H, the circle, in hundredths of an arc-second
 --     half, quarter      180° and 90°, the limits of a longitude and a latitude
 --     degree             a degree
 --     tile               128 pixels, the side of a tile
---     Row                a row of the table: its two zones, its limits in degrees, and A / 512 at 1:1,000,000
+--     row n s e p u      a row of the table: its two zones, its limits, given in degrees, and A / 512 at 1:1,000,000
 --     table              the rows
 --     table_row zone     the row of a zone, none where the number is no zone's
 --     is_polar zone      zone 9 or 18
---     from r, to r       a row's equatorward and poleward limit, in hundredths of an arc-second
 --     row_at i           the row at place i, 0 to 8
-use Rattle.std.specs.Prelude.{ℕ, ◌*◌, Bool, cond, ◌||◌, List, [], ◌∷◌, eqb, get_or}
-use Rattle.std.proofs.Math.Option.{Option, some, none}
+use Rattle.std.specs.Prelude.{ℕ, ◌*◌, Bool, if◌then◌else◌, ◌||◌, List, [], ◌∷◌, eqb, get_or, Option, Some, None}
+use Rattle.arc.specs.declared.zone_table.Row.{Row}
 
--- H (001 has 360°)
+-- H: 360°
 abbrev pub circle : ℕ
 circle = 129600000
 
@@ -28,17 +27,10 @@ degree = 360000
 abbrev pub tile : ℕ
 tile = 128
 
-pub record Row : Type 0 where
-  pub northern : ℕ
-  pub southern : ℕ
-  pub equatorward : ℕ
-  pub poleward : ℕ
-  pub unit : ℕ
-
 abbrev pub row : ℕ → ℕ → ℕ → ℕ → ℕ → Row
-row n s e p u = record { northern = n; southern = s; equatorward = e; poleward = p; unit = u }
+row n s e p u = record { northern = n; southern = s; equatorward = e * degree; poleward = p * degree; unit = u }
 
--- | Zones | Degrees | A / 512 |
+-- zones, degrees, A / 512
 abbrev pub table : List Row
 table =
     row 1 10 0 32 722 ∷
@@ -56,20 +48,14 @@ abbrev pub has_zone : Row → ℕ → Bool
 has_zone r zone = eqb zone r.northern || eqb zone r.southern
 
 abbrev pub row_in : List Row → ℕ → Option Row
-row_in [] zone = none
-row_in (r ∷ rs) zone = cond (has_zone r zone) (some r) (row_in rs zone)
+row_in [] zone = None
+row_in (r ∷ rs) zone = if has_zone r zone then Some r else row_in rs zone
 
 abbrev pub table_row : ℕ → Option Row
 table_row zone = row_in table zone
 
 abbrev pub is_polar : ℕ → Bool
 is_polar zone = eqb zone 9 || eqb zone 18
-
-abbrev pub from : Row → ℕ
-from r = r.equatorward * degree
-
-abbrev pub to : Row → ℕ
-to r = r.poleward * degree
 
 -- no row stands past the last
 abbrev pub no_row : Row

@@ -1,7 +1,12 @@
 -- Cards that answer alike. The corners of one's tiles and chart are in the other's, so the extents are the same. And cards whose upper
 -- left pixels have one place have one place for every pixel, so one position, and they find one column. Assumes nothing.
+use Rattle.std.specs.Prelude.{if◌then◌else◌, Ok, Err}
+use Rattle.card_text.specs.Layout.{Judged}
+use Rattle.card.proofs.Same.{same-place}
+use Rattle.arc.specs.declared.refusal.Refusal.{Refusal}
+use Rattle.card.specs.Grid.{at_place}
 use mathlib.Core.Path.{◌≡◌, refl, sym, ap, ap₂, ◌∙◌}
-use mathlib.Core.Bool.{Bool, true, false, cond, ◌&&◌, and-eq-true_iff}
+use mathlib.Core.Bool.{Bool, true, false, not, ◌&&◌, and-eq-true_iff}
 use Prim.Native.Nat.{ℕ, ◌+◌, ◌-◌, ◌*◌, ◌/◌, ◌%◌, ◌≤◌, ◌<◌}
 use native.Mathlib.Nat.{add-mul-mod_self_right}
 use native.Mathlib.Omega.{arith}
@@ -10,20 +15,17 @@ use lib.Dec.{leb}
 use lib.IntN.{ℤ, pos, ◌+ℤ◌, ◌-ℤ◌, ◌*ℤ◌}
 use Rattle.whole.specs.Whole.{floor_div, nearest, modulo, outside, raise}
 use Rattle.whole.proofs.Signed.{Is, is-equal, equal_is, is-raise}
-use Rattle.arc.specs.declared.Series.{Series}
-use Rattle.arc.specs.declared.Verdict.{Verdict}
-use Rattle.arc.specs.Refusals.{refusal}
+use Rattle.arc.specs.declared.series.Series.{Series}
 use Rattle.arc.specs.Zones.{circle, half}
-use Rattle.card.specs.declared.Card.{Card}
+use Rattle.card_text.specs.declared.Fields.{Fields}
 use Rattle.card.specs.declared.Pair.{Pair}
-use Rattle.card.specs.declared.Extents.{Extents}
-use Rattle.card.specs.declared.PlaceAnswer.{PlaceAnswer}
-use Rattle.card.specs.Read.{Accepted}
+use Rattle.card_text.specs.declared.Extents.{Extents}
+use Rattle.card_text.specs.Read.{Accepted}
 use Rattle.card.specs.Grid.{place_row, place_column, in_tiles, in_chart, extents_of, row_value, row_of, column_of, verdict_of, place_of, position_of, pixel_of}
 use Rattle.card.specs.Steps.{inward}
 use Rattle.card.specs.Copies.{Alike, AnswerAlike, AlikeExactly}
-use Rattle.card.proofs.Walked.{between}
-use Rattle.card.proofs.Laid.{Laid, accepted-laid, same-spacing}
+use Rattle.card_text.proofs.Walked.{between}
+use Rattle.card_text.proofs.Laid.{Laid, accepted-laid, same-spacing}
 use Rattle.card.proofs.Axes.{east-high, row_is, column-place, column-at}
 use Rattle.card.proofs.Regions.{tiles-inside, chart-tiles}
 use Rattle.card.proofs.Chain.{mod-add}
@@ -31,23 +33,23 @@ use Rattle.card.proofs.Copies.{placed, place-alike}
 
 -- ---- the extents of cards that answer alike
 
-module _ (pair : Pair) (j k : Card) (l : Laid j) (h : Alike pair j k) where
+module _ (pair : Pair) (j k : Fields) (l : Laid j) (h : Alike pair j k) where
   tiles-kept : (r c : ℤ) → in_tiles j r c ≡ true → in_tiles k r c ≡ true
   unfolding place_of
   tiles-kept r c t = go (in_tiles k r c) (sym (placed j r c t) ∙ h.place r c)
     where
-      go : (b : Bool) → PlaceAnswer.At (place_row j r) (place_column j c)
-          ≡ cond b (PlaceAnswer.At (place_row k r) (place_column k c)) (PlaceAnswer.Refused (refusal 12)) → b ≡ true
+      go : (b : Bool) → at_place (place_row j r) (place_column j c)
+          ≡ (if not b then Err Refusal.OutsideTiles else at_place (place_row k r) (place_column k c)) → b ≡ true
       go true e = refl
       go false e = let x : ◌≡◌ {A = ℕ} 0 1 = cc in absurd (omega arith)
 
   chart-kept : (r c : ℤ) → in_chart j r c ≡ true → in_chart k r c ≡ true
   chart-kept r c t = go (in_tiles k r c) (in_chart k r c) (sym accepts ∙ h.verdict r c)
     where
-      accepts : verdict_of j r c ≡ Verdict.Accepted
+      accepts : verdict_of j r c ≡ Ok tt
       accepts = rw (chart-tiles j r c l t, t)
 
-      go : (a b : Bool) → Verdict.Accepted ≡ cond a (cond b Verdict.Accepted (Verdict.Refused (refusal 13))) (Verdict.Refused (refusal 12)) → b ≡ true
+      go : (a b : Bool) → ◌≡◌ {A = Judged} (Ok tt) (if not a then Err Refusal.OutsideTiles else (if not b then Err Refusal.Padding else Ok tt)) → b ≡ true
       go true true e = refl
       go true false e = let x : ◌≡◌ {A = ℕ} 0 1 = cc in absurd (omega arith)
       go false b e = let x : ◌≡◌ {A = ℕ} 0 1 = cc in absurd (omega arith)
@@ -72,7 +74,7 @@ module _ (pair : Pair) (j k : Card) (l : Laid j) (h : Alike pair j k) where
       (omega (arith, x.row.below), omega (arith, x.column.below))
 
 -- as far as the upper left, lower right and last pixels tell
-record Covers (j k : Card) : Type 0 where
+record Covers (j k : Fields) : Type 0 where
   pub top : k.nul ≤ j.nul
   pub left : k.nls ≤ j.nls
   pub bottom : j.nll ≤ k.nll
@@ -80,7 +82,7 @@ record Covers (j k : Card) : Type 0 where
   pub down : j.nfl ≤ k.nfl
   pub across : j.nfc ≤ k.nfc
 
-covers : (pair : Pair) (j k : Card) → Laid j → Alike pair j k → Covers j k
+covers : (pair : Pair) (j k : Fields) → Laid j → Alike pair j k → Covers j k
 covers pair j k l h =
     let x = chart-fits pair j k l h j.nul j.nls (omega arith) l.top-down (omega arith) l.left-right in
     let y = chart-fits pair j k l h j.nll j.nus l.top-down (omega arith) l.left-right (omega arith) in
@@ -94,7 +96,7 @@ covers pair j k l h =
       across = omega (arith, z.1);
     }
 
-extents-alike : (pair : Pair) (j k : Card) → Laid j → Laid k → Alike pair j k → extents_of j ≡ extents_of k
+extents-alike : (pair : Pair) (j k : Fields) → Laid j → Laid k → Alike pair j k → extents_of j ≡ extents_of k
 extents-alike pair j k l l' h =
     let x = covers pair j k l h in
     let y = covers pair k j l' (record {
@@ -123,7 +125,7 @@ turned a x s t p q e =
     ∙ ap (λ (n : ℕ). n % a) (omega arith)
     ∙ add-mul-mod_self_right (x + (a - t)) 2 a
 
-module _ (series : Series) (j k : Card) (p : Accepted series j) (q : Accepted series k) where
+module _ (series : Series) (j k : Fields) (p : Accepted series j) (q : Accepted series k) where
   l : Laid j
   l = accepted-laid series j p
 
@@ -204,7 +206,7 @@ module _ (series : Series) (j k : Card) (p : Accepted series j) (q : Accepted se
         go true t =
             let i = (tiles-inside j r c t).column in
             placed j r c t
-            ∙ ap₂ PlaceAnswer.At (ap (λ (n : ℤ). pos 128 *ℤ n -ℤ r) n-alike)
+            ∙ ap₂ at_place (ap (λ (n : ℤ). pos 128 *ℤ n -ℤ r) n-alike)
             (ap (place_column j) i.same ∙ column-placed i.at ∙ sym (ap (place_column k) i.same))
             ∙ sym (placed k r c (sym (tiles-alike r c) ∙ t))
         go false t = rw (t, sym (tiles-alike r c) ∙ t)
@@ -238,7 +240,7 @@ module _ (series : Series) (j k : Card) (p : Accepted series j) (q : Accepted se
           verdict = λ r c. rw (tiles-alike r c, chart-alike r c);
         }
 
-corner : (k : Card) → Laid k → in_tiles k (pos 0) (pos 0) ≡ true
+corner : (k : Fields) → Laid k → in_tiles k (pos 0) (pos 0) ≡ true
 corner k l = rw (lt-ltb 0 (128 * k.nfl) (omega (arith, l.down-some)), lt-ltb 0 (128 * k.nfc) (omega (arith, l.across-some)))
 
 pub answer-alike : AnswerAlike
@@ -253,7 +255,6 @@ alike-exactly pair series j k p q =
       (λ h. (h.place (pos 0) (pos 0), extents-alike pair j k x y h)),
       (λ h.
           let e = sym (placed j (pos 0) (pos 0) (corner j x)) ∙ h.0 ∙ placed k (pos 0) (pos 0) (corner k y) in
-          let row : place_row j (pos 0) ≡ place_row k (pos 0) = cc in
-          let column : place_column j (pos 0) ≡ place_column k (pos 0) = cc in
-          answers series j k p q row column h.1 pair),
+          let same = same-place _ _ _ _ e in
+          answers series j k p q same.0 same.1 h.1 pair),
     )

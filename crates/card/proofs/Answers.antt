@@ -1,6 +1,8 @@
 -- What a method's callees answered, as the machine reads it back: a number that fits is itself. Assumes nothing.
+use Rattle.std.specs.Prelude.{if◌then◌else◌, Result, Ok, Err}
+use Rattle.card_text.specs.Layout.{Judged}
 use mathlib.Core.Path.{◌≡◌, refl, sym, ap, ap₂, ◌∙◌}
-use mathlib.Core.Bool.{Bool, true, false, cond}
+use mathlib.Core.Bool.{Bool, true, false, not}
 use Prim.Native.Nat.{ℕ, ◌<◌, ◌≤◌, ◌^◌}
 use native.Mathlib.Omega.{arith}
 use lib.Dec.{T}
@@ -10,18 +12,17 @@ use mir.Syntax.{w64}
 use mir.Val.{SFits, Fits, to_z, of_z}
 use mir.ValLaws.{to_z-of_z}
 use Rattle.whole.proofs.Machine.{casts}
-use Rattle.arc.specs.declared.Refusal.{Refusal}
-use Rattle.arc.specs.declared.Verdict.{Verdict}
-use Rattle.arc.specs.Refusals.{refusal, on_verdict}
-use Rattle.card.specs.declared.Card.{Card}
+use Rattle.arc.specs.declared.refusal.Refusal.{Refusal}
+use Rattle.whole.specs.Results.{◌>>=◌}
+use Rattle.card_text.specs.declared.Fields.{Fields}
 use Rattle.card.specs.Grid.{in_tiles, in_chart, verdict_of}
 use Rattle.card.proofs.Regions.{Within, PixelInside, tiles-inside}
 
 -- a pixel that is accepted passed both tests
-pub accepted-in : (k : Card) (r c : ℤ) → verdict_of k r c ≡ Verdict.Accepted → (in_tiles k r c ≡ true) × (in_chart k r c ≡ true)
+pub accepted-in : (k : Fields) (r c : ℤ) → verdict_of k r c ≡ Ok tt → (in_tiles k r c ≡ true) × (in_chart k r c ≡ true)
 accepted-in k r c = go (in_tiles k r c) (in_chart k r c)
   where
-    go : (i j : Bool) → cond i (cond j Verdict.Accepted (Verdict.Refused (refusal 13))) (Verdict.Refused (refusal 12)) ≡ Verdict.Accepted
+    go : (i j : Bool) → ◌≡◌ {A = Judged} (if not i then Err Refusal.OutsideTiles else (if not j then Err Refusal.Padding else Ok tt)) (Ok tt)
         → (i ≡ true) × (j ≡ true)
     go true true e = (refl, refl)
     go true false e = let y : ◌≡◌ {A = ℕ} 0 1 = cc in absurd (omega arith)
@@ -32,22 +33,22 @@ pub pair-asked : {A : Type 0} (f : ℤ → ℤ → A) {u v : ℤ} → SFits w64 
 pair-asked f {u} {v} fu fv = ap₂ f (to_z-of_z w64 u fu) (to_z-of_z w64 v fv)
 
 -- ---- a pixel's verdict, asked of what the machine holds
-module _ (k : Card) (r c : ℤ) (f : SFits w64 r) (g : SFits w64 c) {v : Verdict} (e : v ≡ verdict_of k (to_z w64 (of_z w64 r)) (to_z w64 (of_z w64 c))) where
+module _ (k : Fields) (r c : ℤ) (f : SFits w64 r) (g : SFits w64 c) {v : Judged} (e : v ≡ verdict_of k (to_z w64 (of_z w64 r)) (to_z w64 (of_z w64 c))) where
   plain-verdict : v ≡ verdict_of k r c
   plain-verdict = e ∙ pair-asked (verdict_of k) f g
 
   -- a question that asks the same of the pixel has the same refusal
-  pub judged-refused : {A : Type 0} (F : Refusal → A) (x : A) {n : Refusal} → v ≡ Verdict.Refused n → F n ≡ on_verdict (verdict_of k r c) F x
-  judged-refused F x o = ap (λ (w : Verdict). on_verdict w F x) (sym o ∙ plain-verdict)
+  pub judged-refused : {A : Type 0} (x : Result A Refusal) {n : Refusal} → v ≡ Err n → Err n ≡ verdict_of k r c >>= (λ _. x)
+  judged-refused x o = rw (sym plain-verdict ∙ o)
 
-  pub judged-accepted : v ≡ Verdict.Accepted → (in_tiles k r c ≡ true) × (in_chart k r c ≡ true)
+  pub judged-accepted : v ≡ Ok tt → (in_tiles k r c ≡ true) × (in_chart k r c ≡ true)
   judged-accepted o = accepted-in k r c (sym plain-verdict ∙ o)
 
   -- or has its answer, and the pixel is one of the tiles
-  pub judged-answered : {A : Type 0} (F : Refusal → A) (x : A) → v ≡ Verdict.Accepted → x ≡ on_verdict (verdict_of k r c) F x
-  judged-answered F x o = ap (λ (w : Verdict). on_verdict w F x) (sym o ∙ plain-verdict)
+  pub judged-answered : {A : Type 0} (x : Result A Refusal) → v ≡ Ok tt → x ≡ verdict_of k r c >>= (λ _. x)
+  judged-answered x o = rw (sym plain-verdict ∙ o)
 
-  pub judged-inside : v ≡ Verdict.Accepted → PixelInside k r c
+  pub judged-inside : v ≡ Ok tt → PixelInside k r c
   judged-inside o = tiles-inside k r c (judged-accepted o).0
 
 -- a test of two numbers, likewise

@@ -10,16 +10,16 @@ use Rattle.whole.proofs.Signed.{Is, is-nat, is_same, is-unique, is-add, is-minus
 use Rattle.whole.proofs.Near.{near-low, near-high, near_le, floor-modulo}
 use Rattle.arc.specs.Zones.{circle, half, quarter}
 use Rattle.origin.proofs.Line.{Line, angle-is, scaled-is, pixel-back}
-use Rattle.card.specs.declared.Card.{Card}
+use Rattle.card_text.specs.declared.Fields.{Fields}
 use Rattle.card.specs.declared.Pair.{Pair}
 use Rattle.card.specs.Grid.{place_row, grid_column, place_column, exact_row, exact_column, latitude_of, longitude_of}
 use Rattle.card.specs.Grid.{row_value, column_value, row_of, column_of}
 use Rattle.card.specs.Steps.{inward}
-use Rattle.card.proofs.Laid.{Laid}
+use Rattle.card_text.proofs.Laid.{Laid}
 use Rattle.card.proofs.Line.{rows-line, columns-line, range-is}
 use Rattle.card.proofs.Pairs.{inward-high, exact-row, exact-column, nearest-circle, floor-circle}
 
-module _ (k : Card) (l : Laid k) where
+module _ (k : Fields) (l : Laid k) where
   rows : Line circle k.b (128 * (k.b / 512)) quarter
   rows = rows-line k.b l.rows
 

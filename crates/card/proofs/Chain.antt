@@ -1,6 +1,10 @@
 -- Demand 3, for both pairs at once. A pixel of a later card has the first pixel's place exactly when it is the one that the position gives (the round
 -- trip of each axis), so that card's two tests decide what it answers, and the same place has the same two numbers again.
 -- Then by induction down the list. Assumes nothing.
+use Rattle.std.specs.Prelude.{Ok, Err}
+use Rattle.arc.specs.declared.refusal.Refusal.{Refusal}
+use Rattle.card_text.specs.Layout.{Judged}
+use Rattle.card.specs.Grid.{at_position, at_pixel}
 use mathlib.Core.Path.{◌≡◌, refl, sym, ap, ap₂, ◌∙◌, subst⁻¹, subst₂}
 use mathlib.Core.Bool.{Bool, true, false, false≢true}
 use mathlib.Core.List.{List, [], ◌∷◌}
@@ -12,23 +16,20 @@ use lib.IntN.{ℤ, pos, sub_ℕ, ◌+ℤ◌, ◌*ℤ◌}
 use Rattle.whole.specs.Whole.{near, nearest, outside}
 use Rattle.whole.proofs.Signed.{Is, over, under, is-parts, is_same, is-equal, equal_is, is-sub, is-add, is-minus, is_mul}
 use Rattle.whole.proofs.Near.{near_le, near-shift}
-use Rattle.arc.specs.declared.Series.{Series}
-use Rattle.arc.specs.declared.Verdict.{Verdict}
-use Rattle.arc.specs.Refusals.{refusal, on_verdict}
+use Rattle.arc.specs.declared.series.Series.{Series}
+use Rattle.whole.specs.Results.{◌>>=◌}
 use Rattle.arc.specs.Zones.{circle, half, quarter}
-use Rattle.arc.specs.Spacing.{Grid}
+use Rattle.arc.specs.Pixels.{Grid}
 use Rattle.origin.proofs.Line.{is-inside, Line, angle-is, angle-close}
-use Rattle.card.specs.declared.Card.{Card}
+use Rattle.card_text.specs.declared.Fields.{Fields}
 use Rattle.card.specs.declared.Pair.{Pair}
-use Rattle.card.specs.declared.PositionAnswer.{PositionAnswer}
-use Rattle.card.specs.declared.PixelAnswer.{PixelAnswer}
-use Rattle.card.specs.Read.{Accepted}
+use Rattle.card_text.specs.Read.{Accepted}
 use Rattle.card.specs.Grid.{place_row, place_column, exact_row, exact_column, in_tiles, in_chart, verdict_of}
 use Rattle.card.specs.Grid.{latitude_of, longitude_of, row_of, column_of, position_of, pixel_of}
 use Rattle.card.specs.Steps.{inward}
 use Rattle.card.specs.NoDrift.{HasPlace, TilesHave, ChartHas, Close, Visit, gave, refused, visit_with, visit, latitude_after}
 use Rattle.card.specs.NoDrift.{longitude_after, visits, Right, Each, Every, NoDriftFrom, NoDrift}
-use Rattle.card.proofs.Laid.{Laid, accepted-laid, same-spacing}
+use Rattle.card_text.proofs.Laid.{Laid, accepted-laid, same-spacing}
 use Rattle.card.proofs.Line.{rows-line}
 use Rattle.card.proofs.Pairs.{exact-row, exact-column}
 use Rattle.card.proofs.Axes.{north-is, north-high, east-high, down-high, row_is, column-place, latitude-is, longitude-is, row_back, column-back}
@@ -125,14 +126,14 @@ module _ (p : Pair) (a b : ℕ) (u w lat lon : ℤ) (t : Thread p a b u w lat lo
       }
 
 -- ---- one later card
-record Step (p : Pair) (u w lat lon : ℤ) (k : Card) : Type 0 where
+record Step (p : Pair) (u w lat lon : ℤ) (k : Fields) : Type 0 where
   pub does : Visit
   pub visited : visit p k lat lon ≡ does
   pub right : Right u w lat lon k does
   pub latitude-kept : latitude_after lat does ≡ lat
   pub longitude-kept : longitude_after lon does ≡ lon
 
-module _ (p : Pair) (u w lat lon : ℤ) (k : Card) (l : Laid k) (t : Thread p k.a k.b u w lat lon) where
+module _ (p : Pair) (u w lat lon : ℤ) (k : Fields) (l : Laid k) (t : Thread p k.a k.b u w lat lon) where
   -- the pixel at the position
   ρ : ℤ
   ρ = row_of p k lat
@@ -183,12 +184,12 @@ module _ (p : Pair) (u w lat lon : ℤ) (k : Card) (l : Laid k) (t : Thread p k.
   at_place = record { row = place-of-row; column = place-of-column }
 
   -- its position is the position last answered
-  back : PositionAnswer.At (latitude_of p k ρ) (longitude_of p k γ) ≡ PositionAnswer.At lat lon
+  back : at_position (latitude_of p k ρ) (longitude_of p k γ) ≡ at_position lat lon
   unfolding latitude_of
   back =
       let o : ℕ = inward p in
       let x : ℕ = t.y * circle - o in
-      ap₂ PositionAnswer.At
+      ap₂ at_position
       (ap (λ (z : ℤ). nearest (exact_row p z) k.b) place-of-row
       ∙ is-equal (nearest (exact_row p u) k.b) lat (near x k.b) quarter (near x k.b) quarter
       (angle-is (rows-line k.b l.rows) (exact_row p u) x (exact-row p u t.y (128 * (k.b / 512)) t.y-some t.u-is)) t.lat-is refl)
@@ -208,7 +209,7 @@ module _ (p : Pair) (u w lat lon : ℤ) (k : Card) (l : Laid k) (t : Thread p k.
       ap₂ (in_chart k) (sym (row-of-place h.r h.at.row)) (sym (column-of-place h.c i.column h.at.column)) ∙ h.within
 
   -- what the card answers, by its verdict
-  answers : (v : Verdict) → verdict_of k ρ γ ≡ v → visit p k lat lon ≡ visit_with p k (on_verdict v PixelAnswer.Refused (PixelAnswer.At ρ γ))
+  answers : (v : Judged) → verdict_of k ρ γ ≡ v → visit p k lat lon ≡ visit_with p k (v >>= (λ _. at_pixel ρ γ))
   unfolding pixel_of ρ γ
   answers v e = rw (lat-inside p k.a k.b u w lat lon t, lon-inside p k.a k.b u w lat lon t, e)
 
@@ -216,24 +217,24 @@ module _ (p : Pair) (u w lat lon : ℤ) (k : Card) (l : Laid k) (t : Thread p k.
   unfolding position_of
   go false c ei ec =
       record {
-        does = refused (refusal 12);
-        visited = answers (Verdict.Refused (refusal 12)) (rw ei);
+        does = refused Refusal.OutsideTiles;
+        visited = answers (Err Refusal.OutsideTiles) (rw ei);
         right = ((λ h. false≢true (sym ei ∙ chart-tiles k ρ γ l (chart-decide h))), inl (refl, λ h. false≢true (sym ei ∙ tiles-decide h)));
         latitude-kept = refl;
         longitude-kept = refl;
       }
   go true false ei ec =
       record {
-        does = refused (refusal 13);
-        visited = answers (Verdict.Refused (refusal 13)) (rw (ei, ec));
+        does = refused Refusal.Padding;
+        visited = answers (Err Refusal.Padding) (rw (ei, ec));
         right = ((λ h. false≢true (sym ec ∙ chart-decide h)), inr (refl, record { r = ρ; c = γ; within = ei; at = at_place }));
         latitude-kept = refl;
         longitude-kept = refl;
       }
   go true true ei ec =
       record {
-        does = gave ρ γ (PositionAnswer.At lat lon);
-        visited = answers Verdict.Accepted (rw (ei, ec)) ∙ ap (gave ρ γ) (rw (ei, ec) back);
+        does = gave ρ γ (at_position lat lon);
+        visited = answers (Ok tt) (rw (ei, ec)) ∙ ap (gave ρ γ) (rw (ei, ec) back);
         right = (ec, at_place, refl);
         latitude-kept = refl;
         longitude-kept = refl;
@@ -245,10 +246,10 @@ module _ (p : Pair) (u w lat lon : ℤ) (k : Card) (l : Laid k) (t : Thread p k.
 -- ---- down the list
 module _ (p : Pair) (a b : ℕ) (u w lat lon : ℤ) (t : Thread p a b u w lat lon) where
   -- a card of the chain
-  Of : Card → Type 0
+  Of : Fields → Type 0
   Of k = Laid k × (k.a ≡ a) × (k.b ≡ b)
 
-  down : (ks : List Card) → Every Of ks → Each (Right u w lat lon) ks (visits p lat lon ks)
+  down : (ks : List Fields) → Every Of ks → Each (Right u w lat lon) ks (visits p lat lon ks)
   unfolding Of
   down [] h = tt
   down (k ∷ ks) h =
@@ -259,8 +260,8 @@ module _ (p : Pair) (a b : ℕ) (u w lat lon : ℤ) (t : Thread p a b u w lat lo
             (down ks h.1),
       )
 
-  every_of : (series : Series) (first : Card) → first.a ≡ a → first.b ≡ b → Accepted series first
-      → (ks : List Card) → Every (Accepted series) ks → Every Of ks
+  every_of : (series : Series) (first : Fields) → first.a ≡ a → first.b ≡ b → Accepted series first
+      → (ks : List Fields) → Every (Accepted series) ks → Every Of ks
   unfolding Of
   every_of series first x y f [] h = tt
   every_of series first x y f (k ∷ ks) h =
@@ -268,7 +269,7 @@ module _ (p : Pair) (a b : ℕ) (u w lat lon : ℤ) (t : Thread p a b u w lat lo
       ((accepted-laid series k h.0, e.0 ∙ x, e.1 ∙ y), every_of series first x y f ks h.1)
 
 -- ---- the first card, and its pixel (r, c)
-module _ (p : Pair) (k : Card) (l : Laid k) (r c : ℕ) (h : r < k.north) where
+module _ (p : Pair) (k : Fields) (l : Laid k) (r c : ℕ) (h : r < k.north) where
   thread : Thread p k.a k.b (place_row k (pos r)) (place_column k (pos c)) (latitude_of p k (pos r)) (longitude_of p k (pos c))
   thread =
       record {
@@ -284,7 +285,7 @@ module _ (p : Pair) (k : Card) (l : Laid k) (r c : ℕ) (h : r < k.north) where
         lon-is = longitude-is k l p c;
       }
 
-  walked : (rest : List Card) → in_tiles k (pos r) (pos c) ≡ true → in_chart k (pos r) (pos c) ≡ true
+  walked : (rest : List Fields) → in_tiles k (pos r) (pos c) ≡ true → in_chart k (pos r) (pos c) ≡ true
       → Every (Of p k.a k.b _ _ _ _ thread) rest → NoDriftFrom p k rest (pos r) (pos c)
   unfolding position_of
   walked rest i e all =

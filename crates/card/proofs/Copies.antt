@@ -1,5 +1,9 @@
 -- Two pixels of one position are the pixel that one of the cards gives for it, so demand 3's walk has both places the same; and two pixels
 -- of one place are one pixel. A tile is at least 207 hundredths, and a stored angle is within half a hundredth. Assumes nothing.
+use Rattle.std.specs.Prelude.{Ok, Err}
+use Rattle.card.proofs.Same.{same-place, same-spaces}
+use Rattle.arc.specs.declared.refusal.Refusal.{Refusal}
+use Rattle.card.specs.Grid.{at_place, at_position}
 use mathlib.Core.Path.{◌≡◌, refl, sym, ap, ap₂, ◌∙◌, subst⁻¹, subst₂}
 use mathlib.Core.Bool.{true}
 use mathlib.Core.List.{List, [], ◌∷◌}
@@ -14,61 +18,56 @@ use lib.IntN.{ℤ, nat_abs, ◌-ℤ◌}
 use Rattle.whole.specs.Whole.{near}
 use Rattle.whole.proofs.Signed.{under, is-minus, is-size}
 use Rattle.whole.proofs.Near.{near-low, near-high}
-use Rattle.arc.specs.declared.Series.{Series}
-use Rattle.arc.specs.declared.Verdict.{Verdict}
-use Rattle.arc.specs.Refusals.{refusal}
-use Rattle.arc.specs.Spacing.{Grid}
+use Rattle.arc.specs.declared.series.Series.{Series}
+use Rattle.arc.specs.Pixels.{Grid}
 use Rattle.arc.proofs.Answered.{answered-grids}
 use Rattle.origin.specs.Origin.{stored_angle}
 use Rattle.origin.proofs.Axis.{tile_angle, stored_is}
 use Rattle.origin.proofs.Stored.{counted, counted_is, axis, stored-unique}
 use Rattle.text.specs.Text.{number, angle_of}
-use Rattle.card.specs.declared.Card.{Card}
-use Rattle.card.specs.declared.Fill.{Fill}
+use Rattle.card_text.specs.declared.Fields.{Fields}
+use Rattle.card_text.specs.declared.Fill.{Fill}
 use Rattle.card.specs.declared.Pair.{Pair}
-use Rattle.card.specs.declared.PlaceAnswer.{PlaceAnswer}
-use Rattle.card.specs.declared.PositionAnswer.{PositionAnswer}
-use Rattle.card.specs.Layout.{Subfield, STR, ARV, BRV, LSO, PSO, layout, bytes_of, right_kind, right_value, judge, judge_field, or_else, walk}
-use Rattle.card.specs.Read.{tile_storing, number_in, card_of, refused_card, with_origin, with_values, read_in, Accepted}
+use Rattle.card_text.specs.Layout.{Subfield, STR, ARV, BRV, LSO, PSO, layout, bytes_of, right_kind, right_value, judge, judge_field, or_else, walk}
+use Rattle.card_text.specs.Read.{tile_storing, number_in, card_of, with_origin, with_values, read_in, Accepted}
 use Rattle.card.specs.NoDrift.{HasPlace}
 use Rattle.card.specs.Grid.{place_row, place_column, in_tiles, in_chart, place_of, position_of}
 use Rattle.card.specs.Places.{GivesPixel}
 use Rattle.card.specs.Copies.{Copies, PlaceAlike, BytesAlike, Moved, RoundedAgain}
 use Rattle.card.specs.Copies.{SameIn, others, LSOMoved, PSOMoved, MovedRefused}
-use Rattle.card.proofs.Walked.{or_else-both, or_else-accepted}
-use Rattle.card.proofs.Found.{Stores, tile-stores}
-use Rattle.card.proofs.Acceptance.{row_tile, column_tile, ReadTo, read-to}
-use Rattle.card.proofs.Laid.{accepted-laid}
+use Rattle.card_text.proofs.Walked.{or_else-both, or_else-accepted}
+use Rattle.card_text.proofs.Found.{Stores, tile-stores}
+use Rattle.card_text.proofs.Acceptance.{row_tile, column_tile, ReadTo, read-to}
+use Rattle.card_text.proofs.Laid.{accepted-laid}
 use Rattle.card.proofs.Regions.{chart-tiles}
 use Rattle.card.proofs.Chain.{no-drift}
 use Rattle.card.proofs.Places.{Told, told-by-place}
 
 -- ---- places and positions
 
-module _ (k : Card) (r c : ℤ) where
-  pub placed : in_tiles k r c ≡ true → place_of k r c ≡ PlaceAnswer.At (place_row k r) (place_column k c)
+module _ (k : Fields) (r c : ℤ) where
+  pub placed : in_tiles k r c ≡ true → place_of k r c ≡ at_place (place_row k r) (place_column k c)
   unfolding place_of
   placed t = rw t
 
-module _ (pair : Pair) (series : Series) (j k : Card) (p : Accepted series j) (q : Accepted series k) (r c : ℤ) (i : in_chart j r c ≡ true)
+module _ (pair : Pair) (series : Series) (j k : Fields) (p : Accepted series j) (q : Accepted series k) (r c : ℤ) (i : in_chart j r c ≡ true)
     (r' c' : ℤ) (i' : in_chart k r' c' ≡ true) where
-  place_at : place_of j r c ≡ PlaceAnswer.At (place_row j r) (place_column j c)
+  place_at : place_of j r c ≡ at_place (place_row j r) (place_column j c)
   place_at = placed j r c (chart-tiles j r c (accepted-laid series j p) i)
 
   tiles' : in_tiles k r' c' ≡ true
   tiles' = chart-tiles k r' c' (accepted-laid series k q) i'
 
-  place-at' : place_of k r' c' ≡ PlaceAnswer.At (place_row k r') (place_column k c')
+  place-at' : place_of k r' c' ≡ at_place (place_row k r') (place_column k c')
   place-at' = placed k r' c' tiles'
 
-  module _ (lat lon : ℤ) (e : position_of pair j r c ≡ PositionAnswer.At lat lon) where
+  module _ (lat lon : ℤ) (e : position_of pair j r c ≡ at_position lat lon) where
     -- the pixel of k that has the place of j's is the one that k gives
     one-position : place_of j r c ≡ place_of k r' c' → position_of pair j r c ≡ position_of pair k r' c'
     one-position f =
         let g = sym place_at ∙ f ∙ place-at' in
-        let x : place_row k r' ≡ place_row j r = cc in
-        let y : place_column k c' ≡ place_column j c = cc in
-        let at : HasPlace k (place_row j r) (place_column j c) r' c' = record { row = x; column = y } in
+        let same = same-place _ _ _ _ g in
+        let at : HasPlace k (place_row j r) (place_column j c) r' c' = record { row = sym same.0; column = sym same.1 } in
         go (told-by-place pair series j p r c i lat lon e k q) at
       where
         go : Told pair k (place_row j r) (place_column j c) lat lon → HasPlace k (place_row j r) (place_column j c) r' c'
@@ -88,7 +87,7 @@ module _ (pair : Pair) (series : Series) (j k : Card) (p : Accepted series j) (q
         let n = t'.gives.1 (record { r = r'; c = c'; within = i'; at = record { row = refl; column = refl } }) in
         let at = (t.only n.r n.c n.given).0 in
         let at' = (t'.only n.r n.c n.given).0 in
-        place_at ∙ ap₂ PlaceAnswer.At (sym at.row ∙ at'.row) (sym at.column ∙ at'.column) ∙ sym place-at'
+        place_at ∙ ap₂ at_place (sym at.row ∙ at'.row) (sym at.column ∙ at'.column) ∙ sym place-at'
 
 pub place-alike : PlaceAlike
 place-alike pair series j k p q r c i r' c' i' =
@@ -104,11 +103,10 @@ unfolding card_of
 bytes-alike series s t j k v w p q (lso, (pso, (nul, (nus, (nll, (nls, (nfl, (nfc, end)))))))) =
     let x = read-to Fill.Blanks series s j v p in
     let y = read-to Fill.Blanks series t k w q in
-    let e = x.spacing in
-    let f = y.spacing in
-    let a : x.a ≡ y.a = cc in
-    let b : x.b ≡ y.b = cc in
-    let g = answered-grids series x.a x.b e in
+    let ab = same-spaces _ _ _ _ (sym x.spacing ∙ y.spacing) in
+    let a : x.a ≡ y.a = ab.0 in
+    let b : x.b ≡ y.b = ab.1 in
+    let g = answered-grids series x.a x.b x.spacing in
     subst₂ Copies x.card y.card
     (record {
       same_n =
@@ -176,7 +174,7 @@ module _ (s t : List ℕ) where
   walk_same (f ∷ fs) h = ap₂ or_else (judged-same f h.0) (walk_same fs h.1)
 
   -- the other subfields accepted, the two of the origin decide
-  walk-origin : walk Fill.Blanks layout s ≡ Verdict.Accepted → SameIn others s t
+  walk-origin : walk Fill.Blanks layout s ≡ Ok tt → SameIn others s t
       → walk Fill.Blanks layout t ≡ or_else (judge_field Fill.Blanks LSO t) (judge_field Fill.Blanks PSO t)
   unfolding layout
   walk-origin e (str, (arv, (brv, rest))) =
@@ -190,7 +188,7 @@ module _ (s t : List ℕ) where
       (ap₂ or_else (sym (judged-same BRV brv) ∙ third.0)
       (ap (or_else (judge_field Fill.Blanks LSO t)) (ap (or_else (judge_field Fill.Blanks PSO t)) past ∙ or_else-accepted (judge_field Fill.Blanks PSO t)))))
 
-no-column : (series : Series) (a b : ℕ) (t : List ℕ) (n : Option ℤ) → with_origin series a b t n none ≡ refused_card (refusal 10)
+no-column : (series : Series) (a b : ℕ) (t : List ℕ) (n : Option ℤ) → with_origin series a b t n none ≡ Err Refusal.Origin
 no-column series a b t none = refl
 no-column series a b t (some n) = refl
 
@@ -198,9 +196,9 @@ no-column series a b t (some n) = refl
 moved_none : (x : ℕ) → Grid x → (t : ℕ) (y z k : ℤ) → Stores x t y k → Moved y z → tile_storing x t z ≡ none
 moved_none x g t y z k e h = rounded-again x g t k z (subst⁻¹ (λ (y : ℤ). Moved y z) e.same h)
 
-module _ (series : Series) (s t : List ℕ) (k : Card) (blanks : ℕ) (x : ReadTo Fill.Blanks series s k blanks) where
+module _ (series : Series) (s t : List ℕ) (k : Fields) (blanks : ℕ) (x : ReadTo Fill.Blanks series s k blanks) where
   no_origin : LSOMoved s t ⊎ PSOMoved s t
-      → with_origin series x.a x.b t (row_tile x.b t) (column_tile x.a t) ≡ refused_card (refusal 10)
+      → with_origin series x.a x.b t (row_tile x.b t) (column_tile x.a t) ≡ Err Refusal.Origin
   no_origin (inl h) =
       let g = answered-grids series x.a x.b x.spacing in
       rw (moved_none x.a g.columns (x.a / 256) _ (angle_of 3 (bytes_of LSO t)) x.m x.m-stored h)

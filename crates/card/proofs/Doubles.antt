@@ -1,6 +1,8 @@
 -- A whole number of at most 2 ^ 53 is a double, and comes back; both differences are below that. Assumes nothing.
+use Rattle.std.specs.Prelude.{if◌then◌else◌, Ok, Err}
+use Rattle.arc.specs.declared.refusal.Refusal.{Refusal}
 use mathlib.Core.Path.{◌≡◌, refl, subst}
-use mathlib.Core.Bool.{Bool, true, false, cond}
+use mathlib.Core.Bool.{Bool, true, false}
 use Prim.Native.Nat.{ℕ, ◌+◌, ◌-◌, ◌*◌, ◌%◌, ◌≤◌, ◌^◌}
 use native.Mathlib.Omega.{arith}
 use lib.Dec.{T, le→leb, lt→ltb}
@@ -9,9 +11,8 @@ use lib.Ieee.{of_int, in_float, binary64}
 use lib.Ieee.Back.{positive_back, negative_back}
 use Rattle.whole.specs.Whole.{outside, raise}
 use Rattle.whole.proofs.Signed.{Is, is_same, is-minus, is-size, is-raise, raise-high}
-use Rattle.arc.specs.Refusals.{refusal}
 use Rattle.arc.specs.Zones.{circle, half, quarter}
-use Rattle.card.specs.declared.OffsetAnswer.{OffsetAnswer}
+use Rattle.card.proofs.Same.{same-offset}
 use Rattle.card.specs.Grid.{into_range}
 use Rattle.card.specs.Offset.{Exactly, difference, offset_of, ExactOffset, Exact}
 use Rattle.card.proofs.Line.{range-is}
@@ -44,15 +45,15 @@ unfolding offset_of
 exact lat lon clat clon o e = go (outside quarter lat) (outside half lon) (outside quarter clat) (outside half clon) refl refl refl refl e
   where
     go : (s t u v : Bool) → outside quarter lat ≡ s → outside half lon ≡ t → outside quarter clat ≡ u → outside half clon ≡ v
-        → cond s (OffsetAnswer.Refused (refusal 4)) (cond t (OffsetAnswer.Refused (refusal 5)) (cond u (OffsetAnswer.Refused (refusal 4))
-        (cond v (OffsetAnswer.Refused (refusal 5)) (OffsetAnswer.At (difference lat lon clat clon))))) ≡ OffsetAnswer.At o
+        → (if s then Err Refusal.Latitude else (if t then Err Refusal.Longitude else (if u then Err Refusal.Latitude
+        else (if v then Err Refusal.Longitude else Ok (difference lat lon clat clon))))) ≡ Ok o
         → ExactOffset lat lon clat clon o
     go true t u v es et eu ev k = let x : ◌≡◌ {A = ℕ} 0 1 = cc in absurd (omega arith)
     go false true u v es et eu ev k = let x : ◌≡◌ {A = ℕ} 0 1 = cc in absurd (omega arith)
     go false false true v es et eu ev k = let x : ◌≡◌ {A = ℕ} 0 1 = cc in absurd (omega arith)
     go false false false true es et eu ev k = let x : ◌≡◌ {A = ℕ} 0 1 = cc in absurd (omega arith)
     go false false false false es et eu ev k =
-        let same : difference lat lon clat clon ≡ o = cc in
+        let same = same-offset (difference lat lon clat clon) o k in
         let high = raise-high quarter lat es in
         let high' = raise-high quarter clat eu in
         subst (ExactOffset lat lon clat clon) same

@@ -9,15 +9,15 @@ use lib.Signed.{◌≤ℤ◌, ◌<ℤ◌}
 use Rattle.whole.proofs.Signed.{Is, over, under, is-parts, is-equal, is-nat, is-sub, is-add, is-minus, is_mul, is_le, is_lt, le_is, lt-is}
 use Rattle.arc.specs.Zones.{circle, half, quarter}
 use Rattle.origin.proofs.Line.{scaled-is}
-use Rattle.card.specs.declared.Card.{Card}
+use Rattle.card_text.specs.declared.Fields.{Fields}
 use Rattle.card.specs.declared.Pair.{Pair}
 use Rattle.card.specs.Grid.{grid_column, row_of, column_of, place_row}
 use Rattle.card.specs.Contained.{north_edge, west_edge}
-use Rattle.card.proofs.Laid.{Laid}
+use Rattle.card_text.proofs.Laid.{Laid}
 use Rattle.card.proofs.Line.{rows-line, columns-line}
 use Rattle.card.proofs.Axes.{north-is, east-high, row_fits, row_at, column-is, column-at}
 
-module _ (k : Card) (l : Laid k) where
+module _ (k : Fields) (l : Laid k) where
   -- ---- rows: the edge of row r, and a latitude n hundredths from the South Pole
   north-edge : (r : ℤ) (y t : ℕ) → Is r y t → Is (north_edge k r) ((k.north + t) * circle) ((128 * (k.b / 512) + y) * circle)
   north-edge r y t e =

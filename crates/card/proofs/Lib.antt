@@ -1,10 +1,6 @@
-pub mod Walked
-pub mod Spans
-pub mod Found
-pub mod Acceptance
-pub mod Laid
-pub mod Strict
 pub mod Line
+pub mod Known
+pub mod Same
 pub mod Pairs
 pub mod Axes
 pub mod Regions
@@ -20,4 +16,3 @@ pub mod Answered
 pub mod Nearest
 mod Edges
 pub mod Containing
-pub mod Questions

@@ -5,7 +5,7 @@ use native.Mathlib.Omega.{arith}
 use lib.IntN.{ℤ, pos, ◌+ℤ◌, ◌-ℤ◌}
 use Rattle.whole.proofs.Signed.{Is, is-nat, is_same, is-add, is-modulo, is-difference}
 use Rattle.arc.specs.Zones.{circle, half, quarter}
-use Rattle.arc.specs.Spacing.{Grid}
+use Rattle.arc.specs.Pixels.{Grid}
 use Rattle.origin.proofs.Line.{Line}
 use Rattle.card.specs.Grid.{into_range}
 

@@ -1,8 +1,12 @@
 -- A row found is the nearest whole number, and so is a column before it is turned. H / 512 is odd and A and B are multiples of 512, so
 -- neither is half a pixel away, and every other is farther. An answered position is in range, so an overview refuses it with 12 or 13 only.
 -- Assumes nothing.
+use Rattle.std.specs.Prelude.{if◌then◌else◌, Result, Ok, Err}
+use Rattle.card.specs.declared.Pixel.{Pixel}
+use Rattle.card_text.specs.Layout.{Judged}
+use Rattle.card.specs.Grid.{at_position, at_pixel}
 use mathlib.Core.Path.{◌≡◌, refl, sym, ap, ◌∙◌, subst₂, subst⁻¹}
-use mathlib.Core.Bool.{Bool, true, false, cond}
+use mathlib.Core.Bool.{Bool, true, false, not}
 use mathlib.Core.Logic.{◌⊎◌, inl, inr}
 use Prim.Native.Nat.{ℕ, ◌+◌, ◌-◌, ◌*◌, ◌/◌, ◌%◌, ◌≤◌, ◌<◌}
 use native.Mathlib.Nat.{add-mul, mul_left_comm, mul_right_comm, mod-lt, mod-eq_of_lt, add-mul-mod_self_right, div-add-mod'}
@@ -13,21 +17,20 @@ use Rattle.whole.specs.Whole.{outside, raise}
 use Rattle.whole.proofs.Signed.{Is, over, under, is-parts, is_same, is-equal, equal_is, is-nat, is-neg, is-sub, is-add, is-minus, is_mul}
 use Rattle.whole.proofs.Signed.{is-times, is-size, le_is, lt-is, is-raise, raise-high, inside-size}
 use Rattle.whole.proofs.Near.{nearer}
-use Rattle.arc.specs.declared.Refusal.{Refusal}
-use Rattle.arc.specs.declared.Verdict.{Verdict}
-use Rattle.arc.specs.Refusals.{refusal, on_verdict}
+use Rattle.arc.specs.declared.refusal.Refusal.{Refusal}
+use Rattle.whole.specs.Results.{◌>>=◌}
 use Rattle.arc.specs.Zones.{circle, half, quarter}
-use Rattle.arc.specs.Spacing.{Grid}
-use Rattle.card.specs.declared.Card.{Card}
+use Rattle.arc.specs.Pixels.{Grid}
+use Rattle.card_text.specs.declared.Fields.{Fields}
 use Rattle.card.specs.declared.Pair.{Pair}
-use Rattle.card.specs.declared.PositionAnswer.{PositionAnswer}
-use Rattle.card.specs.declared.PixelAnswer.{PixelAnswer}
+use Rattle.card.specs.declared.Position.{Position}
 use Rattle.card.specs.Grid.{place_row, place_column, row_of, column_of, in_tiles, in_chart, verdict_of, latitude_of, longitude_of, position_of, pixel_of}
-use Rattle.card.specs.Overview.{on_position, overview_pixel_of, apart, NearestRow, NearestColumn, NearestPlace, PixelNearest}
+use Rattle.card.specs.Overview.{overview_pixel_of, apart, NearestRow, NearestColumn, NearestPlace, PixelNearest}
 use Rattle.card.specs.Overview.{OverviewFound, OverviewNearest, OverviewRefuses, OverviewRefused}
-use Rattle.card.proofs.Laid.{Laid, known-laid}
+use Rattle.card_text.proofs.Laid.{Laid, known-laid}
 use Rattle.card.proofs.Axes.{north-is, east-high, row_fits, row_at, column-at, column-place}
 use Rattle.card.proofs.Chain.{same_place}
+use Rattle.card.proofs.Same.{same-pixel}
 use Rattle.card.proofs.Answered.{answered-in-range}
 
 -- ---- one axis: x is A or B
@@ -102,7 +105,7 @@ round-nearest a v lon circles h within =
           other (m.1 ∙ ap pos (one-column a m.0 v turns circles m.2 h (ap (λ (q : ℤ). q -ℤ turns *ℤ pos a) (sym m.1) ∙ same)))));
     }
 
-module _ (k : Card) (l : Laid k) where
+module _ (k : Fields) (l : Laid k) where
   row-nearest : (lat : ℤ) → outside quarter lat ≡ false → NearestRow k.b lat (place_row k (row_of Pair.Corner k lat))
   row-nearest lat i =
       let p : ℕ = raise quarter lat in
@@ -153,22 +156,24 @@ module _ (k : Card) (l : Laid k) where
 
 -- ---- the pixel that is answered
 
-pub record FoundAt (p : Pair) (k : Card) (lat lon r c : ℤ) : Type 0 where
+pub record FoundAt (p : Pair) (k : Fields) (lat lon r c : ℤ) : Type 0 where
   pub lat-in : outside quarter lat ≡ false
   pub lon-in : outside half lon ≡ false
   pub row : row_of p k lat ≡ r
   pub column : column_of p k lon ≡ c
 
-pub found_at : (p : Pair) (k : Card) (lat lon r c : ℤ) → pixel_of p k lat lon ≡ PixelAnswer.At r c → FoundAt p k lat lon r c
+pub found_at : (p : Pair) (k : Fields) (lat lon r c : ℤ) → pixel_of p k lat lon ≡ at_pixel r c → FoundAt p k lat lon r c
 unfolding pixel_of
 found_at p k lat lon r c e = go (outside quarter lat) (outside half lon) (verdict_of k (row_of p k lat) (column_of p k lon)) refl refl e
   where
-    go : (s t : Bool) (v : Verdict) → outside quarter lat ≡ s → outside half lon ≡ t
-        → cond s (PixelAnswer.Refused (refusal 4)) (cond t (PixelAnswer.Refused (refusal 5))
-        (on_verdict v PixelAnswer.Refused (PixelAnswer.At (row_of p k lat) (column_of p k lon)))) ≡ PixelAnswer.At r c
+    go : (s t : Bool) (v : Judged) → outside quarter lat ≡ s → outside half lon ≡ t
+        → (if s then Err Refusal.Latitude else (if t then Err Refusal.Longitude
+        else ◌>>=◌ {B = Pixel} v (λ _. at_pixel (row_of p k lat) (column_of p k lon)))) ≡ at_pixel r c
         → FoundAt p k lat lon r c
-    go false false Verdict.Accepted x y f = record { lat-in = x; lon-in = y; row = cc; column = cc }
-    go false false (Verdict.Refused n) x y f = let z : ◌≡◌ {A = ℕ} 0 1 = cc in absurd (omega arith)
+    go false false (Ok u) x y f =
+        let e = same-pixel (row_of p k lat) (column_of p k lon) r c f in
+        record { lat-in = x; lon-in = y; row = e.0; column = e.1 }
+    go false false (Err n) x y f = let z : ◌≡◌ {A = ℕ} 0 1 = cc in absurd (omega arith)
     go false true v x y f = let z : ◌≡◌ {A = ℕ} 0 1 = cc in absurd (omega arith)
     go true t v x y f = let z : ◌≡◌ {A = ℕ} 0 1 = cc in absurd (omega arith)
 
@@ -185,23 +190,23 @@ pub overview-nearest : OverviewNearest
 unfolding overview_pixel_of
 overview-nearest chart overview h w r c r' c' e = go (position_of Pair.Corner chart r c) refl e
   where
-    go : (x : PositionAnswer) → position_of Pair.Corner chart r c ≡ x
-        → on_position x PixelAnswer.Refused (λ lat lon. pixel_of Pair.Corner overview lat lon) ≡ PixelAnswer.At r' c'
+    go : (x : Result Position Refusal) → position_of Pair.Corner chart r c ≡ x
+        → ◌>>=◌ {B = Pixel} x (λ y. pixel_of Pair.Corner overview y.lat y.lon) ≡ at_pixel r' c'
         → OverviewFound chart overview r c r' c'
-    go (PositionAnswer.At lat lon) p f =
-        record { lat = lat; lon = lon; position = p; pixel = pixel-nearest overview w lat lon r' c' f }
-    go (PositionAnswer.Refused n) p f = let z : ◌≡◌ {A = ℕ} 0 1 = cc in absurd (omega arith)
+    go (Ok x) p f =
+        record { lat = x.lat; lon = x.lon; position = p; pixel = pixel-nearest overview w x.lat x.lon r' c' f }
+    go (Err n) p f = let z : ◌≡◌ {A = ℕ} 0 1 = cc in absurd (omega arith)
 
 -- a question that asks a pixel's verdict is refused with 12 or 13
-verdict-refuses : {A : Type 0} (F : Refusal → A) (x : A) (k : Card) (r c : ℤ) (e : Refusal) → ((n : Refusal) → F n ≡ F e → n ≡ e) → (x ≡ F e → ⊥)
-    → on_verdict (verdict_of k r c) F x ≡ F e → (e ≡ refusal 12) ⊎ (e ≡ refusal 13)
-verdict-refuses {A} F x k r c e one none f = go (in_tiles k r c) (in_chart k r c) f
+verdict-refuses : {A : Type 0} (x : A) (k : Fields) (r c : ℤ) (e : Refusal) → verdict_of k r c >>= (λ _. Ok x) ≡ Err e
+    → (e ≡ Refusal.OutsideTiles) ⊎ (e ≡ Refusal.Padding)
+verdict-refuses {A} x k r c e f = go (in_tiles k r c) (in_chart k r c) f
   where
-    go : (i j : Bool) → on_verdict (cond i (cond j Verdict.Accepted (Verdict.Refused (refusal 13))) (Verdict.Refused (refusal 12))) F x ≡ F e
-        → (e ≡ refusal 12) ⊎ (e ≡ refusal 13)
-    go true true f = absurd (none f)
-    go true false f = inr (sym (one (refusal 13) f))
-    go false j f = inl (sym (one (refusal 12) f))
+    go : (i j : Bool) → ◌>>=◌ {A = Unit {0}} {B = A} (if not i then Err Refusal.OutsideTiles else (if not j then Err Refusal.Padding else Ok (tt {0}))) (λ _. Ok x) ≡ Err e
+        → (e ≡ Refusal.OutsideTiles) ⊎ (e ≡ Refusal.Padding)
+    go true true f = let z : ◌≡◌ {A = ℕ} 0 1 = cc in absurd (omega arith)
+    go true false f = inr (cc)
+    go false j f = inl (cc)
 
 longitude-in : (lon : ℤ) → neg_ℤ (pos half) ≤ℤ lon → lon <ℤ pos half → outside half lon ≡ false
 longitude-in lon west east =
@@ -217,21 +222,21 @@ pub overview-refused : OverviewRefused
 unfolding overview_pixel_of position_of pixel_of
 overview-refused chart overview h w r c e f = go (position_of Pair.Corner chart r c) refl f
   where
-    go : (x : PositionAnswer) → position_of Pair.Corner chart r c ≡ x
-        → on_position x PixelAnswer.Refused (λ lat lon. pixel_of Pair.Corner overview lat lon) ≡ PixelAnswer.Refused e
-        → ((position_of Pair.Corner chart r c ≡ PositionAnswer.Refused e) ⊎ OverviewRefuses chart overview r c e) × ((e ≡ refusal 12) ⊎ (e ≡ refusal 13))
-    go (PositionAnswer.At lat lon) p f =
+    go : (x : Result Position Refusal) → position_of Pair.Corner chart r c ≡ x
+        → ◌>>=◌ {B = Pixel} x (λ y. pixel_of Pair.Corner overview y.lat y.lon) ≡ Err e
+        → ((position_of Pair.Corner chart r c ≡ Err e) ⊎ OverviewRefuses chart overview r c e) × ((e ≡ Refusal.OutsideTiles) ⊎ (e ≡ Refusal.Padding))
+    go (Ok x) p f =
+        let lat = x.lat in
+        let lon = x.lon in
         let i = answered-in-range Pair.Corner chart h r c lat lon p in
         let r' = row_of Pair.Corner overview lat in
         let c' = column_of Pair.Corner overview lon in (
           inr (record { lat = lat; lon = lon; position = p; pixel = f }),
-          verdict-refuses PixelAnswer.Refused (PixelAnswer.At r' c') overview r' c' e
-              (λ n g. cc) (λ g. let z : ◌≡◌ {A = ℕ} 0 1 = cc in omega arith)
+          verdict-refuses (record { row = r'; column = c' }) overview r' c' e
               (rw (i.latitude, longitude-in lon i.west i.east) at f),
         )
-    go (PositionAnswer.Refused n) p f =
-        let g : position_of Pair.Corner chart r c ≡ PositionAnswer.Refused e = p ∙ ap PositionAnswer.Refused (cc) in (
+    go (Err n) p f =
+        let g : position_of Pair.Corner chart r c ≡ Err e = p ∙ ap Err (cc) in (
           inl g,
-          verdict-refuses PositionAnswer.Refused (PositionAnswer.At (latitude_of Pair.Corner chart r) (longitude_of Pair.Corner chart c)) chart r c e
-              (λ n g. cc) (λ g. let z : ◌≡◌ {A = ℕ} 0 1 = cc in omega arith) g,
+          verdict-refuses (record { lat = latitude_of Pair.Corner chart r; lon = longitude_of Pair.Corner chart c }) chart r c e g,
         )

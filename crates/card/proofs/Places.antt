@@ -1,5 +1,7 @@
 -- Each later card, by demand 3's walk over it alone: it gives a pixel of its chart at the place, or the chart does not have the place and
 -- the refusal is 12 or 13. Two pixels of the tiles with one place are one, since the tiles go round the circle once at most. Assumes nothing.
+use Rattle.std.specs.Prelude.{Result, Ok, Err}
+use Rattle.card.specs.Grid.{at_position, at_pixel}
 use mathlib.Core.Path.{◌≡◌, refl, sym, ap, ap₂, ◌∙◌, subst₂}
 use mathlib.Core.Bool.{true}
 use mathlib.Core.List.{List, [], ◌∷◌, map}
@@ -8,26 +10,27 @@ use Prim.Native.Nat.{ℕ, ◌+◌, ◌*◌, ◌/◌, ◌%◌}
 use native.Mathlib.Omega.{arith}
 use lib.IntN.{ℤ, pos, ◌*ℤ◌}
 use Rattle.whole.proofs.Signed.{over, under, is-parts, is-equal, equal_is, is-minus}
-use Rattle.arc.specs.declared.Series.{Series}
-use Rattle.arc.specs.declared.Refusal.{Refusal}
-use Rattle.arc.specs.Refusals.{refusal}
-use Rattle.card.specs.declared.Card.{Card}
+use Rattle.arc.specs.declared.series.Series.{Series}
+use Rattle.arc.specs.declared.refusal.Refusal.{Refusal}
+use Rattle.card_text.specs.declared.Fields.{Fields}
 use Rattle.card.specs.declared.Pair.{Pair}
-use Rattle.card.specs.declared.PositionAnswer.{PositionAnswer}
-use Rattle.card.specs.declared.PixelAnswer.{PixelAnswer}
-use Rattle.card.specs.Read.{Accepted}
+use Rattle.card.specs.declared.Position.{Position}
+use Rattle.card.specs.declared.Pixel.{Pixel}
+use Rattle.card_text.specs.Read.{Accepted}
 use Rattle.card.specs.Grid.{place_row, place_column, in_tiles, in_chart, position_of, pixel_of}
 use Rattle.card.specs.NoDrift.{HasPlace, TilesHave, ChartHas, Visit, gave, refused, visit_with, visit, visits, latitude_after, longitude_after}
 use Rattle.card.specs.NoDrift.{Right, Every}
 use Rattle.card.specs.Places.{OnlyAt, GivesWhere, GivesOnly, RefusesWhere, EachLater, GivesExactly, OnlyPixel, RefusesExactly, AskedAlike}
-use Rattle.card.proofs.Laid.{Laid, accepted-laid}
+use Rattle.card_text.proofs.Laid.{Laid, accepted-laid}
 use Rattle.card.proofs.Axes.{north-is, east-high, column-place}
 use Rattle.card.proofs.Regions.{Within, tiles-inside, chart-tiles}
+use Rattle.arc.specs.Refusals.{number_of}
+use Rattle.card.proofs.Same.{same-pixel, same-position}
 use Rattle.card.proofs.Chain.{same-column, no-drift}
 
 -- ---- a place has one pixel of the tiles
 
-module _ (k : Card) (l : Laid k) where
+module _ (k : Fields) (l : Laid k) where
   one-row : (r i : ℤ) → place_row k r ≡ place_row k i → r ≡ i
   one-row r i e =
       let s : ℕ = 128 * (k.b / 512) in
@@ -58,51 +61,51 @@ module _ (k : Card) (l : Laid k) where
 
 -- ---- what one later card answers
 
-pub record Told (p : Pair) (k : Card) (u v lat lon : ℤ) : Type 0 where
+pub record Told (p : Pair) (k : Fields) (u v lat lon : ℤ) : Type 0 where
   pub gives : GivesWhere p k u v lat lon
   pub only : GivesOnly p k u v lat lon
-  pub back : (r c : ℤ) → pixel_of p k lat lon ≡ PixelAnswer.At r c → position_of p k r c ≡ PositionAnswer.At lat lon
+  pub back : (r c : ℤ) → pixel_of p k lat lon ≡ at_pixel r c → position_of p k r c ≡ at_position lat lon
   pub refuses : RefusesWhere p k u v lat lon
 
 -- the answers differ
-pub no-pixel : {A : Type 0} {x : PixelAnswer} {r c : ℤ} {e : Refusal} → x ≡ PixelAnswer.Refused e → x ≡ PixelAnswer.At r c → A
+pub no-pixel : {A : Type 0} {x : Result Pixel Refusal} {r c : ℤ} {e : Refusal} → x ≡ Err e → x ≡ at_pixel r c → A
 no-pixel p q = let z : ◌≡◌ {A = ℕ} 0 1 = cc in absurd (omega arith)
 
-not-both : {A : Type 0} {x : PixelAnswer} → x ≡ PixelAnswer.Refused (refusal 12) → x ≡ PixelAnswer.Refused (refusal 13) → A
+not-both : {A : Type 0} {x : Result Pixel Refusal} → x ≡ Err Refusal.OutsideTiles → x ≡ Err Refusal.Padding → A
 not-both p q =
-    let e : refusal 12 ≡ refusal 13 = cc in
-    let z : ◌≡◌ {A = ℕ} 12 13 = ap (λ (r : Refusal). r.number) e in absurd (omega arith)
+    let e : Refusal.OutsideTiles ≡ Refusal.Padding = cc in
+    let z : ◌≡◌ {A = ℕ} 12 13 = ap number_of e in absurd (omega arith)
 
 -- T being what a pixel of the tiles has, and C one of the chart
-pub refuses : {T C : Type 0} {x : PixelAnswer} (e : Refusal) → x ≡ PixelAnswer.Refused e
-    → (C → ⊥) × (((e ≡ refusal 12) × (T → ⊥)) ⊎ ((e ≡ refusal 13) × T))
-    → (x ≡ PixelAnswer.Refused (refusal 12) ↔ (¬ T)) × (x ≡ PixelAnswer.Refused (refusal 13) ↔ (T × (¬ C)))
+pub refuses : {T C : Type 0} {x : Result Pixel Refusal} (e : Refusal) → x ≡ Err e
+    → (C → ⊥) × (((e ≡ Refusal.OutsideTiles) × (T → ⊥)) ⊎ ((e ≡ Refusal.Padding) × T))
+    → (x ≡ Err Refusal.OutsideTiles ↔ (¬ T)) × (x ≡ Err Refusal.Padding ↔ (T × (¬ C)))
 refuses e g (lacks, inl (is, bare)) =
-    let q = g ∙ ap PixelAnswer.Refused is in
+    let q = g ∙ ap Err is in
     (((λ f. bare), (λ n. q)), ((λ f. not-both q f), (λ n. absurd (bare n.0))))
 refuses e g (lacks, inr (is, tiled)) =
-    let q = g ∙ ap PixelAnswer.Refused is in
+    let q = g ∙ ap Err is in
     (((λ f. not-both f q), (λ n. absurd (n tiled))), ((λ f. (tiled, lacks)), (λ n. q)))
 
-module _ (p : Pair) (k : Card) (l : Laid k) (u v lat lon : ℤ) where
-  told : (x : PixelAnswer) → pixel_of p k lat lon ≡ x → Right u v lat lon k (visit_with p k x) → Told p k u v lat lon
-  told (PixelAnswer.At r c) g h =
+module _ (p : Pair) (k : Fields) (l : Laid k) (u v lat lon : ℤ) where
+  told : (x : Result Pixel Refusal) → pixel_of p k lat lon ≡ x → Right u v lat lon k (visit_with p k x) → Told p k u v lat lon
+  told (Ok x) g h =
+      let r = x.row in
+      let c = x.column in
       let tiles = chart-tiles k r c l h.0 in
       let has : ChartHas k u v = record { r = r; c = c; within = h.0; at = h.1 } in
       let tiled : TilesHave k u v = record { r = r; c = c; within = tiles; at = h.1 } in
       record {
         gives = ((λ f. has), (λ f. record { r = r; c = c; given = g }));
         only = λ i j f.
-            let x : r ≡ i = cc in
-            let y : c ≡ j = cc in
-            subst₂ (OnlyAt k u v) x y (h.1, λ i j. one-pixel k l u v r c i j tiles h.1);
+            let e = same-pixel r c i j (sym g ∙ f) in
+            subst₂ (OnlyAt k u v) e.0 e.1 (h.1, λ i j. one-pixel k l u v r c i j tiles h.1);
         back = λ i j f.
-            let x : i ≡ r = cc in
-            let y : j ≡ c = cc in
-            ap₂ (position_of p k) x y ∙ h.2;
+            let e = same-pixel i j r c (sym f ∙ g) in
+            ap₂ (position_of p k) e.0 e.1 ∙ h.2;
         refuses = (((λ f. no-pixel f g), (λ n. absurd (n tiled))), ((λ f. no-pixel f g), (λ n. absurd (n.1 has))));
       }
-  told (PixelAnswer.Refused e) g h =
+  told (Err e) g h =
       record {
         gives = ((λ f. no-pixel g f.given), (λ f. absurd (h.0 f)));
         only = λ i j f. no-pixel g f;
@@ -111,29 +114,27 @@ module _ (p : Pair) (k : Card) (l : Laid k) (u v lat lon : ℤ) where
       }
 
 -- the walk over one later card
-module _ (p : Pair) (series : Series) (first : Card) (h : Accepted series first) (r c : ℤ) (within : in_chart first r c ≡ true)
-    (lat lon : ℤ) (answered : position_of p first r c ≡ PositionAnswer.At lat lon) where
-  visit-right : (k : Card) → Accepted series k → Right (place_row first r) (place_column first c) lat lon k (visit p k lat lon)
+module _ (p : Pair) (series : Series) (first : Fields) (h : Accepted series first) (r c : ℤ) (within : in_chart first r c ≡ true)
+    (lat lon : ℤ) (answered : position_of p first r c ≡ at_position lat lon) where
+  visit-right : (k : Fields) → Accepted series k → Right (place_row first r) (place_column first c) lat lon k (visit p k lat lon)
   visit-right k q =
       let w = no-drift p series first (k ∷ []) (h, (q, tt)) r c within in
-      let e = w.answered in
-      let x : w.lat ≡ lat = cc in
-      let y : w.lon ≡ lon = cc in
-      subst₂ (λ (x y : ℤ). Right (place_row first r) (place_column first c) x y k (visit p k x y)) x y w.each.0
+      let e = same-position w.lat w.lon lat lon (sym w.answered ∙ answered) in
+      subst₂ (λ (x y : ℤ). Right (place_row first r) (place_column first c) x y k (visit p k x y)) e.0 e.1 w.each.0
 
-  pub told-by-place : (k : Card) → Accepted series k → Told p k (place_row first r) (place_column first c) lat lon
+  pub told-by-place : (k : Fields) → Accepted series k → Told p k (place_row first r) (place_column first c) lat lon
   told-by-place k q = told p k (accepted-laid series k q) _ _ lat lon (pixel_of p k lat lon) refl (visit-right k q)
 
   -- the position that goes on is the same
-  kept : (k : Card) (x : Visit) → Right (place_row first r) (place_column first c) lat lon k x
+  kept : (k : Fields) (x : Visit) → Right (place_row first r) (place_column first c) lat lon k x
       → (latitude_after lat x ≡ lat) × (longitude_after lon x ≡ lon)
   kept k (gave i j a) h = (
-    ap (λ (a : PositionAnswer). latitude_after lat (gave i j a)) h.2,
-    ap (λ (a : PositionAnswer). longitude_after lon (gave i j a)) h.2,
+    ap (λ (a : Result Position Refusal). latitude_after lat (gave i j a)) h.2,
+    ap (λ (a : Result Position Refusal). longitude_after lon (gave i j a)) h.2,
   )
   kept k (refused e) h = (refl, refl)
 
-  alike : (rest : List Card) → Every (Accepted series) rest → visits p lat lon rest ≡ map (λ k. visit p k lat lon) rest
+  alike : (rest : List Fields) → Every (Accepted series) rest → visits p lat lon rest ≡ map (λ k. visit p k lat lon) rest
   alike [] q = refl
   alike (k ∷ rest) q =
       let e = kept k (visit p k lat lon) (visit-right k q.0) in
@@ -141,11 +142,11 @@ module _ (p : Pair) (series : Series) (first : Card) (h : Accepted series first)
 
 -- ---- the claims
 
-every : {A B : Card → Type 0} → ((k : Card) → A k → B k) → (ks : List Card) → Every A ks → Every B ks
+every : {A B : Fields → Type 0} → ((k : Fields) → A k → B k) → (ks : List Fields) → Every A ks → Every B ks
 every f [] h = tt
 every f (k ∷ ks) h = (f k h.0, every f ks h.1)
 
-each : {P : Pair → Card → ℤ → ℤ → ℤ → ℤ → Type 0} → ((p : Pair) (k : Card) (u v lat lon : ℤ) → Told p k u v lat lon → P p k u v lat lon)
+each : {P : Pair → Fields → ℤ → ℤ → ℤ → ℤ → Type 0} → ((p : Pair) (k : Fields) (u v lat lon : ℤ) → Told p k u v lat lon → P p k u v lat lon)
     → EachLater P
 each f p series first rest all r c i lat lon a =
     every (λ k q. f p k _ _ lat lon (told-by-place p series first all.0 r c i lat lon a k q)) rest all.1

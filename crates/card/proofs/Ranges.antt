@@ -1,24 +1,21 @@
 -- What `count_position` answered of a position: the refusal that each question gives, or the position counted in naturals. Assumes nothing.
 use mathlib.Core.Path.{◌≡◌, refl, sym, ap, ap₂, ◌∙◌}
-use mathlib.Core.Bool.{Bool, true, false, cond}
+use mathlib.Core.Bool.{Bool, true, false}
 use Prim.Native.Nat.{ℕ, ◌+◌}
 use native.Mathlib.Omega.{arith}
 use lib.IntN.{ℤ, pos, negsuc, ◌-ℤ◌}
 use mir.Syntax.{w64}
 use mir.Val.{SFits, to_z, of_z}
 use mir.ValLaws.{to_z-of_z}
+use Rattle.std.specs.Prelude.{if◌then◌else◌, Result, Ok, Err}
 use Rattle.whole.specs.Whole.{outside, raise}
 use Rattle.whole.proofs.Signed.{Is, is-equal, is-unique, is-minus, is-difference, is-raise, raise-high}
 use Rattle.whole.proofs.Counts.{Inside, inside_is}
-use Rattle.arc.specs.declared.Refusal.{Refusal}
-use Rattle.arc.specs.Refusals.{refusal}
+use Rattle.arc.specs.declared.refusal.Refusal.{Refusal}
 use Rattle.arc.specs.Zones.{half, quarter}
 use Rattle.card.specs.declared.range.Ranged.{Ranged}
 use Rattle.card.specs.Steps.{ranged_of}
-
-pub raise-is : (t : ℕ) (z : ℤ) (n : ℕ) → Is z n t → raise t z ≡ n
-raise-is t (pos m) n e = e
-raise-is t (negsuc m) n e = omega arith
+use Rattle.card_text.proofs.Values.{raise-is}
 
 pub inside-raise : {k : ℕ} {z : ℤ} {n : ℕ} → Inside k z n → raise k z ≡ n
 inside-raise {k} {z} {n} i = raise-is k z n (inside_is i)
@@ -41,30 +38,36 @@ pub record Counts (lat lon : ℤ) (north east : ℕ) : Type 0 where
   pub rows : Inside quarter lat north
   pub columns : Inside half lon east
 
-module _ (lat lon : ℤ) (f : SFits w64 lat) (g : SFits w64 lon) {r : Ranged} (e : r ≡ ranged_of (to_z w64 (of_z w64 lat)) (to_z w64 (of_z w64 lon))) where
+abbrev north_in : Result Ranged Refusal → ℕ
+north_in (Ok x) = x.north
+north_in (Err e) = 0
+
+abbrev east_in : Result Ranged Refusal → ℕ
+east_in (Ok x) = x.east
+east_in (Err e) = 0
+
+module _ (lat lon : ℤ) (f : SFits w64 lat) (g : SFits w64 lon) {r : Result Ranged Refusal} (e : r ≡ ranged_of (to_z w64 (of_z w64 lat)) (to_z w64 (of_z w64 lon))) where
   plain : ranged_of lat lon ≡ r
   plain = sym (e ∙ ap₂ ranged_of (to_z-of_z w64 lat f) (to_z-of_z w64 lon g))
 
   -- a question that asks the same of the position has the same refusal
-  pub ranged-refused : {A : Type 0} (F : Refusal → A) (x : A) {n : Refusal} → r ≡ Ranged.Refused n
-      → F n ≡ cond (outside quarter lat) (F (refusal 4)) (cond (outside half lon) (F (refusal 5)) x)
-  ranged-refused {A} F x {n} o = go (outside quarter lat) (outside half lon) (plain ∙ o)
+  pub ranged-refused : {A : Type 0} (y : Result A Refusal) {n : Refusal} → r ≡ Err n
+      → Err n ≡ (if outside quarter lat then Err Refusal.Latitude else (if outside half lon then Err Refusal.Longitude else y))
+  ranged-refused {A} y {n} o = go (outside quarter lat) (outside half lon) (plain ∙ o)
     where
       go : (s t : Bool)
-          → cond s (Ranged.Refused (refusal 4)) (cond t (Ranged.Refused (refusal 5)) (Ranged.At (raise quarter lat) (raise half lon)))
-          ≡ Ranged.Refused n
-          → F n ≡ cond s (F (refusal 4)) (cond t (F (refusal 5)) x)
-      go true t p = let q : n ≡ refusal 4 = cc in ap F q
-      go false true p = let q : n ≡ refusal 5 = cc in ap F q
+          → ◌≡◌ {A = Result Ranged Refusal} (if s then Err Refusal.Latitude else (if t then Err Refusal.Longitude else Ok (record { north = raise quarter lat; east = raise half lon }))) (Err n)
+          → ◌≡◌ {A = Result A Refusal} (Err n) (if s then Err Refusal.Latitude else (if t then Err Refusal.Longitude else y))
+      go true t p = let q : n ≡ Refusal.Latitude = cc in ap Err q
+      go false true p = let q : n ≡ Refusal.Longitude = cc in ap Err q
       go false false p = let y : ◌≡◌ {A = ℕ} 0 1 = cc in absurd (omega arith)
 
-  pub ranged-at : {n m : ℕ} → r ≡ Ranged.At n m → Counts lat lon n m
-  ranged-at {n} {m} o = go (outside quarter lat) (outside half lon) refl refl (plain ∙ o)
+  pub ranged-at : {x : Ranged} → r ≡ Ok x → Counts lat lon x.north x.east
+  ranged-at {x} o = go (outside quarter lat) (outside half lon) refl refl (plain ∙ o)
     where
       go : (s t : Bool) → outside quarter lat ≡ s → outside half lon ≡ t
-          → cond s (Ranged.Refused (refusal 4)) (cond t (Ranged.Refused (refusal 5)) (Ranged.At (raise quarter lat) (raise half lon)))
-          ≡ Ranged.At n m
-          → Counts lat lon n m
+          → ◌≡◌ {A = Result Ranged Refusal} (if s then Err Refusal.Latitude else (if t then Err Refusal.Longitude else Ok (record { north = raise quarter lat; east = raise half lon }))) (Ok x)
+          → Counts lat lon x.north x.east
       go true t es et p = let y : ◌≡◌ {A = ℕ} 0 1 = cc in absurd (omega arith)
       go false true es et p = let y : ◌≡◌ {A = ℕ} 0 1 = cc in absurd (omega arith)
-      go false false es et p = record { rows = raise-inside quarter lat n es (cc); columns = raise-inside half lon m et (cc) }
+      go false false es et p = record { rows = raise-inside quarter lat x.north es (ap north_in p); columns = raise-inside half lon x.east et (ap east_in p) }

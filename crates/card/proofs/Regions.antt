@@ -6,10 +6,10 @@ use native.Mathlib.Omega.{arith}
 use borrow.Author.Tests.{le-leb, lt-ltb}
 use lib.IntN.{ℤ, pos, negsuc}
 use lib.Signed.{le_z, lt_z}
-use Rattle.card.specs.declared.Card.{Card}
+use Rattle.card_text.specs.declared.Fields.{Fields}
 use Rattle.card.specs.Grid.{in_tiles, in_chart}
-use Rattle.card.proofs.Walked.{between, within}
-use Rattle.card.proofs.Laid.{Laid}
+use Rattle.card_text.proofs.Walked.{between, within}
+use Rattle.card_text.proofs.Laid.{Laid}
 
 -- z is a natural from low up to but not including n
 pub record Within (low n : ℕ) (z : ℤ) : Type 0 where
@@ -31,11 +31,11 @@ upto low high n (negsuc m) h e = let x : ◌≡◌ {A = ℕ} 0 1 = cc in absurd 
 within-test : (low n : ℕ) (z : ℤ) → Within low n z → le_z (pos 0) z && lt_z z (pos n) ≡ true
 within-test low n z w = rw (w.same, le-leb 0 w.at (omega arith), lt-ltb w.at n w.below)
 
-pub record PixelInside (k : Card) (r c : ℤ) : Type 0 where
+pub record PixelInside (k : Fields) (r c : ℤ) : Type 0 where
   pub row : Within 0 (128 * k.nfl) r
   pub column : Within 0 (128 * k.nfc) c
 
-module _ (k : Card) (r c : ℤ) where
+module _ (k : Fields) (r c : ℤ) where
   pub tiles-inside : in_tiles k r c ≡ true → PixelInside k r c
   tiles-inside e =
       let t = (and-eq-true_iff (le_z (pos 0) r && lt_z r (pos (128 * k.nfl))) (le_z (pos 0) c && lt_z c (pos (128 * k.nfc)))).0 e in

@@ -1,8 +1,4 @@
-pub mod Layout
-pub mod Extents
-pub mod Blanks
 pub mod Read
-pub mod Write
 pub mod Grid
 pub mod NoDrift
 pub mod Places
@@ -11,6 +7,4 @@ pub mod Ranges
 pub mod Contained
 pub mod Overview
 pub mod Offset
-pub mod RoundTrips
-pub mod Strict
 pub mod Steps

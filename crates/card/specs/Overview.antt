@@ -1,30 +1,28 @@
 -- The overview pixel of a chart's pixel, in the corner pair (02, E4, E8). Definitions and claims: the proofs are proofs/Nearest.antt.
---     on_position x f g                     f of the refusal, else g of latitude and longitude
 --     overview_pixel_of chart overview r c  what the method `overview_pixel` answers
 --     apart x angle u                       |angle − u H / x|, times x: how far an angle is from u pixels, x being A or B
 --     NearestRow, NearestColumn             no other row, or column, of the grid is as near
 --     PixelNearest                          the pixel that a card gives for a position in the corner pair is the nearest
 --     OverviewNearest                       so it is with an overview
 --     OverviewRefused                       what an overview question is refused with
+use Rattle.std.specs.Prelude.{Result, Err}
+use Rattle.card.specs.Grid.{at_position, at_pixel}
 use Rattle.std.specs.Prelude.{◌≡◌, ◌⊎◌, ℕ, ◌*◌, ◌<◌, ℤ, pos, nat_abs, ◌+ℤ◌, ◌-ℤ◌, ◌*ℤ◌, ◌≤ℤ◌, ◌<ℤ◌}
-use Rattle.arc.specs.declared.Refusal.{Refusal}
-use Rattle.arc.specs.Refusals.{refusal}
+use Rattle.arc.specs.declared.refusal.Refusal.{Refusal}
+use Rattle.whole.specs.Results.{◌>>=◌}
 use Rattle.arc.specs.Zones.{circle}
-use Rattle.card.specs.declared.Card.{Card}
+use Rattle.card_text.specs.declared.Fields.{Fields}
 use Rattle.card.specs.declared.Pair.{Pair}
-use Rattle.card.specs.declared.PositionAnswer.{PositionAnswer}
-use Rattle.card.specs.declared.PixelAnswer.{PixelAnswer}
-use Rattle.card.specs.Read.{Known}
+use Rattle.card.specs.declared.Position.{Position}
+use Rattle.card.specs.declared.Pixel.{Pixel}
+use Rattle.card_text.specs.Read.{Known}
 use Rattle.card.specs.Grid.{place_row, place_column, position_of, pixel_of}
 
--- what was refused before comes first
-abbrev pub on_position : {A : Type 0} → PositionAnswer → (Refusal → A) → (ℤ → ℤ → A) → A
-on_position (PositionAnswer.At lat lon) f g = g lat lon
-on_position (PositionAnswer.Refused r) f g = f r
-
 -- the chart's card answers its position, then the overview's card the pixel there, each with its own refusals
-unfoldable pub overview_pixel_of : Card → Card → ℤ → ℤ → PixelAnswer
-overview_pixel_of chart overview r c = on_position (position_of Pair.Corner chart r c) PixelAnswer.Refused (λ lat lon. pixel_of Pair.Corner overview lat lon)
+unfoldable pub overview_pixel_of : Fields → Fields → ℤ → ℤ → Result Pixel Refusal
+overview_pixel_of chart overview r c = do
+  x ← position_of Pair.Corner chart r c
+  pixel_of Pair.Corner overview x.lat x.lon
 
 -- ---- what is true of it, for any two accepted cards, and so for a chart and an overview of one zone and scale
 
@@ -44,34 +42,34 @@ pub record NearestColumn (a : ℕ) (lon v : ℤ) : Type 0 where
       → apart a (lon +ℤ circles *ℤ pos circle) v < apart a (lon +ℤ turns *ℤ pos circle) w
 
 -- pixel (r, c) of the card k has the nearest place of k's grid to the position
-pub record NearestPlace (k : Card) (lat lon r c : ℤ) : Type 0 where
+pub record NearestPlace (k : Fields) (lat lon r c : ℤ) : Type 0 where
   pub row : NearestRow k.b lat (place_row k r)
   pub column : NearestColumn k.a lon (place_column k c)
 
 abbrev pub PixelNearest : Type 0
-PixelNearest = (k : Card) → Known k → (lat lon r c : ℤ) → pixel_of Pair.Corner k lat lon ≡ PixelAnswer.At r c → NearestPlace k lat lon r c
+PixelNearest = (k : Fields) → Known k → (lat lon r c : ℤ) → pixel_of Pair.Corner k lat lon ≡ at_pixel r c → NearestPlace k lat lon r c
 
 -- the chart answered a position, and the overview's pixel is the nearest to it
-pub record OverviewFound (chart overview : Card) (r c r' c' : ℤ) : Type 0 where
+pub record OverviewFound (chart overview : Fields) (r c r' c' : ℤ) : Type 0 where
   pub lat : ℤ
   pub lon : ℤ
-  pub position : position_of Pair.Corner chart r c ≡ PositionAnswer.At lat lon
+  pub position : position_of Pair.Corner chart r c ≡ at_position lat lon
   pub pixel : NearestPlace overview lat lon r' c'
 
 abbrev pub OverviewNearest : Type 0
 OverviewNearest =
-    (chart overview : Card) → Known chart → Known overview → (r c r' c' : ℤ)
-    → overview_pixel_of chart overview r c ≡ PixelAnswer.At r' c' → OverviewFound chart overview r c r' c'
+    (chart overview : Fields) → Known chart → Known overview → (r c r' c' : ℤ)
+    → overview_pixel_of chart overview r c ≡ at_pixel r' c' → OverviewFound chart overview r c r' c'
 
 -- the chart answered a position, and the overview refuses that
-pub record OverviewRefuses (chart overview : Card) (r c : ℤ) (e : Refusal) : Type 0 where
+pub record OverviewRefuses (chart overview : Fields) (r c : ℤ) (e : Refusal) : Type 0 where
   pub lat : ℤ
   pub lon : ℤ
-  pub position : position_of Pair.Corner chart r c ≡ PositionAnswer.At lat lon
-  pub pixel : pixel_of Pair.Corner overview lat lon ≡ PixelAnswer.Refused e
+  pub position : position_of Pair.Corner chart r c ≡ at_position lat lon
+  pub pixel : pixel_of Pair.Corner overview lat lon ≡ Err e
 
 -- the chart's refusal first, else the overview's; 12 or 13, never 4 or 5
 abbrev pub OverviewRefused : Type 0
 OverviewRefused =
-    (chart overview : Card) → Known chart → Known overview → (r c : ℤ) (e : Refusal) → overview_pixel_of chart overview r c ≡ PixelAnswer.Refused e
-    → ((position_of Pair.Corner chart r c ≡ PositionAnswer.Refused e) ⊎ OverviewRefuses chart overview r c e) × ((e ≡ refusal 12) ⊎ (e ≡ refusal 13))
+    (chart overview : Fields) → Known chart → Known overview → (r c : ℤ) (e : Refusal) → overview_pixel_of chart overview r c ≡ Err e
+    → ((position_of Pair.Corner chart r c ≡ Err e) ⊎ OverviewRefuses chart overview r c e) × ((e ≡ Refusal.OutsideTiles) ⊎ (e ≡ Refusal.Padding))

@@ -1,144 +1,19 @@
--- Reading a card: 1, 17, 1 (02, E4), 2, 3, 6, the subfields left to right with 7 before 8 in each, 9, 10, 11 (01, "Numbers given in refusal").
--- Definitions only.
---     tile_storing x t angle  the whole number from −t to t whose stored angle this is; the angle fixes it
---     card_of ..              the value of a card that is not refused
---     read_as fill series s   what reading answers, whatever may fill the numbers
---     read_of series s        what reading answers: blanks may stand before a number's digits, and the total of them is told (02, E2)
---     read_strict series s    what reading answers where none may: 01 as it stands
---     Accepted, Known         some bytes are read to this card
---     on_card x f g           a question on a card as it was read: reading's refusal first, then the question's own answer
---     told_on_card t x f g    what is told of it: its report and the total of blanks (02, E2)
-use Rattle.std.specs.Prelude.{◌≡◌, ℕ, ◌+◌, ◌*◌, ◌/◌, List, Bool, false, cond, ◌&&◌, eqb, length, get_or, replicate, ℤ, pos, negsuc, neg_ℤ}
-use Rattle.std.proofs.Math.Option.{Option, some, none}
-use Rattle.std.proofs.Math.IntN.{suc_ℤ}
-use Rattle.whole.specs.Whole.{raise}
-use Rattle.whole.specs.Lists.{first_from}
-use Rattle.arc.specs.declared.Series.{Series}
-use Rattle.arc.specs.declared.Refusal.{Refusal}
-use Rattle.arc.specs.declared.Verdict.{Verdict}
-use Rattle.arc.specs.declared.SpacingAnswer.{SpacingAnswer}
-use Rattle.arc.specs.Refusals.{Report, refusal, on_verdict}
-use Rattle.arc.specs.Zones.{is_polar}
-use Rattle.arc.specs.Spacing.{spacing_of}
-use Rattle.origin.specs.Origin.{stored_angle}
-use Rattle.card.specs.declared.Card.{Card}
+-- A card as it was read. Definitions only: what reading means is crate card_text's.
+--     card_read series s         what `Card::read` answers: blanks may stand before a number's digits, and the total of them is told
+--     card_read_strict series s  what `Card::read_strict` answers: none may
+use Rattle.std.specs.Prelude.{ℕ, List, Result, Ok}
+use Rattle.whole.specs.Results.{◌>>=◌}
+use Rattle.arc.specs.declared.refusal.Refusal.{Refusal}
+use Rattle.arc.specs.declared.series.Series.{Series}
+use Rattle.card_text.specs.Read.{read_of, read_strict}
 use Rattle.card.specs.declared.Reading.{Reading}
-use Rattle.card.specs.declared.Fill.{Fill}
-use Rattle.text.specs.Text.{number, angle_of}
-use Rattle.card.specs.Layout.{Subfield, ARV, BRV, LSO, PSO, NUL, NUS, NLL, NLS, NFL, NFC, BAD, TIF, layout, bytes_of, walk}
-use Rattle.card.specs.Blanks.{total_blanks, with_total}
-use Rattle.card.specs.Extents.{extents_hold}
 
-abbrev pub equal_ℤ : ℤ → ℤ → Bool
-equal_ℤ (pos m) (pos n) = eqb m n
-equal_ℤ (pos m) (negsuc n) = false
-equal_ℤ (negsuc m) (pos n) = false
-equal_ℤ (negsuc m) (negsuc n) = eqb m n
+abbrev pub card_read : Series → List ℕ → Result Reading Refusal
+card_read series s = do
+  x ← read_of series s
+  Ok (record { card = x.fields; blanks = x.blanks })
 
-abbrev pub tile_storing : ℕ → ℕ → ℤ → Option ℤ
-tile_storing x t angle = first_from suc_ℤ (λ k. equal_ℤ (stored_angle x k) angle) (neg_ℤ (pos t)) (2 * t + 1)
-
--- the values of the subfields
-abbrev pub number_in : Subfield → List ℕ → ℕ
-number_in f s = number (bytes_of f s)
-
--- north and east: 128 n and 128 m counted from the South Pole and from 180° west
-unfoldable pub card_of : Series → ℕ → ℕ → ℤ → ℤ → List ℕ → Card
-card_of series a b n m s =
-    record {
-      series = series;
-      a = a;
-      b = b;
-      n = n;
-      m = m;
-      nul = number_in NUL s;
-      nus = number_in NUS s;
-      nll = number_in NLL s;
-      nls = number_in NLS s;
-      nfl = number_in NFL s;
-      nfc = number_in NFC s;
-      bad = bytes_of BAD s;
-      tif = eqb (get_or (bytes_of TIF s) 0 0) 89;
-      north = 128 * raise (b / 512) n;
-      east = 128 * raise (a / 256) m;
-    }
-
--- value parts are 0 in a refusal
-abbrev pub no_card : Card
-no_card =
-    record {
-      series = record { scale = 0; factor = 0; zone = 0 };
-      a = 0;
-      b = 0;
-      n = pos 0;
-      m = pos 0;
-      nul = 0;
-      nus = 0;
-      nll = 0;
-      nls = 0;
-      nfl = 0;
-      nfc = 0;
-      bad = replicate 12 0;
-      tif = false;
-      north = 0;
-      east = 0;
-    }
-
--- and so many blanks were met
-abbrev pub accepted_card : Card → ℕ → Reading
-accepted_card k total = record { verdict = Verdict.Accepted; card = k; blanks = total }
-
-abbrev pub refused_card : Refusal → Reading
-refused_card r = record { verdict = Verdict.Refused r; card = no_card; blanks = 0 }
-
--- 11
-abbrev pub with_extents : Card → ℕ → Reading
-with_extents k total =
-    cond (extents_hold k.a k.b k.n k.nul k.nus k.nll k.nls k.nfl k.nfc) (accepted_card k total) (refused_card (refusal 11))
-
--- 10, 11
-abbrev pub with_origin : Series → ℕ → ℕ → List ℕ → Option ℤ → Option ℤ → Reading
-with_origin series a b s (some n) (some m) = with_extents (card_of series a b n m s) (total_blanks layout s)
-with_origin series a b s (some n) none = refused_card (refusal 10)
-with_origin series a b s none m = refused_card (refusal 10)
-
--- 9, 10, 11
-unfoldable pub with_values : Series → ℕ → ℕ → List ℕ → Reading
-with_values series a b s =
-    cond (eqb (number_in ARV s) a && eqb (number_in BRV s) b)
-    (with_origin series a b s (tile_storing b (b / 512) (angle_of 2 (bytes_of PSO s))) (tile_storing a (a / 256) (angle_of 3 (bytes_of LSO s))))
-    (refused_card (refusal 9))
-
--- 3, 6, then 7, 8, then these
-unfoldable pub read_in : Fill → Series → SpacingAnswer → List ℕ → Reading
-read_in fill series (SpacingAnswer.Constants a b) s =
-    cond (is_polar series.zone) (refused_card (refusal 3))
-    (cond (eqb (length s) 98) (on_verdict (walk fill layout s) refused_card (with_values series a b s)) (refused_card (refusal 6)))
-read_in fill series (SpacingAnswer.Refused r) s = refused_card r
-
--- 1, 17, 1, 2, then these
-abbrev pub read_as : Fill → Series → List ℕ → Reading
-read_as fill series s = read_in fill series (spacing_of series) s
-
-abbrev pub read_of : Series → List ℕ → Reading
-read_of series s = read_as Fill.Blanks series s
-
-abbrev pub read_strict : Series → List ℕ → Reading
-read_strict series s = read_as Fill.Zeros series s
-
--- a card is accepted when reading does not refuse it (01, "Origins and the zone grid")
-pub record Accepted (series : Series) (k : Card) : Type 0 where
-  pub bytes : List ℕ
-  pub blanks : ℕ
-  pub read : read_of series bytes ≡ accepted_card k blanks
-
--- some accepted card gives the value
-pub record Known (k : Card) : Type 0 where
-  pub series : Series
-  pub is_read : Accepted series k
-
-abbrev pub on_card : {A : Type 0} → Reading → (Refusal → A) → (Card → A) → A
-on_card x f g = on_verdict x.verdict f (g x.card)
-
-abbrev pub told_on_card : {A : Type 0} → (A → Report) → Reading → (Refusal → A) → (Card → A) → Report
-told_on_card report x f g = with_total x.blanks (report (on_card x f g))
+abbrev pub card_read_strict : Series → List ℕ → Result Reading Refusal
+card_read_strict series s = do
+  x ← read_strict series s
+  Ok (record { card = x.fields; blanks = x.blanks })

@@ -1,13 +1,13 @@
-// Offsets from a centre (01, "Origins and the zone grid").
+// Offsets from a centre.
 ghost use Rattle.std.specs.Prelude.{◌≡◌, ◌≤◌, pos, ◌-ℤ◌};
 ghost use Rattle.card.specs.Grid.{into_range};
 ghost use Rattle.card.specs.Offset.{difference, offset_of};
 
-use crate::range::{self, Ranged};
-use crate::{Offset, OffsetAnswer};
-use arc::Circle;
+use crate::Offset;
+use crate::range;
+use arc::{Circle, Refusal};
 
-// The longitude difference the short way, both counted from 180° west.
+/// The longitude difference the short way, both counted from 180° west.
 fn short_way(east: u64, centre: u64) -> i64
     requires east_in_range { east ≤ 129600000 }
     requires centre_in_range { centre ≤ 129600000 }
@@ -19,7 +19,7 @@ fn short_way(east: u64, centre: u64) -> i64
     )
 }
 
-// The offset between two positions counted from the South Pole and from 180° west.
+/// The offset between two positions counted from the South Pole and from 180° west.
 fn offset_at(north: u64, east: u64, cnorth: u64, ceast: u64) -> Offset
     requires north_in_range { north ≤ 64800000 }
     requires east_in_range { east ≤ 129600000 }
@@ -35,18 +35,11 @@ fn offset_at(north: u64, east: u64, cnorth: u64, ceast: u64) -> Offset
     }
 }
 
-// Position minus centre. Refuses 4, 5 of the position, then 4, 5 of the centre.
-pub fn offset_from(lat: i64, lon: i64, clat: i64, clon: i64) -> OffsetAnswer
+/// Position minus centre. Refuses the latitude and the longitude of the position, then of the centre.
+pub fn offset_from(lat: i64, lon: i64, clat: i64, clon: i64) -> Result<Offset, Refusal>
     ensures { result ≡ offset_of lat lon clat clon }
 {
-    match range::count_position(lat, lon) {
-        Ranged::At { north, east } => match range::count_position(clat, clon) {
-            Ranged::At {
-                north: cnorth,
-                east: ceast,
-            } => OffsetAnswer::At(offset_at(north, east, cnorth, ceast)),
-            Ranged::Refused(r) => OffsetAnswer::Refused(r),
-        },
-        Ranged::Refused(r) => OffsetAnswer::Refused(r),
-    }
+    let position = range::count_position(lat, lon)?;
+    let centre = range::count_position(clat, clon)?;
+    Ok(offset_at(position.north, position.east, centre.north, centre.east))
 }

@@ -1,57 +1,21 @@
-// Positions in range, counted in naturals (01, "Numbers given in refusal").
+// Positions in range, counted in naturals.
 ghost use Rattle.std.specs.Prelude.{◌≡◌};
-ghost use Rattle.card.specs.Steps.{ranged_of, ranged_report, ranged_told};
+ghost use Rattle.card.specs.Steps.{ranged_of};
 
 use arc::{Circle, Refusal};
-use whole::Counted;
 
-// A position counted from the South Pole and from 180° west.
-#[derive(Clone, Copy)]
-pub enum Ranged {
-    At { north: u64, east: u64 },
-    Refused(Refusal),
-}
-
-// Number, place, and the two counts.
-#[derive(Clone, Copy)]
-pub struct RangedParts {
-    pub number: u32,
-    pub at: u64,
+/// A position counted from the South Pole and from 180° west, in hundredths of an arc-second.
+#[derive(Clone, Copy, Debug, PartialEq, Eq)]
+pub struct Ranged {
     pub north: u64,
     pub east: u64,
 }
 
-impl Ranged {
-    // The paper's number, place and values (01, "Numbers given in refusal").
-    pub fn into_parts(self) -> RangedParts
-        ensures { ranged_told result ≡ ranged_report self }
-    {
-        match self {
-            Ranged::At { north, east } => RangedParts {
-                number: 0,
-                at: 0,
-                north,
-                east,
-            },
-            Ranged::Refused(r) => RangedParts {
-                number: r.number,
-                at: r.at,
-                north: 0,
-                east: 0,
-            },
-        }
-    }
-}
-
-// A position, counted. Refuses 4, 5.
-pub fn count_position(lat: i64, lon: i64) -> Ranged
+/// A position, counted. Refuses the latitude, then the longitude.
+pub fn count_position(lat: i64, lon: i64) -> Result<Ranged, Refusal>
     ensures { result ≡ ranged_of lat lon }
 {
-    let Counted::From(north) = whole::count_from(lat, Circle::LATITUDE) else {
-        return Ranged::Refused(arc::refused(4));
-    };
-    let Counted::From(east) = whole::count_from(lon, Circle::LONGITUDE) else {
-        return Ranged::Refused(arc::refused(5));
-    };
-    Ranged::At { north, east }
+    let north = whole::count_from(lat, Circle::LATITUDE).ok_or(Refusal::Latitude)?;
+    let east = whole::count_from(lon, Circle::LONGITUDE).ok_or(Refusal::Longitude)?;
+    Ok(Ranged { north, east })
 }

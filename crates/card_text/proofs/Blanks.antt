@@ -9,19 +9,18 @@ use borrow.Author.Tests.{eqb-true, ne_eqb, ltb-true, ltb-false, lt-ltb, le-ltb}
 use lib.Dec.{eqb, ltb}
 use lib.ListN.{length, get_or, drop, length-drop}
 use Rattle.text.specs.Text.{is_digit, all, onward, number, blanks, filled}
-use Rattle.text.specs.declared.Digits.{Digits}
+use Rattle.std.specs.Prelude.{Ok}
 use Rattle.text.specs.Buffer.{digits_in}
 use Rattle.text.proofs.Bytes.{drop-next, length_part}
-use Rattle.text.proofs.Numbers.{digits-read}
 use Rattle.text.proofs.Blanks.{digits-none, none_filled}
-use Rattle.card.specs.declared.Fill.{Fill}
-use Rattle.arc.specs.declared.Verdict.{Verdict}
-use Rattle.card.specs.Layout.{Subfield, STR, ARV, BRV, NUL, NUS, NLL, NLS, NFL, NFC, PNC, PNL, COD, ROD, POR, PCB, PVB}
-use Rattle.card.specs.Layout.{layout, bytes_of, number_laid, right_kind, walk}
-use Rattle.card.specs.Blanks.{blanks_in, total_blanks}
-use Rattle.card.proofs.Walked.{right-in}
-use Rattle.card.proofs.Strict.{one-digit}
-use Rattle.card_text.specs.StepsFields.{lead, skip, NumberOf, lead_total}
+use Rattle.card_text.specs.declared.Fill.{Fill}
+use Rattle.card_text.specs.Layout.{Subfield, STR, ARV, BRV, NUL, NUS, NLL, NLS, NFL, NFC, PNC, PNL, COD, ROD, POR, PCB, PVB}
+use Rattle.card_text.specs.Layout.{layout, bytes_of, number_laid, right_kind, walk}
+use Rattle.card_text.specs.Blanks.{blanks_in, total_blanks}
+use Rattle.card_text.proofs.Walked.{right-in}
+use Rattle.card_text.proofs.Strict.{one-digit}
+use Rattle.card_text.proofs.Runs.{run_is}
+use Rattle.card_text.specs.StepsFields.{lead, skip, number_as, lead_total}
 
 -- ---- one byte more of the scan
 
@@ -43,6 +42,15 @@ pub lead-next : (s : List ℕ) (i : ℕ) → i + 1 < length s → get_or s i 0 �
 lead-next s i h e =
     rw (drop-next s i (omega arith), drop-next s (i + 1) h, e) (omega arith)
 
+pub lead_stops : (s : List ℕ) (i : ℕ) → i < length s → (get_or s i 0 ≡ 32 → ⊥) → i + lead (drop i s) ≡ i
+lead_stops s i h e = rw (lead-stop s i h e) (omega arith)
+
+pub lead_nexts : (s : List ℕ) (i : ℕ) → i + 1 < length s → get_or s i 0 ≡ 32 → lead (drop i s) ≡ lead (drop (i + 1) s) + 1
+lead_nexts s i h e = lead-next s i h e
+
+pub lead_lasts : (s : List ℕ) (i : ℕ) → length s ≡ i + 1 → lead (drop i s) ≡ 0
+lead_lasts s i h = lead-last (drop i s) (omega (arith, length-drop i s))
+
 -- ---- what is left
 
 pub lead-below : (s : List ℕ) → 0 < length s → lead s < length s
@@ -53,6 +61,11 @@ lead-below (b ∷ c ∷ bs) h = go (eqb b 32) (lead-below (c ∷ bs) (omega arit
     go : (e : Bool) → lead (c ∷ bs) < length (c ∷ bs) → cond e (suc (lead (c ∷ bs))) 0 < length (b ∷ c ∷ bs)
     go true m = omega arith
     go false m = omega arith
+
+pub lead_most : (s : List ℕ) → 0 < length s → lead s < length s
+lead_most s h = lead-below s h
+
+pub ruleset scan = (lead_stops, lead_nexts, lead_lasts, lead_most)
 
 ltb-suc : (m n : ℕ) → ltb (suc m) (suc n) ≡ ltb m n
 ltb-suc m n = go (ltb m n) refl
@@ -113,16 +126,22 @@ skip-none Fill.Blanks s e = lead-here s e
 
 -- ---- the number
 
-module _ (fill : Fill) (s : List ℕ) (k : ℕ) {r : Digits} where
-  pub number_read : 0 < length s → length s ≤ 8 → k ≡ skip fill s → r ≡ digits_in (drop k s) → NumberOf fill s r
-  number_read h l e q =
-      let n = digits-read 8 (drop k s) {r = r} (omega (arith, length-drop k s)) (omega arith) q in
-      let laid : all is_digit (drop k s) ≡ number_laid fill s = rw e (skip-laid fill s h) in
-      record { tested = n.tested ∙ laid; read = λ t. n.read (laid ∙ t) ∙ rw e (skip-number fill s) }
+module _ (fill : Fill) (s : List ℕ) (h : 0 < length s) (l : length s ≤ 8) where
+  -- past the blanks
+  pub past_blanks : digits_in (drop (skip fill s) s) ≡ number_as fill s
+  past_blanks =
+      run_is (drop (skip fill s) s) (omega (arith, length-drop (skip fill s) s))
+      ∙ rw (skip-laid fill s h, skip-number fill s)
+
+  -- a first byte that is no blank
+  pub no_blanks : (get_or s 0 0 ≡ 32 → ⊥) → digits_in s ≡ number_as fill s
+  no_blanks e = rw (skip-none fill s e) at past_blanks
+
+pub ruleset numbers = (past_blanks, no_blanks, skip_below)
 
 -- ---- the total of a card whose subfields are right
 
-module _ (fill : Fill) (s : List ℕ) (l : length s ≡ 98) (w : walk fill layout s ≡ Verdict.Accepted) where
+module _ (fill : Fill) (s : List ℕ) (l : length s ≡ 98) (w : walk fill layout s ≡ Ok tt) where
   -- a number's, and none of one digit
   laid-counted : (b : List ℕ) → 0 < length b → number_laid fill b ≡ true → lead b ≡ blanks b
   laid-counted b h e = go fill e

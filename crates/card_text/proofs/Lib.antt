@@ -1,5 +1,12 @@
-pub mod Blanks
+pub mod Walked
+pub mod Spans
+pub mod Found
+pub mod Acceptance
+pub mod Laid
+pub mod Strict
 pub mod Table
+pub mod Runs
+pub mod Blanks
 pub mod Angles
 pub mod Axes
 pub mod Tiled

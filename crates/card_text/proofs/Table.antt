@@ -1,66 +1,91 @@
--- Laws of the layout: a subfield as it was read, one row more of the walk and of the values. Assumes nothing.
-use mathlib.Core.Path.{◌≡◌, refl, sym, ap, ap₂, ◌∙◌}
-use mathlib.Core.List.{List, [], ◌∷◌}
+-- The subfields as they are read, one after the other, are the walk over the layout and then their values. Assumes nothing.
+use mathlib.Core.Path.{◌≡◌, refl, sym, ap, ◌∙◌}
+use mathlib.Core.List.{List, [], ◌∷◌, ◌++◌}
 use mathlib.Core.Bool.{Bool, true, false}
 use Prim.Native.Nat.{ℕ}
 use native.Mathlib.Omega.{arith}
-use Rattle.arc.specs.declared.Refusal.{Refusal}
-use Rattle.arc.specs.declared.Verdict.{Verdict}
-use Rattle.card.specs.declared.Fill.{Fill}
-use Rattle.card.specs.Layout.{Subfield}
-use Rattle.card.specs.Layout.{bytes_of, right_kind, right_value, judge, judge_field, or_else, walk}
-use Rattle.card.proofs.Walked.{or_else-both, or_else-accepted, judge-both}
-use Rattle.card_text.specs.StepsFields.{value_of, value_in, values_in, field_of, unread_after, FieldAt}
-use Rattle.card_text.specs.declared.fields.Field.{Field}
+use Rattle.std.specs.Prelude.{Result, Ok, Err}
+use Rattle.whole.specs.Results.{◌>>=◌}
+use Rattle.arc.specs.declared.refusal.Refusal.{Refusal}
+use Rattle.card_text.specs.declared.Extents.{Extents}
+use Rattle.card_text.specs.declared.Fill.{Fill}
+use Rattle.card_text.specs.declared.subfields.Stated.{Stated}
+use Rattle.card_text.specs.declared.subfields.Values.{Values}
+use Rattle.card_text.specs.Layout.{Subfield, STR, ARV, BRV, LSO, PSO, NUL, NUS, NLL, NLS, NFL, NFC, PNC, PNL, COD, ROD, POR, PCB, PVB, BAD, TIF}
+use Rattle.card_text.specs.Layout.{Judged, judge, judge_field, right_kind, right_value, bytes_of, layout, or_else, walk}
+use Rattle.card_text.specs.StepsFields.{checked, read_stated, read_extents, read_sides, read_all, stated_of, extents_in, values_of}
+use Rattle.text.proofs.Bytes.{byte-in}
+use Rattle.card_text.proofs.Walked.{or_else-assoc}
 
--- ---- the first of several that refuses
+-- a value that is checked is judged first
+checked-judge : {A : Type 0} (k v : Bool) (o : ℕ) (x : A) → checked k v o x ≡ judge k v o >>= (λ _. Ok x)
+checked-judge true true o x = refl
+checked-judge true false o x = refl
+checked-judge false v o x = refl
 
-pub or_else-assoc : (a b c : Verdict) → or_else (or_else a b) c ≡ or_else a (or_else b c)
-or_else-assoc Verdict.Accepted b c = refl
-or_else-assoc (Verdict.Refused r) b c = refl
-
--- ---- a row as it was read: where its bytes are of the wrong kind, no more is known of it
-module _ (fill : Fill) (f : Subfield) (s : List ℕ) {before : Verdict} (eb : before ≡ Verdict.Accepted) (laid valid : Bool) (v : ℕ) (x : Field)
-    (ex : x ≡ field_of f.at laid valid v) (el : laid ≡ right_kind fill f.kind (bytes_of f s)) where
-  pub field_at : (right_kind fill f.kind (bytes_of f s) ≡ true → (valid ≡ right_value f.kind (bytes_of f s)) × (v ≡ value_of f.kind (bytes_of f s)))
-      → FieldAt fill f s before x
-  unfolding judge_field value_in field_of
-  field_at right =
-      record {
-        joins = rw (eb, ex, el) (judged (right_kind fill f.kind (bytes_of f s)) refl);
-        kept = λ e. rw ex (right (kind e)).1;
-      }
+-- one row more of the walk, the rest g being that of the rows after it
+module _ {A B : Type 0} (fill : Fill) (f : Subfield) (s : List ℕ) (x : A) (g : A → Result B Refusal) (w : Judged) (b : B) where
+  row : g x ≡ w >>= (λ _. Ok b)
+      → checked (right_kind fill f.kind (bytes_of f s)) (right_value f.kind (bytes_of f s)) f.at x >>= g ≡ or_else (judge_field fill f s) w >>= (λ _. Ok b)
+  unfolding judge_field
+  row e = go (right_kind fill f.kind (bytes_of f s)) (right_value f.kind (bytes_of f s))
     where
-      judged : (k : Bool) → right_kind fill f.kind (bytes_of f s) ≡ k → judge k valid f.at ≡ judge k (right_value f.kind (bytes_of f s)) f.at
-      judged true e = rw (right e).0
-      judged false e = refl
+      go : (k v : Bool) → checked k v f.at x >>= g ≡ or_else (judge k v f.at) w >>= (λ _. Ok b)
+      go true true = e
+      go true false = refl
+      go false v = refl
 
-      kind : x.verdict ≡ Verdict.Accepted → right_kind fill f.kind (bytes_of f s) ≡ true
-      kind e = sym el ∙ (judge-both laid valid f.at (sym (ap (λ (y : Field). y.verdict) ex) ∙ e)).0
+-- several rows at once
+some : {A B : Type 0} (v : Judged) (x : A) {y : Result A Refusal} (g : A → Result B Refusal) (w : Judged) (b : B) → y ≡ v >>= (λ _. Ok x)
+    → g x ≡ w >>= (λ _. Ok b) → y >>= g ≡ or_else v w >>= (λ _. Ok b)
+some (Ok u) x g w b p e = rw p e
+some (Err r) x g w b p e = rw p
 
--- ---- a row after a refusal
-pub field-after : (fill : Fill) (f : Subfield) (s : List ℕ) {before : Verdict} (r : Refusal) (x : Field) → before ≡ Verdict.Refused r → x ≡ unread_after r
-    → FieldAt fill f s before x
-field-after fill f s r x eb ex =
-    record {
-      joins = rw (eb, ex) refl;
-      kept = λ e. let q : Verdict.Refused r ≡ Verdict.Accepted = sym (ap (λ (y : Field). y.verdict) ex) ∙ e in
-          let z : ◌≡◌ {A = ℕ} 0 1 = cc in absurd (omega arith);
-    }
+walk_append : (fill : Fill) (fs gs : List Subfield) (s : List ℕ) → walk fill (fs ++ gs) s ≡ or_else (walk fill fs s) (walk fill gs s)
+walk_append fill [] gs s = refl
+walk_append fill (f ∷ fs) gs s =
+    ap (or_else (judge_field fill f s)) (walk_append fill fs gs s) ∙ sym (or_else-assoc (judge_field fill f s) (walk fill fs s) (walk fill gs s))
 
--- ---- rows read one after the other
+abbrev or_this : Values → Result Values Refusal → Values
+or_this d (Ok v) = v
+or_this d (Err r) = d
 
-infixr 5 ◌▸◌
-pub data Passed (fill : Fill) (s : List ℕ) : List Subfield → Verdict → List ℕ → Verdict → Type 0 where
-  end : {v : Verdict} → Passed fill s [] v [] v
-  ◌▸◌ : {f : Subfield} {fs : List Subfield} {v w : Verdict} {x : Field} {vs : List ℕ}
-      → FieldAt fill f s v x → Passed fill s fs x.verdict vs w → Passed fill s (f ∷ fs) v (x.value ∷ vs) w
+module _ (fill : Fill) (s : List ℕ) where
+  stated-walk : read_stated fill s ≡ walk fill (STR ∷ ARV ∷ BRV ∷ LSO ∷ PSO ∷ []) s >>= (λ _. Ok (stated_of s))
+  stated-walk = row fill STR s _ _ _ _ (row fill ARV s _ _ _ _ (row fill BRV s _ _ _ _ (row fill LSO s _ _ _ _ (row fill PSO s _ _ (Ok tt) _ refl))))
 
-module _ {fill : Fill} {s : List ℕ} where
-  pub passed-walk : {fs : List Subfield} {v w : Verdict} {vs : List ℕ} → Passed fill s fs v vs w → w ≡ or_else v (walk fill fs s)
-  passed-walk {v} end = sym (or_else-accepted v)
-  passed-walk (◌▸◌ {f} {fs} {v} r p) = passed-walk p ∙ rw r.joins (or_else-assoc v (judge_field fill f s) (walk fill fs s))
+  extents-walk : read_extents fill s ≡ walk fill (NUL ∷ NUS ∷ NLL ∷ NLS ∷ NFL ∷ NFC ∷ []) s >>= (λ _. Ok (extents_in s))
+  extents-walk =
+      row fill NUL s _ _ _ _ (row fill NUS s _ _ _ _ (row fill NLL s _ _ _ _ (row fill NLS s _ _ _ _
+      (row fill NFL s _ _ _ _ (row fill NFC s _ _ (Ok tt) _ refl)))))
 
-  pub passed-values : {fs : List Subfield} {v w : Verdict} {vs : List ℕ} → Passed fill s fs v vs w → w ≡ Verdict.Accepted → vs ≡ values_in fs s
-  passed-values end e = refl
-  passed-values (◌▸◌ {f} {fs} {x} r p) e = ap₂ ◌∷◌ (r.kept (or_else-both x.verdict (walk fill fs s) (sym (passed-walk p) ∙ e)).0) (passed-values p e)
+  sides-walk : read_sides fill s ≡ walk fill (PNC ∷ PNL ∷ COD ∷ ROD ∷ POR ∷ PCB ∷ PVB ∷ []) s >>= (λ _. Ok tt)
+  sides-walk =
+      row fill PNC s _ _ _ _ (row fill PNL s _ _ _ _ (row fill COD s _ _ _ _ (row fill ROD s _ _ _ _
+      (row fill POR s _ _ _ _ (row fill PCB s _ _ _ _ (row fill PVB s _ _ (Ok tt) _ refl))))))
+
+  -- the two chains, group by group
+  pub all-walk : read_all fill s ≡ walk fill layout s >>= (λ _. Ok (values_of s))
+  unfolding layout
+  all-walk =
+      rw (← byte-in 97 0 1 s (omega arith), walk_append fill (STR ∷ ARV ∷ BRV ∷ LSO ∷ PSO ∷ []) (NUL ∷ NUS ∷ NLL ∷ NLS ∷ NFL ∷ NFC ∷ PNC ∷ PNL ∷ COD ∷ ROD ∷ POR ∷ PCB ∷ PVB ∷ BAD ∷ TIF ∷ []) s)
+      (some (walk fill (STR ∷ ARV ∷ BRV ∷ LSO ∷ PSO ∷ []) s) (stated_of s) _ _ _ stated-walk
+      (rw (walk_append fill (NUL ∷ NUS ∷ NLL ∷ NLS ∷ NFL ∷ NFC ∷ []) (PNC ∷ PNL ∷ COD ∷ ROD ∷ POR ∷ PCB ∷ PVB ∷ BAD ∷ TIF ∷ []) s)
+      (some (walk fill (NUL ∷ NUS ∷ NLL ∷ NLS ∷ NFL ∷ NFC ∷ []) s) (extents_in s) _ _ _ extents-walk
+      (rw (walk_append fill (PNC ∷ PNL ∷ COD ∷ ROD ∷ POR ∷ PCB ∷ PVB ∷ []) (BAD ∷ TIF ∷ []) s)
+      (some (walk fill (PNC ∷ PNL ∷ COD ∷ ROD ∷ POR ∷ PCB ∷ PVB ∷ []) s) tt _ _ _ sides-walk
+      (row fill BAD s _ _ _ _ (row fill TIF s _ _ (Ok tt) _ refl)))))))
+
+  pub walk-err : {e : Refusal} → read_all fill s ≡ Err e → walk fill layout s ≡ Err e
+  walk-err {e} p = go (walk fill layout s) (sym all-walk ∙ p)
+    where
+      go : (v : Judged) → ◌≡◌ {A = Result Values Refusal} (v >>= (λ _. Ok (values_of s))) (Err e) → v ≡ Err e
+      go (Ok u) k = let x : ◌≡◌ {A = ℕ} 0 1 = cc in absurd (omega arith)
+      go (Err r) k = let q : r ≡ e = cc in ap Err q
+
+  pub walk-ok : {v : Values} → read_all fill s ≡ Ok v → (walk fill layout s ≡ Ok tt) × (v ≡ values_of s)
+  walk-ok {v} p = go (walk fill layout s) (sym all-walk ∙ p)
+    where
+      go : (w : Judged) → ◌≡◌ {A = Result Values Refusal} (w >>= (λ _. Ok (values_of s))) (Ok v) → (w ≡ Ok tt) × (v ≡ values_of s)
+      go (Ok u) k = (refl, sym (ap (or_this v) k))
+      go (Err r) k = let x : ◌≡◌ {A = ℕ} 0 1 = cc in absurd (omega arith)

@@ -8,12 +8,12 @@ use lib.Dec.{leb, ltb}
 use lib.IntN.{ℤ, pos, negsuc, neg_ℤ, ◌-ℤ◌}
 use lib.Signed.{le_z, lt_z}
 use Rattle.whole.proofs.Signed.{Is, is-nat, is-neg, is-minus, is-lt_z}
-use Rattle.card.specs.Extents.{extents_hold}
+use Rattle.card_text.specs.Extents.{extents_hold}
 use Rattle.card_text.specs.StepsRead.{extents_at}
 
 -- a pixel edge is within k tiles
-pub in-tiles : (x k : ℕ) → ltb (x / 128) k ≡ ltb x (128 * k)
-in-tiles x k = go (ltb (x / 128) k) refl
+pub in_tiles : (x k : ℕ) → ltb (x / 128) k ≡ ltb x (128 * k)
+in_tiles x k = go (ltb (x / 128) k) refl
   where
     go : (t : Bool) → ltb (x / 128) k ≡ t → t ≡ ltb x (128 * k)
     go true e = let h = ltb-true (x / 128) k e in sym (lt-ltb x (128 * k) (omega arith))

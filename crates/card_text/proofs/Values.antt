@@ -1,101 +1,71 @@
 -- What reading answers for the values that the code keeps: the tests of `with_values`, in its order, are those of the
--- values, and a record with its counted origin makes the card. Assumes nothing.
-use mathlib.Core.Path.{◌≡◌, ap}
-use mathlib.Core.Bool.{Bool, cond, ◌&&◌}
+-- values, and a record with its counted origin makes the fields. Assumes nothing.
+use mathlib.Core.Path.{◌≡◌, ap, sym}
+use mathlib.Core.Bool.{Bool, not, ◌&&◌}
 use mathlib.Core.List.{List}
 use Prim.Native.Nat.{ℕ, ◌*◌, ◌/◌, ◌≤◌}
 use lib.Dec.{eqb}
-use lib.ListN.{get_or}
-use lib.IntN.{ℤ, pos, ◌-ℤ◌}
-use Rattle.whole.specs.declared.Counted.{Counted}
+use native.Mathlib.Omega.{arith}
+use lib.IntN.{ℤ, pos, negsuc, ◌-ℤ◌}
+use Rattle.std.specs.Prelude.{if◌then◌else◌, Option, Some, None, Err}
+use Rattle.text.proofs.Bytes.{byte-in}
+use Rattle.whole.specs.Whole.{raise}
 use Rattle.whole.proofs.Signed.{Is, is-difference}
-use Rattle.arc.specs.declared.Series.{Series}
-use Rattle.arc.specs.Refusals.{refusal}
-use Rattle.arc.specs.Spacing.{Grid}
+use Rattle.arc.specs.declared.refusal.Refusal.{Refusal}
+use Rattle.arc.specs.declared.series.Series.{Series}
+use Rattle.arc.specs.Pixels.{Grid}
 use Rattle.origin.proofs.Axis.{latitudes, longitudes}
-use Rattle.card.specs.declared.Record.{Record}
 use Rattle.text.specs.Text.{angle_of}
-use Rattle.card.specs.Layout.{ARV, BRV, LSO, PSO, NUL, NUS, NLL, NLS, NFL, NFC, TIF, layout, bytes_of}
-use Rattle.card.specs.Blanks.{total_blanks}
-use Rattle.card.specs.Read.{number_in, card_of, accepted_card, refused_card, with_origin, with_values}
-use Rattle.card_text.specs.StepsFields.{value_in, values_in}
-use Rattle.card_text.specs.StepsRead.{found_at, tile_at, extents_at, record_in, card_from, Walked}
-use Rattle.card_text.proofs.Angles.{lso-is, pso-is, lso-high, pso-high, flag_is}
+use Rattle.card_text.specs.declared.Record.{Record}
+use Rattle.card_text.specs.declared.subfields.Values.{Values}
+use Rattle.card_text.specs.Layout.{LSO, PSO, NUL, NUS, NLL, NLS, NFL, NFC, layout, bytes_of}
+use Rattle.card_text.specs.Blanks.{total_blanks}
+use Rattle.card_text.specs.Read.{number_in, card_of, accepted_card, with_origin, with_values}
+use Rattle.card_text.specs.StepsFields.{values_of}
+use Rattle.card_text.specs.StepsRead.{found_at, tile_at, extents_at, record_with, fields_from, Walked}
+use Rattle.card_text.proofs.Angles.{lso-is, pso-is, lso-high, pso-high}
 use Rattle.card_text.proofs.Axes.{found-high, found-is}
-use Rattle.card.proofs.Ranges.{raise-is}
 use Rattle.card_text.proofs.Tiled.{extents-at}
 
--- ---- the values kept
-
-kept_at : {s values : List ℕ} → Walked s values → (i : ℕ) → get_or values i 0 ≡ get_or (values_in layout s) i 0
-kept_at w i = ap (λ (vs : List ℕ). get_or vs i 0) w.kept
-
-module _ {s values : List ℕ} (w : Walked s values) (n m : ℤ) (bad : List ℕ) (eb : bad ≡ (record_in n m s).bad) where
-  pub record-kept : ◌≡◌ {A = Record}
-      (record {
-        n = n;
-        m = m;
-        nul = get_or values 5 0;
-        nus = get_or values 6 0;
-        nll = get_or values 7 0;
-        nls = get_or values 8 0;
-        nfl = get_or values 9 0;
-        nfc = get_or values 10 0;
-        bad = bad;
-        tif = eqb (get_or values 19 0) 1;
-      })
-      (record_in n m s)
-  unfolding layout value_in
-  record-kept = rw (w.kept, eb, flag_is (eqb (get_or (bytes_of TIF s) 0 0) 89))
+pub raise-is : (t : ℕ) (z : ℤ) (n : ℕ) → Is z n t → raise t z ≡ n
+raise-is t (pos m) n e = e
+raise-is t (negsuc m) n e = omega arith
 
 -- ---- the origin
-module _ {a b : ℕ} (ga : Grid a) (gb : Grid b) {s values : List ℕ} (w : Walked s values) where
-  pub pso-kept : get_or values 4 0 ≤ 2 * 32400000
-  unfolding layout
-  pso-kept = rw (kept_at w 4) (pso-high w.fill s w.walks)
+module _ {s : List ℕ} {v : Values} (w : Walked s v) where
+  pub pso-kept : v.stated.pso ≤ 2 * 32400000
+  pso-kept = rw w.kept (pso-high w.fill s w.walks)
 
-  pub lso-kept : get_or values 3 0 ≤ 2 * 64800000
-  unfolding layout
-  lso-kept = rw (kept_at w 3) (lso-high w.fill s w.walks)
+  pub lso-kept : v.stated.lso ≤ 2 * 64800000
+  lso-kept = rw w.kept (lso-high w.fill s w.walks)
 
-  pso-value : Is (angle_of 2 (bytes_of PSO s)) (get_or values 4 0) 32400000
-  unfolding layout
-  pso-value = rw (kept_at w 4) (pso-is w.fill s w.walks)
+  pso-value : Is (angle_of 2 (bytes_of PSO s)) v.stated.pso 32400000
+  pso-value = rw w.kept (pso-is w.fill s w.walks)
 
-  lso-value : Is (angle_of 3 (bytes_of LSO s)) (get_or values 3 0) 64800000
-  unfolding layout
-  lso-value = rw (kept_at w 3) (lso-is w.fill s w.walks)
+  lso-value : Is (angle_of 3 (bytes_of LSO s)) v.stated.lso 64800000
+  lso-value = rw w.kept (lso-is w.fill s w.walks)
 
-  pub north-high : {r : Counted} {n : ℕ} → r ≡ found_at b (get_or values 4 0) → r ≡ Counted.From n → n ≤ 2 * (b / 512)
-  north-high = found-high (latitudes b gb) gb (angle_of 2 (bytes_of PSO s)) (get_or values 4 0) pso-value pso-kept
+  pub north-high : {b : ℕ} → Grid b → {r : Option ℕ} {n : ℕ} → r ≡ found_at b v.stated.pso → r ≡ Some n → n ≤ 2 * (b / 512)
+  north-high {b} g = found-high (latitudes b g) g (angle_of 2 (bytes_of PSO s)) v.stated.pso pso-value pso-kept
 
-  pub east-high : {r : Counted} {n : ℕ} → r ≡ found_at a (get_or values 3 0) → r ≡ Counted.From n → n ≤ 2 * (a / 256)
-  east-high = found-high (longitudes a ga) ga (angle_of 3 (bytes_of LSO s)) (get_or values 3 0) lso-value lso-kept
+  pub east-high : {a : ℕ} → Grid a → {r : Option ℕ} {n : ℕ} → r ≡ found_at a v.stated.lso → r ≡ Some n → n ≤ 2 * (a / 256)
+  east-high {a} g = found-high (longitudes a g) g (angle_of 3 (bytes_of LSO s)) v.stated.lso lso-value lso-kept
 
-  arv-value : get_or values 1 0 ≡ number_in ARV s
-  unfolding layout value_in
-  arv-value = kept_at w 1
-
-  brv-value : get_or values 2 0 ≡ number_in BRV s
-  unfolding layout value_in
-  brv-value = kept_at w 2
-
-  pub values-are : (series : Series) → with_values series a b s
-      ≡ cond (eqb (get_or values 1 0) a && eqb (get_or values 2 0) b)
-      (with_origin series a b s (tile_at (b / 512) (found_at b (get_or values 4 0))) (tile_at (a / 256) (found_at a (get_or values 3 0))))
-      (refused_card (refusal 9))
+  pub values-are : {a b : ℕ} → Grid a → Grid b → (series : Series) → with_values series a b s
+      ≡ (if not (eqb v.stated.arv a && eqb v.stated.brv b) then Err Refusal.Spacing
+      else with_origin series a b s (tile_at (b / 512) (found_at b v.stated.pso)) (tile_at (a / 256) (found_at a v.stated.lso)))
   unfolding with_values
-  values-are series =
-      let n = found-is (latitudes b gb) gb (angle_of 2 (bytes_of PSO s)) (get_or values 4 0) pso-value pso-kept in
-      let m = found-is (longitudes a ga) ga (angle_of 3 (bytes_of LSO s)) (get_or values 3 0) lso-value lso-kept in
-      rw (arv-value, brv-value, n, m)
+  values-are {a} {b} ga gb series =
+      let n = found-is (latitudes b gb) gb (angle_of 2 (bytes_of PSO s)) v.stated.pso pso-value pso-kept in
+      let m = found-is (longitudes a ga) ga (angle_of 3 (bytes_of LSO s)) v.stated.lso lso-value lso-kept in
+      rw (n, m, w.kept)
 
--- ---- the card, its origin counted
+-- ---- the fields, the origin counted
 module _ (series : Series) (a b north east : ℕ) (s : List ℕ) (r : Record) (ok : Bool) where
-  pub extents-are : r ≡ record_in (pos north -ℤ pos (b / 512)) (pos east -ℤ pos (a / 256)) s
+  pub extents-are : r ≡ record_with (pos north -ℤ pos (b / 512)) (pos east -ℤ pos (a / 256)) (values_of s)
       → ok ≡ extents_at a north r.nul r.nus r.nll r.nls r.nfl r.nfc
-      → with_origin series a b s (tile_at (b / 512) (Counted.From north)) (tile_at (a / 256) (Counted.From east))
-      ≡ cond ok (accepted_card (card_from series a b north east r) (total_blanks layout s)) (refused_card (refusal 11))
+      → with_origin series a b s (tile_at (b / 512) (Some north)) (tile_at (a / 256) (Some east))
+      ≡ (if not ok then Err Refusal.Extent else accepted_card (fields_from series a b north east r) (total_blanks layout s))
   unfolding card_of
   extents-are er eo =
       let n : ℤ = pos north -ℤ pos (b / 512) in
@@ -108,4 +78,5 @@ module _ (series : Series) (a b north east : ℕ) (s : List ℕ) (r : Record) (o
         raise-is (b / 512) n north in_rows,
         raise-is (a / 256) m east in-columns,
         extents-at a b n north (number_in NUL s) (number_in NUS s) (number_in NLL s) (number_in NLS s) (number_in NFL s) (number_in NFC s) in_rows,
+        byte-in 97 0 1 s (omega arith),
       )

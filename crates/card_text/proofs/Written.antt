@@ -7,8 +7,8 @@ use native.Mathlib.Omega.{arith}
 use borrow.Author.Tests.{leb-true, eqb-true}
 use lib.Dec.{leb, eqb}
 use lib.ListN.{length}
-use Rattle.card.specs.Layout.{Subfield}
-use Rattle.card.specs.Write.{Value, counted, angle, named, flagged, text_of, written}
+use Rattle.card_text.specs.Layout.{Subfield}
+use Rattle.card_text.specs.Write.{Value, counted, angle, named, flagged, text_of, written}
 use Rattle.text.specs.Buffer.{splice, put_at}
 use Rattle.text.proofs.Numbers.{length_digits}
 use Rattle.text.proofs.Angles.{length-angle}

@@ -1,3 +1,10 @@
+pub mod Layout
+pub mod Extents
+pub mod Blanks
+pub mod Read
+pub mod Write
+pub mod RoundTrips
+pub mod Strict
 pub mod StepsFields
 pub mod StepsRead
 pub mod StepsWrite

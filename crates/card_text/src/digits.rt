@@ -1,19 +1,19 @@
-// Bytes, runs of digits and runs of letters (01, "The image card, 98 bytes"; 02, E2).
+// Bytes, runs of digits and runs of letters.
 ghost use Rattle.std.specs.Prelude.{◌≡◌, ◌+◌, ◌<◌, ◌≤◌, length};
+ghost use Rattle.std.specs.Option.{IfSome};
 ghost use Rattle.text.specs.Text.{part, is_name_byte, all, name_laid};
-ghost use Rattle.card_text.specs.StepsFields.{DigitsOf, NumberOf, lead, skip};
+ghost use Rattle.card_text.specs.StepsFields.{run_of, number_as, lead, skip};
 
-use card::Fill;
-use text::Digits;
+use crate::Fill;
 
-// A capital letter or a digit.
+/// A capital letter or a digit.
 fn is_name_byte(b: u8) -> bool
     ensures { result ≡ is_name_byte b }
 {
-    ((65 <= b) & (b <= 90)) | ((48 <= b) & (b <= 57))
+    b.is_ascii_uppercase() || b.is_ascii_digit()
 }
 
-// The w bytes of s from offset o.
+/// The w bytes of s from offset o.
 pub fn bytes_at<'a>(s: &'a [u8], o: usize, w: usize) -> &'a [u8]
     requires { o + w ≤ length s.now }
     ensures value { result.now ≡ part o w s.now }
@@ -22,42 +22,45 @@ pub fn bytes_at<'a>(s: &'a [u8], o: usize, w: usize) -> &'a [u8]
     &s[o..o + w]
 }
 
-// The run of w digits from offset o.
-pub fn digits_at(s: &[u8], o: usize, w: usize) -> Digits
+/// The run of w digits from offset o.
+#[tactic(auto, using(crate::proofs::Runs::runs))]
+pub fn digits_at(s: &[u8], o: usize, w: usize) -> Option<u64>
     requires within { o + w ≤ length s.now }
     requires width { w ≤ 8 }
-    ensures { DigitsOf (part o w s.now) result }
+    ensures value { result ≡ run_of (part o w s.now) }
+    ensures small { IfSome result (λ v. v < 100000000) }
 {
     text::digits_of(bytes_at(s, o, w))
 }
 
-// How many blanks a run starts with, its last byte not among them.
+/// How many blanks a run starts with, its last byte not among them.
+#[tactic(auto, using(crate::proofs::Blanks::scan))]
 fn leading(s: &[u8]) -> usize
     requires { 0 < length s.now }
     ensures { result ≡ lead s.now }
 {
     let last = s.len() - 1;
-    let mut i = 0;
-    while i < last {
-        if s[i] != 32 {
+    for i in 0..last {
+        if s[i] != b' ' {
             return i;
         }
-        i += 1;
     }
-    i
+    last
 }
 
-// The same of the w bytes from offset o.
+/// The same of the w bytes from offset o.
+#[tactic(auto, using(crate::proofs::Blanks::scan))]
 pub fn leading_at(s: &[u8], o: usize, w: usize) -> u64
     requires within { o + w ≤ length s.now }
     requires not_empty { 0 < w }
     requires width { w ≤ 8 }
-    ensures { (result ≡ lead (part o w s.now)) × (result ≤ 8) }
+    ensures value { result ≡ lead (part o w s.now) }
+    ensures most { result ≤ 8 }
 {
     leading(bytes_at(s, o, w)) as u64
 }
 
-// How many of them are passed over.
+/// How many of them are passed over.
 fn skipped(fill: Fill, s: &[u8]) -> usize
     requires { 0 < length s.now }
     ensures { result ≡ skip fill s.now }
@@ -68,47 +71,37 @@ fn skipped(fill: Fill, s: &[u8]) -> usize
     }
 }
 
-// A number that starts with a blank.
-fn past_blanks(fill: Fill, s: &[u8]) -> Digits
+/// A number: digits, and blanks before them where they may stand. Its first byte tells whether there are any.
+#[tactic(auto, using(crate::proofs::Blanks::numbers))]
+pub fn number_of(fill: Fill, s: &[u8]) -> Option<u64>
     requires not_empty { 0 < length s.now }
     requires width { length s.now ≤ 8 }
-    ensures { NumberOf fill s.now result }
+    ensures { result ≡ number_as fill s.now }
 {
-    text::digits_of(&s[skipped(fill, s)..])
-}
-
-// A number: digits, and blanks before them where they may stand (02, E2). Its first byte tells whether there are any.
-pub fn number_of(fill: Fill, s: &[u8]) -> Digits
-    requires not_empty { 0 < length s.now }
-    requires width { length s.now ≤ 8 }
-    ensures { NumberOf fill s.now result }
-{
-    if s[0] == 32 {
-        return past_blanks(fill, s);
+    if s[0] == b' ' {
+        return text::digits_of(&s[skipped(fill, s)..]);
     }
     text::digits_of(s)
 }
 
-// Whether each byte is a capital letter or a digit.
+/// Whether each byte is a capital letter or a digit.
+#[tactic(auto, using(crate::proofs::Runs::named))]
 fn all_named(s: &[u8]) -> bool
     ensures { result ≡ all is_name_byte s.now }
 {
-    let mut ok = true;
-    let mut i = 0;
-    while i < s.len() {
-        ok = ok & is_name_byte(s[i]);
-        i += 1;
+    for b in s {
+        if !is_name_byte(*b) {
+            return false;
+        }
     }
-    ok
+    true
 }
 
-// Eight letters or digits, a dot, three more.
+/// Eight letters or digits, a dot, three more.
+#[tactic(auto, unfolding(text::specs::Text::name_laid))]
 pub fn name_laid(s: &[u8]) -> bool
     requires { length s.now ≡ 12 }
     ensures { result ≡ name_laid s.now }
 {
-    let first = all_named(bytes_at(s, 0, 8));
-    let dot = s[8];
-    let last = all_named(bytes_at(s, 9, 3));
-    first & (dot == 46) & last
+    all_named(bytes_at(s, 0, 8)) && s[8] == b'.' && all_named(bytes_at(s, 9, 3))
 }

@@ -1,72 +1,128 @@
-// Reads and writes the 98 bytes of the image card (002, 3.17.1; 01, "The image card, 98 bytes").
+//! Reads and writes the 98 bytes of the image card (MIL-A-89007, 3.17.1).
 #![tactic(auto)]
 
 ghost use Rattle.std.specs.Prelude.{◌≡◌};
-ghost use Rattle.arc.specs.declared.SpacingAnswer.{SpacingAnswer};
-ghost use Rattle.arc.specs.Spacing.{Grid};
-ghost use Rattle.card.specs.Read.{read_in, read_as, read_of, read_strict};
-ghost use Rattle.card.specs.Write.{write_of, out_of};
+ghost use Rattle.card_text.specs.Read.{read_in, read_as, read_of, read_strict};
+ghost use Rattle.card_text.specs.Write.{write_of, out_of};
 
-use arc::{Series, SpacingAnswer, Verdict};
-use card::{Fill, Reading, Record};
+use arc::{Refusal, Series, Spacing};
 
 mod digits;
-mod fields;
 mod read;
 mod stored;
+mod subfields;
 mod write;
 
-// Reading, the spacing being known. Refuses 3, 6, the subfields' 7 and 8, 9, 10, 11.
-fn read_spaced(fill: Fill, series: Series, a: u64, b: u64, bytes: &[u8]) -> Reading
-    requires a_on_grid { Grid a }
-    requires b_on_grid { Grid b }
-    ensures { result ≡ read_in fill series (SpacingAnswer.Constants a b) bytes.now }
+/// What a card that is read tells: the numbers of its chart, in the standard's tags.
+#[derive(Clone, Copy, Debug, PartialEq, Eq)]
+pub struct Fields {
+    pub series: Series,
+    pub a: u64,
+    pub b: u64,
+    pub n: i64,
+    pub m: i64,
+    pub nul: u64,
+    pub nus: u64,
+    pub nll: u64,
+    pub nls: u64,
+    pub nfl: u64,
+    pub nfc: u64,
+    pub bad: [u8; 12],
+    pub tif: bool,
+    /// 128n, counted from the South Pole.
+    pub north: u64,
+    /// 128m, counted from 180° west.
+    pub east: u64,
+}
+
+/// What may stand before the digits of a number: zeros alone, or blanks too.
+#[derive(Clone, Copy, Debug)]
+pub enum Fill {
+    Zeros,
+    Blanks,
+}
+
+/// A card as it was read, and the total of blanks that its numbers start with.
+#[derive(Clone, Copy, Debug, PartialEq, Eq)]
+pub struct Reading {
+    pub fields: Fields,
+    pub blanks: u64,
+}
+
+/// What is written on a card.
+#[derive(Clone, Copy, Debug, PartialEq, Eq)]
+pub struct Record {
+    pub n: i64,
+    pub m: i64,
+    pub nul: u64,
+    pub nus: u64,
+    pub nll: u64,
+    pub nls: u64,
+    pub nfl: u64,
+    pub nfc: u64,
+    pub bad: [u8; 12],
+    pub tif: bool,
+}
+
+/// The chart's edges, top, right, bottom and left, and the tiles down and across.
+#[derive(Clone, Copy, Debug, PartialEq, Eq)]
+pub struct Extents {
+    pub nul: u64,
+    pub nus: u64,
+    pub nll: u64,
+    pub nls: u64,
+    pub nfl: u64,
+    pub nfc: u64,
+}
+
+/// Reading, the spacing being known. Refuses a polar zone, the length, then the subfields, the spacing, the origin and the extents.
+#[tactic(auto, unfolding(crate::specs::Read::read_in))]
+fn read_spaced(
+    fill: Fill,
+    series: Series,
+    spacing: Spacing,
+    bytes: &[u8],
+) -> Result<Reading, Refusal>
+    ensures { result ≡ read_in fill series spacing bytes.now }
 {
     if arc::is_polar(series.zone) {
-        return read::refused_with(arc::refused(3));
+        return Err(Refusal::Polar);
     }
     if bytes.len() != 98 {
-        return read::refused_with(arc::refused(6));
+        return Err(Refusal::Length);
     }
-    let f = fields::fields_in(fill, bytes);
-    let verdict = f.verdict;
-    let values = f.values;
-    match verdict {
-        Verdict::Accepted => read::read_values(series, a, b, bytes, values),
-        Verdict::Refused(r) => read::refused_with(r),
-    }
+    let values = subfields::values_in(fill, bytes)?;
+    read::read_values(series, spacing, bytes, values)
 }
 
-// Reading, whatever may fill the numbers.
-fn read_as(fill: Fill, series: Series, bytes: &[u8]) -> Reading
+/// Reading, whatever may fill the numbers.
+fn read_as(fill: Fill, series: Series, bytes: &[u8]) -> Result<Reading, Refusal>
     ensures { result ≡ read_as fill series bytes.now }
 {
-    match arc::spacing(series) {
-        SpacingAnswer::Constants { a, b } => read_spaced(fill, series, a, b, bytes),
-        SpacingAnswer::Refused(r) => read::refused_with(r),
-    }
+    read_spaced(fill, series, series.spacing()?, bytes)
 }
 
-// Reads a card, in which blanks may stand before a number's digits (02, E2). Refuses 1, 17, 1, 2, 3, 6, the subfields' 7 and 8, 9, 10, 11.
-pub fn read_card(series: Series, bytes: &[u8]) -> Reading
+/// Reads a card, in which blanks may stand before a number's digits. Refuses what the spacing refuses, then a polar zone, the length, the
+/// subfields from left to right, each first for its kind and then for its value, the spacing, the origin, and the extents.
+pub fn read_card(series: Series, bytes: &[u8]) -> Result<Reading, Refusal>
     ensures { result ≡ read_of series bytes.now }
 {
     read_as(Fill::Blanks, series, bytes)
 }
 
-// Reads a card as 01 has it: no blank may stand before a number's digits. Refuses as `read_card`.
-pub fn read_strict(series: Series, bytes: &[u8]) -> Reading
+/// Reads a card in which no blank may stand before a number's digits. Refuses as `read_card`.
+pub fn read_strict(series: Series, bytes: &[u8]) -> Result<Reading, Refusal>
     ensures { result ≡ read_strict series bytes.now }
 {
     read_as(Fill::Zeros, series, bytes)
 }
 
-// Writes a record as a card. Refuses 1, 24, 17, 1, 2, 3, 6, NFL, NFC (8), BAD (7), 10, 11; on a refusal the output stays.
-pub fn write_card(series: Series, r: Record, out: &mut [u8]) -> Verdict
-    ensures { (result ≡ write_of series r out.old) × (out.new ≡ out_of series r out.old) }
+/// Writes a record as a card over the first 98 bytes. Refuses what the spacing for writing refuses, then a polar zone, a shorter output, NFL,
+/// NFC, BAD, the origin, and the extents; on a refusal the output stays.
+#[tactic(auto, unfolding(crate::specs::Write::write_of, crate::specs::Write::out_of))]
+pub fn write_card(series: Series, r: Record, out: &mut [u8]) -> Result<(), Refusal>
+    ensures answer { result ≡ write_of series r out.old }
+    ensures left { out.new ≡ out_of series r out.old }
 {
-    match arc::spacing_for_writing(series) {
-        SpacingAnswer::Constants { a, b } => write::write_spaced(series.zone, a, b, r, out),
-        SpacingAnswer::Refused(e) => Verdict::Refused(e),
-    }
+    write::write_spaced(series.zone, series.spacing_for_writing()?, r, out)
 }

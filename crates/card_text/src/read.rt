@@ -1,94 +1,43 @@
-// From the values of a card to its record and its value (01, "The image card, 98 bytes", "Numbers given in refusal").
+// From the values of a card to its record and its fields.
 ghost use Rattle.std.specs.Prelude.{◌≡◌, ◌≤◌, length};
-ghost use Rattle.arc.specs.Spacing.{Grid};
-ghost use Rattle.card.specs.Layout.{BAD, bytes_of};
-ghost use Rattle.card.specs.Read.{refused_card, with_values};
+ghost use Rattle.card_text.specs.Read.{with_values};
 ghost use Rattle.card_text.specs.StepsFields.{lead_total};
-ghost use Rattle.card_text.specs.StepsRead.{extents_at, record_in, card_from, Walked};
+ghost use Rattle.card_text.specs.StepsRead.{extents_at, record_with, fields_from, Walked};
 
-use crate::{digits, stored};
-use arc::{Refusal, Series, Verdict};
-use card::{Card, Reading, Record};
-use whole::Counted;
+use crate::subfields::Values;
+use crate::{Fields, Reading, Record, digits, stored};
+use arc::{Refusal, Series, Spacing};
 
-// The values' places in the layout.
-const ARV: usize = 1;
-
-const BRV: usize = 2;
-
-const LSO: usize = 3;
-
-const PSO: usize = 4;
-
-const NUL: usize = 5;
-
-const NUS: usize = 6;
-
-const NLL: usize = 7;
-
-const NLS: usize = 8;
-
-const NFL: usize = 9;
-
-const NFC: usize = 10;
-
-const TIF: usize = 19;
-
-// A refusal of a card, its value all 0.
-pub fn refused_with(r: Refusal) -> Reading
-    ensures { result ≡ refused_card r }
+/// The record, n and m being known.
+fn record_of(values: Values, n: i64, m: i64) -> Record
+    ensures { result ≡ record_with n m values }
 {
-    Reading {
-        verdict: Verdict::Refused(r),
-        card: card::no_card(),
-        blanks: 0,
-    }
-}
-
-// BAD.
-fn name_of(s: &[u8]) -> [u8; 12]
-    requires { length s.now ≡ 98 }
-    ensures { result ≡ bytes_of BAD s.now }
-{
-    let mut r = [0u8; 12];
-    let mut i = 0;
-    while i < 12 {
-        r[i] = s[85 + i];
-        i += 1;
-    }
-    r
-}
-
-// The record, n and m being known.
-fn record_in(s: &[u8], values: [u64; 20], n: i64, m: i64) -> Record
-    requires { Walked s.now values }
-    ensures { result ≡ record_in n m s.now }
-{
-    let bad = name_of(s);
+    let bad = values.bad;
     Record {
         n,
         m,
-        nul: values[NUL],
-        nus: values[NUS],
-        nll: values[NLL],
-        nls: values[NLS],
-        nfl: values[NFL],
-        nfc: values[NFC],
+        nul: values.extents.nul,
+        nus: values.extents.nus,
+        nll: values.extents.nll,
+        nls: values.extents.nls,
+        nfl: values.extents.nfl,
+        nfc: values.extents.nfc,
         bad,
-        tif: values[TIF] == 1,
+        tif: values.tif,
     }
 }
 
-// The extents, n being counted from −B/512. A product could be too large: NLL and NUS are divided instead.
+/// The extents, n being counted from −B/512. A product could be too large: NLL and NUS are divided instead.
+#[tactic(auto, using(crate::proofs::Tiled::in_tiles), unfolding(crate::specs::StepsRead::extents_at))]
 pub fn extents_hold(a: u64, north: u64, r: Record) -> bool
     ensures { result ≡ extents_at a north r.nul r.nus r.nll r.nls r.nfl r.nfc }
 {
-    let rows = (r.nul <= r.nll) & (r.nll / 128 < r.nfl);
-    let columns = (r.nls <= r.nus) & (r.nus / 128 < r.nfc);
-    (r.nfc <= a / 128) & (r.nfl <= north) & rows & columns
+    let rows = r.nul <= r.nll && r.nll / 128 < r.nfl;
+    let columns = r.nls <= r.nus && r.nus / 128 < r.nfc;
+    r.nfc <= a / 128 && r.nfl <= north && rows && columns
 }
 
-// The total of blanks before the digits of the numbers: ARV BRV NUL NUS NLL NLS NFL NFC PNC PNL (02, E2).
+/// The total of blanks before the digits of the numbers: ARV BRV NUL NUS NLL NLS NFL NFC PNC PNL.
 fn blanks_in(s: &[u8]) -> u64
     requires { length s.now ≡ 98 }
     ensures { result ≡ lead_total s.now }
@@ -101,16 +50,17 @@ fn blanks_in(s: &[u8]) -> u64
     spacing + rows + columns + tiles + sides
 }
 
-// The card of a record, its origin counted from the South Pole and from 180° west.
-fn card_of(series: Series, a: u64, b: u64, north: u64, east: u64, r: Record) -> Card
-    requires { (north ≤ 1000000) × (east ≤ 1000000) }
-    ensures { result ≡ card_from series a b north east r }
+/// The fields of a record, its origin counted from the South Pole and from 180° west.
+fn fields_of(series: Series, spacing: Spacing, north: u64, east: u64, r: Record) -> Fields
+    requires north_few { north ≤ 1000000 }
+    requires east_few { east ≤ 1000000 }
+    ensures { result ≡ fields_from series spacing.a spacing.b north east r }
 {
     let bad = r.bad;
-    Card {
+    Fields {
         series,
-        a,
-        b,
+        a: spacing.a.count(),
+        b: spacing.b.count(),
         n: r.n,
         m: r.m,
         nul: r.nul,
@@ -126,31 +76,39 @@ fn card_of(series: Series, a: u64, b: u64, north: u64, east: u64, r: Record) -> 
     }
 }
 
-// The card, its subfields being right. Refuses 9, 10, 11.
-pub fn read_values(series: Series, a: u64, b: u64, s: &[u8], values: [u64; 20]) -> Reading
-    requires a_on_grid { Grid a }
-    requires b_on_grid { Grid b }
-    requires walked { Walked s.now values }
-    ensures { result ≡ with_values series a b s.now }
+/// The card, its subfields being right. Refuses the spacing, the origin, and the extents.
+pub fn read_values(
+    series: Series,
+    spacing: Spacing,
+    s: &[u8],
+    values: Values,
+) -> Result<Reading, Refusal>
+    requires { Walked s.now values }
+    ensures { result ≡ with_values series spacing.a spacing.b s.now }
 {
-    if !((values[ARV] == a) & (values[BRV] == b)) {
-        return refused_with(arc::refused(9));
+    let a = spacing.a.count();
+    let b = spacing.b.count();
+    let stated = values.stated;
+    if stated.arv != a {
+        return Err(Refusal::Spacing);
     }
-    let Counted::From(north) = stored::tile_of(b, values[PSO]) else {
-        return refused_with(arc::refused(10));
+    if stated.brv != b {
+        return Err(Refusal::Spacing);
+    }
+    let Some(north) = stored::tile_of(spacing.b, stated.pso) else {
+        return Err(Refusal::Origin);
     };
-    let Counted::From(east) = stored::tile_of(a, values[LSO]) else {
-        return refused_with(arc::refused(10));
+    let Some(east) = stored::tile_of(spacing.a, stated.lso) else {
+        return Err(Refusal::Origin);
     };
     let n = whole::difference(north as u32, (b / 512) as u32);
     let m = whole::difference(east as u32, (a / 256) as u32);
-    let r = record_in(s, values, n, m);
+    let r = record_of(values, n, m);
     if !extents_hold(a, north, r) {
-        return refused_with(arc::refused(11));
+        return Err(Refusal::Extent);
     }
-    Reading {
-        verdict: Verdict::Accepted,
-        card: card_of(series, a, b, north, east, r),
+    Ok(Reading {
+        fields: fields_of(series, spacing, north, east, r),
         blanks: blanks_in(s),
-    }
+    })
 }

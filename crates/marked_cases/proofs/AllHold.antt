@@ -6,10 +6,10 @@ use Rattle.zones.specs.Basic.{first_holding}
 use Rattle.zones.specs.Cover.{covers}
 use Rattle.origin.specs.Origin.{stored_angle}
 use Rattle.text.specs.Text.{number, angle_laid, degrees, minutes, seconds, hundredths, angle_size, angle_of, angle_valid, name_laid}
-use Rattle.card.specs.Layout.{layout, judge_field}
-use Rattle.card.specs.Extents.{extents_hold}
+use Rattle.card_text.specs.Layout.{layout, judge_field}
+use Rattle.card_text.specs.Extents.{extents_hold}
 use Rattle.whole.specs.Lists.{first_from}
-use Rattle.card.specs.Read.{card_of, with_values, read_in}
+use Rattle.card_text.specs.Read.{card_of, with_values, read_in}
 use Rattle.card.specs.Grid.{latitude_of, longitude_of, position_of}
 use Rattle.marked_cases.specs.Cases.{MarkedCases}
 

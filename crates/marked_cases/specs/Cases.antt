@@ -5,14 +5,14 @@
 --     card               the bytes of document 01's card, as its two parts
 --     cases              the list
 use Rattle.std.specs.Prelude.{◌≡◌, List, [], ◌∷◌, ◌++◌, map, ℕ, ℤ, pos, neg_ℤ, take}
-use Rattle.arc.specs.declared.SpacingAnswer.{SpacingAnswer}
+use Rattle.arc.specs.declared.series.Spacing.{Spacing}
 use Rattle.arc.specs.Scales.{chart_series}
 use Rattle.arc.specs.Spacing.{spacing_of, spacing_report, rows_of, constant_report}
 use Rattle.zones.specs.Basic.{basic_zone_of, zone_report}
 use Rattle.zones.specs.Cover.{cover_of, cover_report}
 use Rattle.origin.specs.Origin.{stored_angle}
 use Rattle.text.specs.Text.{bytes}
-use Rattle.card.specs.Read.{read_of}
+use Rattle.card_text.specs.Read.{read_of}
 use Rattle.card.specs.declared.Pair.{Pair}
 use Rattle.card.specs.Grid.{position_of, position_report}
 

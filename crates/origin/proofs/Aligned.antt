@@ -1,4 +1,4 @@
--- What an origin is held to: n and m are the ceiling and the floor that the paper states, and neither leaves the axis; at a town scale no point
+-- What an origin is held to: n and m are the ceiling and the floor that are defined, and neither leaves the axis; at a town scale no point
 -- is aligned. Assumes nothing.
 use mathlib.Core.Path.{◌≡◌, refl, ap₂}
 use mathlib.Core.Bool.{Bool, not, ◌&&◌}
@@ -9,10 +9,12 @@ use Rattle.whole.specs.Whole.{raise}
 use Rattle.whole.proofs.Signed.{is-equal, is-parts, over, under, is_mul, is-raise, raise-high}
 use Rattle.whole.proofs.Held.{floors, ceils}
 use Rattle.arc.specs.Zones.{circle, half, quarter, tile}
-use Rattle.arc.specs.declared.SpacingAnswer.{SpacingAnswer}
+use Rattle.std.specs.Prelude.{Result, Ok, Err}
+use Rattle.whole.specs.Results.{◌>>=◌}
+use Rattle.arc.specs.declared.refusal.Refusal.{Refusal}
+use Rattle.arc.specs.declared.series.Spacing.{Spacing}
 use Rattle.arc.specs.TownScales.{spacing_for_writing}
 use Rattle.arc.proofs.TownScales.{town-refused, written_from, only-from}
-use Rattle.origin.specs.declared.OriginAnswer.{OriginAnswer}
 use Rattle.origin.specs.Origin.{row_tiles, column_tiles, origin_of, align_in, AlignedIs, AlignedOnGrid, AlignedFrom, AlignedScale, TownNotAligned}
 use Rattle.origin.proofs.Line.{is-inside}
 use Rattle.origin.proofs.Axis.{tile_angle, is-tiles, latitudes, longitudes, row_is, row-high, column-is, column-high}
@@ -52,9 +54,10 @@ aligned-from series lat lon h = rw (written_from series h)
 pub aligned-scale : AlignedScale
 aligned-scale series lat lon o e = go (spacing_for_writing series) refl e
   where
-    go : (x : SpacingAnswer) → spacing_for_writing series ≡ x → align_in series.zone x lat lon ≡ OriginAnswer.Aligned o → 10000 ≤ series.scale
-    go (SpacingAnswer.Constants a b) p q = only-from series a b p
-    go (SpacingAnswer.Refused r) p q = let z : ◌≡◌ {A = ℕ} 0 1 = cc in absurd (omega arith)
+    go : (x : Result Spacing Refusal) → spacing_for_writing series ≡ x → x >>= (λ y. align_in series.zone y lat lon) ≡ Ok o
+        → 10000 ≤ series.scale
+    go (Ok x) p q = only-from series x.a x.b p
+    go (Err r) p q = let z : ◌≡◌ {A = ℕ} 0 1 = cc in absurd (omega arith)
 
 pub town-not-aligned : TownNotAligned
 town-not-aligned series lat lon p q = rw (town-refused series p q)

@@ -1,16 +1,17 @@
 -- Laws of one axis of the tile grid, latitude or longitude: a line whose unit is a tile. Assumes nothing.
 use mathlib.Core.Path.{◌≡◌, ◌∙◌}
 use mathlib.Core.Bool.{false}
-use Prim.Native.Nat.{ℕ, ◌+◌, ◌*◌, ◌/◌, ◌≤◌}
+use Prim.Native.Nat.{ℕ, ◌+◌, ◌*◌, ◌/◌, ◌%◌, ◌≤◌, ◌<◌, min}
 use native.Mathlib.Nat.{mul_assoc, mul-le-mul_right}
 use native.Mathlib.Omega.{arith}
-use borrow.Author.Tests.{le-ltb}
+use borrow.Author.Tests.{le-ltb, lt-ltb}
 use lib.IntN.{ℤ, pos, nat_abs, ◌*ℤ◌}
 use Rattle.whole.specs.Whole.{near, outside, raise}
 use Rattle.whole.proofs.Signed.{Is, is_same, is_mul, is-lmul, is-size, is-floor, is-ceil, is-raise, raise-high}
 use Rattle.whole.proofs.Near.{near_le}
 use Rattle.arc.specs.Zones.{circle, half, quarter, tile}
-use Rattle.arc.specs.Spacing.{Grid}
+use Rattle.arc.specs.Pixels.{Grid}
+use Rattle.origin.specs.declared.Origin.{Origin}
 use Rattle.origin.specs.Origin.{row_tiles, column_tiles, stored_angle}
 use Rattle.origin.specs.Steps.{stored_from}
 use Rattle.origin.proofs.Line.{Line, angle-is, scaled-is}
@@ -74,3 +75,26 @@ module _ {x t l : ℕ} (axis : Axis x t l) where
         is-size (stored_angle x k) (near (n * tile_angle) x) l (stored_is k n (is-raise t k h)),
         stored-high n (omega (arith, raise-high t k h)),
       )
+
+-- ---- what `stored_at` does
+pub stored_far : (x n : ℕ) → circle < n → 0 ≡ stored_from x n
+unfolding stored_from
+stored_far x n h = rw (lt-ltb circle n h)
+
+pub stored_near : (x n : ℕ) → n ≤ circle → near (n * tile_angle) x ≡ stored_from x n
+unfolding stored_from
+stored_near x n h = rw (le-ltb circle n h)
+
+pub ruleset stored = (stored_far, stored_near)
+
+-- the code's ceiling
+pub as_ceiling : (n : ℕ) → n / tile_angle + min 1 (n % tile_angle) ≡ (n + 16588799999) / tile_angle
+as_ceiling n = omega arith
+
+-- fewer tiles than the circle has hundredths
+pub few : {x n : ℕ} → Grid x → n ≤ 2 * (x / 256) → n ≤ circle
+few g h = omega (arith, g.most)
+
+pub same : {n n' m m' p p' l l' : ℤ} → n ≡ n' → m ≡ m' → p ≡ p' → l ≡ l'
+    → ◌≡◌ {A = Origin} (record { n = n; m = m; pso = p; lso = l }) (record { n = n'; m = m'; pso = p'; lso = l' })
+same e f g h = cc

@@ -1,21 +1,17 @@
-// Origins: a whole number of 128-pixel tiles from the Equator and from the zero meridian (001, 3.4.5).
+//! Origins: a whole number of 128-pixel tiles from the Equator and from the zero meridian (DIGEST, "The ARC System", 3.4.5).
 #![tactic(auto)]
 
 ghost use Rattle.std.specs.Prelude.{◌≡◌, ◌≤◌, pos, ◌-ℤ◌};
-ghost use Rattle.arc.specs.declared.SpacingAnswer.{SpacingAnswer};
-ghost use Rattle.arc.specs.Spacing.{Grid};
 ghost use Rattle.origin.specs.Origin.{origin_of, align_in, align_of};
 ghost use Rattle.origin.specs.Steps.{stored_from};
 
-use arc::{Circle, Refusal, Series, SpacingAnswer, Tile};
-use whole::Counted;
+use arc::{Circle, Pixels, Refusal, Series, Spacing, Tile};
 
-mod parts;
+pub mod laws;
 
-pub use parts::OriginParts;
-
-// An origin: n and m in tiles, and the angles that a card stores for them.
-#[derive(Clone, Copy)]
+/// An origin: n and m in tiles, from −B/512 to B/512 and from −A/256 to A/256, and the angles that a card stores for them, in hundredths of
+/// an arc-second.
+#[derive(Clone, Copy, Debug, PartialEq, Eq)]
 pub struct Origin {
     pub n: i64,
     pub m: i64,
@@ -23,34 +19,30 @@ pub struct Origin {
     pub lso: i64,
 }
 
-#[derive(Clone, Copy)]
-pub enum OriginAnswer {
-    Aligned(Origin),
-    Refused(Refusal),
-}
-
-// The angle stored for a count of tiles, both counted from the South Pole or from 180° west (01, "Origins and the zone grid").
-pub fn stored_at(tiles: u64, spacing: u64) -> u64
-    ensures { result ≡ stored_from spacing tiles }
+/// The angle stored for a count of tiles, both counted from the South Pole or from 180° west, in hundredths of an arc-second. 0 for more
+/// tiles than the circle has hundredths, which no grid has.
+#[tactic(auto, using(crate::proofs::Axis::stored))]
+pub fn stored_at(tiles: u64, pixels: Pixels) -> u64
+    ensures { result ≡ stored_from pixels tiles }
 {
     if Circle::H < tiles {
         return 0;
     }
-    whole::nearest(tiles * Tile::ANGLE, spacing)
+    whole::nearest(tiles * Tile::ANGLE, pixels.count())
 }
 
-// The origin of a point north of the South Pole and east of 180° west by these angles.
-fn origin_at(a: u64, b: u64, north: u64, east: u64) -> Origin
-    requires a_on_grid { Grid a }
-    requires b_on_grid { Grid b }
+/// The origin of a point north of the South Pole and east of 180° west by these angles.
+fn origin_at(spacing: Spacing, north: u64, east: u64) -> Origin
     requires north_in_range { north ≤ 64800000 }
     requires east_in_range { east ≤ 129600000 }
-    ensures { result ≡ origin_of a b (pos north -ℤ pos 32400000) (pos east -ℤ pos 64800000) }
+    ensures { result ≡ origin_of spacing.a spacing.b (pos north -ℤ pos 32400000) (pos east -ℤ pos 64800000) }
 {
-    let rows = (north * b + (Tile::ANGLE - 1)) / Tile::ANGLE;
+    let a = spacing.a.count();
+    let b = spacing.b.count();
+    let rows = (north * b).div_ceil(Tile::ANGLE);
     let columns = east * a / Tile::ANGLE;
-    let pso = stored_at(rows, b);
-    let lso = stored_at(columns, a);
+    let pso = stored_at(rows, spacing.b);
+    let lso = stored_at(columns, spacing.a);
     Origin {
         n: whole::difference(rows as u32, (b / 512) as u32),
         m: whole::difference(columns as u32, (a / 256) as u32),
@@ -59,30 +51,22 @@ fn origin_at(a: u64, b: u64, north: u64, east: u64) -> Origin
     }
 }
 
-// Alignment, the spacing being known. Refuses 3, 4, 5.
-fn align_in(a: u64, b: u64, zone: u64, lat: i64, lon: i64) -> OriginAnswer
-    requires a_on_grid { Grid a }
-    requires b_on_grid { Grid b }
-    ensures { result ≡ align_in zone (SpacingAnswer.Constants a b) lat lon }
+/// Alignment, the spacing being known. Refuses the polar zones, the latitude, then the longitude.
+fn align_in(spacing: Spacing, zone: u64, lat: i64, lon: i64) -> Result<Origin, Refusal>
+    ensures { result ≡ align_in zone spacing lat lon }
 {
     if arc::is_polar(zone) {
-        return OriginAnswer::Refused(arc::refused(3));
+        return Err(Refusal::Polar);
     }
-    let Counted::From(north) = whole::count_from(lat, Circle::LATITUDE) else {
-        return OriginAnswer::Refused(arc::refused(4));
-    };
-    let Counted::From(east) = whole::count_from(lon, Circle::LONGITUDE) else {
-        return OriginAnswer::Refused(arc::refused(5));
-    };
-    OriginAnswer::Aligned(origin_at(a, b, north, east))
+    let north = whole::count_from(lat, Circle::LATITUDE).ok_or(Refusal::Latitude)?;
+    let east = whole::count_from(lon, Circle::LONGITUDE).ok_or(Refusal::Longitude)?;
+    Ok(origin_at(spacing, north, east))
 }
 
-// The origin of an upper left point. Refuses 1, 24, 17, 1, 2, 3, 4, 5.
-pub fn align(series: Series, lat: i64, lon: i64) -> OriginAnswer
+/// The origin of an upper left point: the nearest on the tile grid that is not south or east of it. Refuses what the spacing for writing
+/// refuses, then the polar zones, the latitude and the longitude.
+pub fn align(series: Series, lat: i64, lon: i64) -> Result<Origin, Refusal>
     ensures { result ≡ align_of series lat lon }
 {
-    match arc::spacing_for_writing(series) {
-        SpacingAnswer::Constants { a, b } => align_in(a, b, series.zone, lat, lon),
-        SpacingAnswer::Refused(r) => OriginAnswer::Refused(r),
-    }
+    align_in(series.spacing_for_writing()?, series.zone, lat, lon)
 }

@@ -6,7 +6,6 @@ use native.Mathlib.Numerals.{add-one}
 use native.Mathlib.Decide.{dec_le, ℕ_discrete}
 use mathlib.Core.Path.{◌≡◌, refl, sym, ap, subst}
 use mathlib.Core.Bool.{Bool, true, false, cond}
-use mathlib.Core.Logic.{◌⊎◌, inl, inr}
 use mathlib.Core.List.{List}
 use borrow.Author.Tests.{eq-eqb, ne_eqb, ltb-true, ltb-false, lt-ltb, le-ltb}
 use lib.Dec.{ltb}
@@ -63,11 +62,16 @@ module _ (words : List ℕ) where
 
   -- ---- how far the count is not above a number
   module _ (count : ℕ) where
-    pub within-is : (n m : ℕ) → m ≤ n → counted words m ≤ count → (m ≡ n) ⊎ (count < counted words (m + 1)) → within words count n ≡ m
+    -- the count passes the number nowhere, or at a tile
+    pub never_stops : (n : ℕ) → counted words n ≤ count → within words count n ≡ n
     unfolding within
-    within-is zero m h l p = omega arith
-    within-is (suc n) m h l (inl e) = rw (le-ltb count (counted words (suc n)) (subst (λ (x : ℕ). counted words x ≤ count) e l)) (sym e)
-    within-is (suc n) m h l (inr g) = go (ℕ_discrete m (suc n)) (λ d. within-is n m (omega arith) l (inr g))
+    never_stops zero l = refl
+    never_stops (suc n) l = rw (le-ltb count (counted words (suc n)) l)
+
+    pub stops_at : (n m : ℕ) → m ≤ n → counted words m ≤ count → count < counted words (m + 1) → within words count n ≡ m
+    unfolding within
+    stops_at zero m h l g = omega arith
+    stops_at (suc n) m h l g = go (ℕ_discrete m (suc n)) (λ d. stops_at n m (omega arith) l g)
       where
         go : Dec (m ≡ suc n) → ((m ≡ suc n → ⊥) → within words count n ≡ m) → cond (ltb count (counted words (suc n))) (within words count n) (suc n) ≡ m
         go (yes e) f = rw (le-ltb count (counted words (suc n)) (subst (λ (x : ℕ). counted words x ≤ count) e l)) (sym e)
@@ -98,3 +102,5 @@ module _ (words : List ℕ) where
         go true e (yes i) l f =
             let z : suc n ≡ t + 1 = omega arith in
             subst (λ (x : ℕ). count < counted words x) z (ltb-true count (counted words (suc n)) e)
+
+pub ruleset numbering = (number-none, number-some, present-in)

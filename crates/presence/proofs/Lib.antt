@@ -1,3 +1,3 @@
-pub mod Ones
 pub mod Counted
+pub mod Ones
 pub mod Set

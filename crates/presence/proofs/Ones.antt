@@ -9,7 +9,11 @@ use lib.ListN.{get_or}
 use lib.Pow.{mod-pow-add, ones_split, ones_lt, high, pow_pos}
 use lib.Bits.{bit_and, and_mask}
 use lib.Count.{ones, ones_in, ones_cat}
+use Rattle.std.proofs.Common.{take, length, add-one}
+use Rattle.std.specs.List.{sum_by}
+use Rattle.std.proofs.lemmas.List.Sums.{sum_by_more}
 use Rattle.presence.specs.Presence.{counted}
+use Rattle.presence.proofs.Counted.{counted_none, counted_step, counted-le, stops_at, never_stops}
 
 one_bit : (x : ℕ) → x < 2 → ones x ≡ x
 unfolding ones ones_in
@@ -66,3 +70,16 @@ module _ (words : List ℕ) where
           let e : bit + 1 + k ≡ 64 = omega arith in
           let s : 2 ^ 64 - 1 ≡ (2 ^ (bit + 1) - 1) * 2 ^ k + (2 ^ k - 1) = ap (λ (n : ℕ). 2 ^ n - 1) (sym e) ∙ ones_split (bit + 1) k in
           ap (λ (n : ℕ). n / 2 ^ k) s ∙ high (2 ^ (bit + 1) - 1) k (ones_lt k)
+
+-- whole words
+pub ones_of_words : (words : List ℕ) (i : ℕ) → ((k : ℕ) → get_or words k 0 < 2 ^ 64) → i ≤ length words
+    → sum_by ones (take i words) ≡ counted words (i * 64)
+ones_of_words words zero f h = sym (counted_none words)
+ones_of_words words (suc i) f h =
+    let e : take (i + 1) words ≡ take (suc i) words = rw add-one in
+    let m : (i + 1) * 64 ≡ suc i * 64 = rw add-one in
+    rw (← e, ← m, sum_by_more ones words i 0 (omega arith), ones_of_words words i f (omega arith)) (whole_word words i (f i))
+
+pub ruleset counting = (ones_of_words, last_word, counted-le)
+
+pub ruleset passing = (whole_word, counted_none, counted_step, counted-le, stops_at, never_stops)

@@ -72,3 +72,5 @@ module _ (words : List ℕ) where
   -- nor past the words
   pub set_past : (t n : ℕ) → length words ≤ t / 64 → any_set_from words t n ≡ false
   set_past t n h = set-none t n (λ j p q. present-past words j (omega arith))
+
+pub ruleset setting = (set_rest, set_past)

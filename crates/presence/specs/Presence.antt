@@ -1,4 +1,4 @@
--- Presence bits: one bit a tile, 64 to a word, first tile lowest (02, E7). Definitions only.
+-- Presence bits: one bit a tile, 64 to a word, first tile lowest. Definitions only.
 --     present words t         the bit of tile t, 1 where it is stored, else 0; 0 past the words
 --     counted words n         the count of ones among the first n tiles
 --     number_at words t       the stored number of tile t, 0 where it is not stored

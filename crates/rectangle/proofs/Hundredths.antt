@@ -2,7 +2,7 @@
 use mathlib.Core.Path.{◌≡◌, refl, sym, ap, ◌∙◌}
 use mathlib.Core.Bool.{Bool, true, false, cond, not, ◌&&◌, ◌||◌, and-eq-true_iff, or-true, false≢true}
 use mathlib.Core.Logic.{◌⊎◌, inl, inr, ⊎_elim}
-use mathlib.Core.Option.{Option, some, none}
+use Rattle.std.specs.Prelude.{Option, Some, None}
 use Prim.Native.Nat.{ℕ, suc, ◌+◌, ◌-◌, ◌*◌, ◌≤◌, ◌<◌}
 use native.Mathlib.Nat.{add-mul, mul_right_comm, mul-le-mul_right, mul-lt-mul_of_pos_right, le_of_mul-le-mul_right, lt_of_mul-lt-mul_right}
 use native.Mathlib.Omega.{arith}
@@ -12,7 +12,8 @@ use lib.IntN.{ℤ, pos, negsuc, nat_abs, ◌*ℤ◌}
 use lib.Signed.{lt_z}
 use Rattle.whole.proofs.Held.{outsides}
 use Rattle.whole.proofs.Signed.{is-nat, is_mul, is-size, is-lt_z}
-use Rattle.arc.specs.Zones.{circle, quarter, is_polar, Row, table_row, from, to}
+use Rattle.arc.specs.Zones.{circle, quarter, is_polar, table_row}
+use Rattle.arc.specs.declared.zone_table.Row.{Row}
 use Rattle.zones.specs.Basic.{holds_size, zone_on}
 use Rattle.zones.specs.Cover.{overlaps, covers_in, covers}
 use Rattle.rectangle.specs.Points.{Point, HoldsPoint, OverlapsPoint, CoversPoint, WholeIs}
@@ -52,41 +53,41 @@ module _ (b zone : ℕ) (lat : ℤ) (p : Point) (e : p.numerator ≡ lat *ℤ po
   module _ (r : Row) where
     holds : HoldsPoint r p → holds_size r (nat_abs lat) ≡ true
     holds w =
-        rw (le-leb (from r) (nat_abs lat) (le_of_mul-le-mul_right (omega (arith, w.0, size)) p.positive))
-        (⊎_elim (λ k. rw (lt-ltb (nat_abs lat) (to r) (lt_of_mul-lt-mul_right d (omega (arith, size)))))
-        (λ k. rw (eq-eqb r.poleward 90 k.0) (or-true (ltb (nat_abs lat) (to r)))) w.1)
+        rw (le-leb r.equatorward (nat_abs lat) (le_of_mul-le-mul_right (omega (arith, w.0, size)) p.positive))
+        (⊎_elim (λ k. rw (lt-ltb (nat_abs lat) r.poleward (lt_of_mul-lt-mul_right d (omega (arith, size)))))
+        (λ k. rw (eq-eqb r.poleward quarter k.0) (or-true (ltb (nat_abs lat) r.poleward))) w.1)
 
     overlapped : OverlapsPoint b r p → overlaps b r (nat_abs lat) ≡ true
     overlapped (f, k, l) =
-        let m : to r ≤ nat_abs lat = le_of_mul-le-mul_right (omega (arith, size)) p.positive in
-        rw (f, le-leb (to r) (nat_abs lat) m)
-        (lt-ltb ((nat_abs lat - to r) * b) (1024 * circle)
-        (lt_of_mul-lt-mul_right d (omega (arith, past (to r) m, ap (λ (n : ℕ). (n - to r * d) * b) size))))
+        let m : r.poleward ≤ nat_abs lat = le_of_mul-le-mul_right (omega (arith, size)) p.positive in
+        rw (f, le-leb r.poleward (nat_abs lat) m)
+        (lt-ltb ((nat_abs lat - r.poleward) * b) (1024 * circle)
+        (lt_of_mul-lt-mul_right d (omega (arith, past r.poleward m, ap (λ (n : ℕ). (n - r.poleward * d) * b) size))))
 
     held : nat_abs lat ≤ quarter → holds_size r (nat_abs lat) ≡ true → HoldsPoint r p
     held q t =
-        let w = (and-eq-true_iff (leb (from r) (nat_abs lat)) (ltb (nat_abs lat) (to r) || eqb r.poleward 90)).0 t in (
-          omega (arith, size, mul-le-mul_right d (leb-true (from r) (nat_abs lat) w.0)),
-          go (ltb (nat_abs lat) (to r)) refl w.1,
+        let w = (and-eq-true_iff (leb r.equatorward (nat_abs lat)) (ltb (nat_abs lat) r.poleward || eqb r.poleward quarter)).0 t in (
+          omega (arith, size, mul-le-mul_right d (leb-true r.equatorward (nat_abs lat) w.0)),
+          go (ltb (nat_abs lat) r.poleward) refl w.1,
         )
       where
-        go : (t : Bool) → ltb (nat_abs lat) (to r) ≡ t → t || eqb r.poleward 90 ≡ true
-            → (nat_abs p.numerator < to r * d) ⊎ ((r.poleward ≡ 90) × (nat_abs p.numerator ≡ quarter * d))
-        go true k l = inl (omega (arith, size, mul-lt-mul_of_pos_right (ltb-true (nat_abs lat) (to r) k) p.positive))
+        go : (t : Bool) → ltb (nat_abs lat) r.poleward ≡ t → t || eqb r.poleward quarter ≡ true
+            → (nat_abs p.numerator < r.poleward * d) ⊎ ((r.poleward ≡ quarter) × (nat_abs p.numerator ≡ quarter * d))
+        go true k l = inl (omega (arith, size, mul-lt-mul_of_pos_right (ltb-true (nat_abs lat) r.poleward k) p.positive))
         go false k l =
-            let f : r.poleward ≡ 90 = eqb-true r.poleward 90 l in
-            inr (f, size ∙ ap (λ (n : ℕ). n * d) (omega (arith, ltb-false (nat_abs lat) (to r) k)))
+            let f : r.poleward ≡ quarter = eqb-true r.poleward quarter l in
+            inr (f, size ∙ ap (λ (n : ℕ). n * d) (omega (arith, ltb-false (nat_abs lat) r.poleward k)))
 
     over-it : overlaps b r (nat_abs lat) ≡ true → OverlapsPoint b r p
     over-it t =
-        let w = (and-eq-true_iff (not (is_polar r.northern)) (leb (to r) (nat_abs lat) && ltb ((nat_abs lat - to r) * b) (1024 * circle))).0 t in
-        let v = (and-eq-true_iff (leb (to r) (nat_abs lat)) (ltb ((nat_abs lat - to r) * b) (1024 * circle))).0 w.1 in
-        let m : to r ≤ nat_abs lat = leb-true (to r) (nat_abs lat) v.0 in
-        let l : (nat_abs lat - to r) * b * d < 1024 * circle * d =
-        mul-lt-mul_of_pos_right (ltb-true ((nat_abs lat - to r) * b) (1024 * circle) v.1) p.positive in (
+        let w = (and-eq-true_iff (not (is_polar r.northern)) (leb r.poleward (nat_abs lat) && ltb ((nat_abs lat - r.poleward) * b) (1024 * circle))).0 t in
+        let v = (and-eq-true_iff (leb r.poleward (nat_abs lat)) (ltb ((nat_abs lat - r.poleward) * b) (1024 * circle))).0 w.1 in
+        let m : r.poleward ≤ nat_abs lat = leb-true r.poleward (nat_abs lat) v.0 in
+        let l : (nat_abs lat - r.poleward) * b * d < 1024 * circle * d =
+        mul-lt-mul_of_pos_right (ltb-true ((nat_abs lat - r.poleward) * b) (1024 * circle) v.1) p.positive in (
           not-true (is_polar r.northern) w.0,
           omega (arith, size, mul-le-mul_right d m),
-          omega (arith, past (to r) m, ap (λ (n : ℕ). (n - to r * d) * b) size),
+          omega (arith, past r.poleward m, ap (λ (n : ℕ). (n - r.poleward * d) * b) size),
         )
 
   there : CoversPoint b zone p → covers b lat zone ≡ true
@@ -100,8 +101,8 @@ module _ (b zone : ℕ) (lat : ℤ) (p : Point) (e : p.numerator ≡ lat *ℤ po
   back q t = go (table_row zone) refl t
     where
       go : (o : Option Row) → table_row zone ≡ o → covers_in b lat zone o ≡ true → CoversPoint b zone p
-      go none f k = absurd (false≢true k)
-      go (some r) f k =
+      go None f k = absurd (false≢true k)
+      go (Some r) f k =
           let w = (and-eq-true_iff (eqb zone (zone_on lat r)) (holds_size r (nat_abs lat) || overlaps b r (nat_abs lat))).0 k in
           record {
             row = r;

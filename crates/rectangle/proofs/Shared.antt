@@ -3,7 +3,7 @@
 use mathlib.Core.Path.{◌≡◌, refl, sym, ap, ◌∙◌}
 use mathlib.Core.Bool.{true, and-eq-true_iff, false≢true}
 use mathlib.Core.Logic.{◌↔◌, ⊎_elim}
-use mathlib.Core.Option.{Option, some, none}
+use Rattle.std.specs.Prelude.{Option, Some, None}
 use Prim.Native.Nat.{ℕ, ◌+◌, ◌*◌, ◌≤◌, ◌<◌}
 use native.Mathlib.Nat.{add-mul, mul_assoc, mul_left_comm, mul_right_comm, mul-le-mul_right, mul-lt-mul_of_pos_right, lt_of_mul-lt-mul_right}
 use native.Mathlib.Omega.{arith}
@@ -14,8 +14,9 @@ use Rattle.whole.proofs.Signed.{Is, over, under, is-parts, is-nat, is-add, is_mu
 use Rattle.whole.proofs.Signed.{le_parts, lt-parts, parts-lt, below-at-most}
 use Rattle.whole.proofs.Fractions.{lt-products, le-lt, lt-le}
 use Rattle.whole.proofs.Lists.{occurs-those, occurs-up}
-use Rattle.arc.specs.Zones.{Row, table_row}
-use Rattle.arc.specs.Spacing.{row_unit, spacing_at}
+use Rattle.arc.specs.Zones.{table_row}
+use Rattle.arc.specs.declared.zone_table.Row.{Row}
+use Rattle.arc.specs.Pixels.{row_unit, spacing_at}
 use Rattle.arc.proofs.Table.{zone-at}
 use Rattle.zones.proofs.Covering.{scale-rows}
 use Rattle.rectangle.specs.Stretch.{Stretch, zone_stretch, rectangle_stretch, shares_height, shares_in, shares}
@@ -136,7 +137,7 @@ module _ (b : ℕ) (i : 0 < b) where
         (omega (arith, up (under y) (over y) (under z) (over z) d (omega arith)))
 
   -- the zone's stretch against the rectangle's
-  module _ (south north : ℤ) (zone : ℕ) (r : Row) (t : table_row zone ≡ some r) where
+  module _ (south north : ℤ) (zone : ℕ) (r : Row) (t : table_row zone ≡ Some r) where
     abbrev zone-ends : Stretch
     zone-ends = zone_stretch b zone r
 
@@ -175,14 +176,14 @@ unfolding shares
 sharing b i south north zone = go (table_row zone) refl
   where
     go : (o : Option Row) → table_row zone ≡ o → (shares_in b south north zone o ≡ true) ↔ Shared b south north zone
-    go (some r) t = (points b i south north zone r t, apart b i south north zone r t)
-    go none t = (
+    go (Some r) t = (points b i south north zone r t, apart b i south north zone r t)
+    go None t = (
       (λ e. absurd (false≢true e)),
       (λ w. let e = (at_low w).1.of_zone in let z : ◌≡◌ {A = ℕ} 0 1 = cc in absurd (omega arith)),
     )
 
 -- a zone of the table is one of the eighteen that the list goes through
-pub listed : (b : ℕ) (south north : ℤ) (zone : ℕ) (r : Row) → table_row zone ≡ some r → shares b south north zone ≡ true
+pub listed : (b : ℕ) (south north : ℤ) (zone : ℕ) (r : Row) → table_row zone ≡ Some r → shares b south north zone ≡ true
     → occurs zone (rectangle_zones b south north) ≡ true
 unfolding rectangle_zones
 listed b south north zone r t e =

@@ -9,7 +9,11 @@ use borrow.Author.Tests.{ltb-true, ltb-false, lt-ltb, eq-eqb, ne_eqb}
 use lib.Dec.{ltb}
 use lib.IntN.{ℤ, pos, neg_ℤ, ◌-ℤ◌, ◌*ℤ◌}
 use Rattle.whole.proofs.Signed.{Is, is-nat, is-neg, is_mul, is_lt, lt-is, is-difference}
-use Rattle.arc.specs.Zones.{circle, quarter, is_polar, Row, from, to, row_at}
+use mir.Syntax.{w64}
+use mir.Val.{Fits}
+use Rattle.whole.proofs.Machine.{fits-mul}
+use Rattle.arc.specs.Zones.{circle, half, quarter, is_polar, row_at}
+use Rattle.arc.specs.declared.zone_table.Row.{Row}
 use Rattle.arc.proofs.Table.{southern-at, row-north, row-south, from-to, to-most}
 use Rattle.zones.specs.Steps.{reaches, Rows}
 use Rattle.rectangle.specs.Stretch.{poleward_end, Stretch, northern_stretch, southern_stretch, zone_stretch, rectangle_stretch, shares_height}
@@ -26,7 +30,7 @@ same false false f g = refl
 pub end-polar : (b : ℕ) (r : Row) → is_polar r.northern ≡ true → poleward_end b r ≡ quarter * b
 end-polar b r e = rw e
 
-pub end-other : (b : ℕ) (r : Row) → is_polar r.northern ≡ false → poleward_end b r ≡ to r * b + 1024 * circle
+pub end-other : (b : ℕ) (r : Row) → is_polar r.northern ≡ false → poleward_end b r ≡ r.poleward * b + 1024 * circle
 end-other b r e = rw e
 
 module _ (b j : ℕ) (h : j < 9) where
@@ -43,11 +47,11 @@ module _ (b j : ℕ) (h : j < 9) where
   module _ (g : Rows b) (a c d e : ℕ) (o : a + e < d + c) (m : d ≤ e + quarter) where
     -- the row starts before the rectangle ends, and ends after it starts
     pub record Meets : Type 0 where
-      pub starts : from (row_at j) * b + e * b < d * b
+      pub starts : (row_at j).equatorward * b + e * b < d * b
       pub reach : a * b < poleward_end b (row_at j) + c * b
 
     abbrev start : ℕ
-    start = from (row_at j) * b
+    start = (row_at j).equatorward * b
 
     abbrev end : ℕ
     end = poleward_end b (row_at j)
@@ -56,48 +60,46 @@ module _ (b j : ℕ) (h : j < 9) where
     positive = omega (arith, g.least)
 
     meets-shares : Meets → shares_row b (row_at j) (a - c) (d - e) ≡ true
-    unfolding shares_row
     meets-shares w =
-        let f : from (row_at j) + e < d = lt_of_mul-lt-mul_right b (omega (arith, add-mul (from (row_at j)) e b)) in
-        rw (lt-ltb (from (row_at j)) (d - e) (omega arith))
-        (go (ltb (a - c) (to (row_at j))) (is_polar (row_at j).northern) refl refl w.reach)
+        let f : (row_at j).equatorward + e < d = lt_of_mul-lt-mul_right b (omega (arith, add-mul (row_at j).equatorward e b)) in
+        rw (lt-ltb (row_at j).equatorward (d - e) (omega arith))
+        (go (ltb (a - c) (row_at j).poleward) (is_polar (row_at j).northern) refl refl w.reach)
       where
-        go : (t p : Bool) → ltb (a - c) (to (row_at j)) ≡ t → is_polar (row_at j).northern ≡ p → a * b < end + c * b
-            → (t || p) || ltb ((a - c - to (row_at j)) * b) (1024 * circle) ≡ true
+        go : (t p : Bool) → ltb (a - c) (row_at j).poleward ≡ t → is_polar (row_at j).northern ≡ p → a * b < end + c * b
+            → (t || p) || ltb ((a - c - (row_at j).poleward) * b) (1024 * circle) ≡ true
         go true p q k l = refl
         go false true q k l = refl
         go false false q k l =
-            let f : to (row_at j) ≤ a - c = ltb-false (a - c) (to (row_at j)) q in
-            let s : a * b ≡ (c + to (row_at j)) * b + (a - c - to (row_at j)) * b =
-            ap (λ (n : ℕ). n * b) (omega (arith, from-to j h)) ∙ add-mul (c + to (row_at j)) (a - c - to (row_at j)) b in
-            lt-ltb ((a - c - to (row_at j)) * b) (1024 * circle) (omega (arith, add-mul c (to (row_at j)) b, end-other b (row_at j) k))
+            let f : (row_at j).poleward ≤ a - c = ltb-false (a - c) (row_at j).poleward q in
+            let s : a * b ≡ (c + (row_at j).poleward) * b + (a - c - (row_at j).poleward) * b =
+            ap (λ (n : ℕ). n * b) (omega (arith, from-to j h)) ∙ add-mul (c + (row_at j).poleward) (a - c - (row_at j).poleward) b in
+            lt-ltb ((a - c - (row_at j).poleward) * b) (1024 * circle) (omega (arith, add-mul c (row_at j).poleward b, end-other b (row_at j) k))
 
     shares-meets : shares_row b (row_at j) (a - c) (d - e) ≡ true → Meets
-    unfolding shares_row
     shares-meets t =
-        let w = (and-eq-true_iff (ltb (from (row_at j)) (d - e)) (reaches b (row_at j) (a - c))).0 t in
-        let f : from (row_at j) + e < d = omega (arith, ltb-true (from (row_at j)) (d - e) w.0) in
+        let w = (and-eq-true_iff (ltb (row_at j).equatorward (d - e)) (reaches b (row_at j) (a - c))).0 t in
+        let f : (row_at j).equatorward + e < d = omega (arith, ltb-true (row_at j).equatorward (d - e) w.0) in
         record {
-          starts = omega (arith, mul-lt-mul_of_pos_right f positive, add-mul (from (row_at j)) e b);
-          reach = go (ltb (a - c) (to (row_at j))) (is_polar (row_at j).northern) refl refl w.1;
+          starts = omega (arith, mul-lt-mul_of_pos_right f positive, add-mul (row_at j).equatorward e b);
+          reach = go (ltb (a - c) (row_at j).poleward) (is_polar (row_at j).northern) refl refl w.1;
         }
       where
         -- a is below c and the limit
         sooner : (k : ℕ) → a < k + c → a * b < k * b + c * b
         sooner k l = omega (arith, mul-lt-mul_of_pos_right l positive, add-mul k c b)
 
-        go : (t p : Bool) → ltb (a - c) (to (row_at j)) ≡ t → is_polar (row_at j).northern ≡ p
-            → (t || p) || ltb ((a - c - to (row_at j)) * b) (1024 * circle) ≡ true
+        go : (t p : Bool) → ltb (a - c) (row_at j).poleward ≡ t → is_polar (row_at j).northern ≡ p
+            → (t || p) || ltb ((a - c - (row_at j).poleward) * b) (1024 * circle) ≡ true
             → a * b < end + c * b
         go t true q k l = omega (arith, sooner quarter (omega arith), end-polar b (row_at j) k)
-        go true false q k l = omega (arith, sooner (to (row_at j)) (omega (arith, ltb-true (a - c) (to (row_at j)) q)), end-other b (row_at j) k)
+        go true false q k l = omega (arith, sooner (row_at j).poleward (omega (arith, ltb-true (a - c) (row_at j).poleward q)), end-other b (row_at j) k)
         go false false q k l =
-            let s : a * b ≤ (c + to (row_at j) + (a - c - to (row_at j))) * b = mul-le-mul_right b (omega arith) in
+            let s : a * b ≤ (c + (row_at j).poleward + (a - c - (row_at j).poleward)) * b = mul-le-mul_right b (omega arith) in
             omega (
               arith,
-              add-mul (c + to (row_at j)) (a - c - to (row_at j)) b,
-              add-mul c (to (row_at j)) b,
-              ltb-true ((a - c - to (row_at j)) * b) (1024 * circle) l,
+              add-mul (c + (row_at j).poleward) (a - c - (row_at j).poleward) b,
+              add-mul c (row_at j).poleward b,
+              ltb-true ((a - c - (row_at j).poleward) * b) (1024 * circle) l,
               end-other b (row_at j) k,
             )
 
@@ -192,3 +194,7 @@ module _ (b zone S N : ℕ) (g : Sides b zone S N) where
       ap asked e
       ∙ on-south b (zone - 10) (omega (arith, g.last_zone)) g.rows quarter N quarter S (omega (arith, g.order)) (omega arith)
       (pos S -ℤ pos quarter) (pos N -ℤ pos quarter) (is-difference S quarter) (is-difference N quarter)
+
+-- the code's product fits
+pub past_fits : (b low limit : ℕ) → Rows b → low ≤ half → Fits w64 ((low - limit) * b)
+past_fits b low limit g h = fits-mul half 80076800 tt (omega arith) g.most

@@ -2,7 +2,7 @@
 use mathlib.Core.Path.{◌≡◌, refl, sym, ap, ◌∙◌}
 use mathlib.Core.Bool.{Bool, true, false}
 use mathlib.Core.Logic.{◌⊎◌, inl, inr, ⊎_elim}
-use mathlib.Core.Option.{some}
+use Rattle.std.specs.Prelude.{Some}
 use Prim.Native.Nat.{ℕ, suc, ◌+◌, ◌-◌, ◌*◌, ◌≤◌, ◌<◌}
 use native.Mathlib.Nat.{add-mul, mul_right_comm, mul-le-mul_right, lt_of_mul-lt-mul_right}
 use native.Mathlib.Omega.{arith}
@@ -10,7 +10,8 @@ use borrow.Author.Tests.{ltb-true, ltb-false, le-ltb, eqb-true}
 use lib.Dec.{ltb}
 use lib.IntN.{ℤ, pos, negsuc, neg_ℤ, nat_abs, ◌*ℤ◌}
 use Rattle.whole.proofs.Signed.{Is, is-nat, is-neg, is_mul, lt-is, is_le}
-use Rattle.arc.specs.Zones.{circle, quarter, is_polar, Row, table_row, from, to, row_at}
+use Rattle.arc.specs.Zones.{circle, quarter, is_polar, table_row, row_at}
+use Rattle.arc.specs.declared.zone_table.Row.{Row}
 use Rattle.arc.proofs.Table.{northern-at, southern-at, row-north, row-south, polar-at, last-at, from-to, to-most, zone-at}
 use Rattle.rectangle.specs.Stretch.{poleward_end, northern_stretch, southern_stretch, zone_stretch}
 use Rattle.rectangle.specs.Points.{Point, HoldsPoint, OverlapsPoint, CoversPoint, Between, NotBeyond, StretchIs}
@@ -32,41 +33,41 @@ module _ (b j : ℕ) (i : 0 < b) (h : j < 9) where
     at-pole : is_polar r.northern ≡ true → poleward_end b r * d ≡ quarter * d * b
     at-pole f = ap (λ (k : ℕ). k * d) (end-polar b r f) ∙ mul_right_comm quarter b d
 
-    past-limit : is_polar r.northern ≡ false → poleward_end b r * d ≡ to r * d * b + 1024 * circle * d
+    past-limit : is_polar r.northern ≡ false → poleward_end b r * d ≡ r.poleward * d * b + 1024 * circle * d
     past-limit f =
-        ap (λ (k : ℕ). k * d) (end-other b r f) ∙ add-mul (to r * b) (1024 * circle) d
-        ∙ ap (λ (k : ℕ). k + 1024 * circle * d) (mul_right_comm (to r) b d)
+        ap (λ (k : ℕ). k * d) (end-other b r f) ∙ add-mul (r.poleward * b) (1024 * circle) d
+        ∙ ap (λ (k : ℕ). k + 1024 * circle * d) (mul_right_comm r.poleward b d)
 
     -- a size past the limit, times B
-    farther : to r * d ≤ size → size * b ≡ (size - to r * d) * b + to r * d * b
-    farther n = ap (λ (k : ℕ). k * b) (omega arith) ∙ add-mul (size - to r * d) (to r * d) b
+    farther : r.poleward * d ≤ size → size * b ≡ (size - r.poleward * d) * b + r.poleward * d * b
+    farther n = ap (λ (k : ℕ). k * b) (omega arith) ∙ add-mul (size - r.poleward * d) (r.poleward * d) b
 
-    lies : from r * b * d < size * b → size * b < poleward_end b r * d → HoldsPoint r p ⊎ OverlapsPoint b r p
-    lies k l = go (ltb size (to r * d)) (is_polar r.northern) refl refl
+    lies : r.equatorward * b * d < size * b → size * b < poleward_end b r * d → HoldsPoint r p ⊎ OverlapsPoint b r p
+    lies k l = go (ltb size (r.poleward * d)) (is_polar r.northern) refl refl
       where
-        starts : from r * d ≤ size
-        starts = let m : from r * d < size = lt_of_mul-lt-mul_right b (omega (arith, mul_right_comm (from r) d b)) in omega arith
+        starts : r.equatorward * d ≤ size
+        starts = let m : r.equatorward * d < size = lt_of_mul-lt-mul_right b (omega (arith, mul_right_comm r.equatorward d b)) in omega arith
 
-        go : (t q : Bool) → ltb size (to r * d) ≡ t → is_polar r.northern ≡ q → HoldsPoint r p ⊎ OverlapsPoint b r p
-        go true q e f = inl (starts, inl (ltb-true size (to r * d) e))
+        go : (t q : Bool) → ltb size (r.poleward * d) ≡ t → is_polar r.northern ≡ q → HoldsPoint r p ⊎ OverlapsPoint b r p
+        go true q e f = inl (starts, inl (ltb-true size (r.poleward * d) e))
         go false true e f =
             let n : size < quarter * d = lt_of_mul-lt-mul_right b (omega (arith, l, at-pole f)) in
-            let s : to r ≡ quarter = ap (λ (k : ℕ). k * 360000) (eqb-true r.poleward 90 (last-at j h ∙ sym (polar-at j h) ∙ f)) in
-            absurd (omega (arith, ltb-false size (to r * d) e, ap (λ (k : ℕ). k * d) s))
+            let s : r.poleward ≡ quarter = eqb-true r.poleward quarter (last-at j h ∙ sym (polar-at j h) ∙ f) in
+            absurd (omega (arith, ltb-false size (r.poleward * d) e, ap (λ (k : ℕ). k * d) s))
         go false false e f =
-            let n : to r * d ≤ size = ltb-false size (to r * d) e in
+            let n : r.poleward * d ≤ size = ltb-false size (r.poleward * d) e in
             inr (f, n, omega (arith, l, farther n, past-limit f))
 
-    within : HoldsPoint r p ⊎ OverlapsPoint b r p → (from r * b * d ≤ size * b) × (size * b ≤ poleward_end b r * d)
+    within : HoldsPoint r p ⊎ OverlapsPoint b r p → (r.equatorward * b * d ≤ size * b) × (size * b ≤ poleward_end b r * d)
     within w = (starts (⊎_elim (λ k. k.0) (λ k. omega (arith, k.1, limits)) w), ends w)
       where
-        limits : from r * d ≤ to r * d
+        limits : r.equatorward * d ≤ r.poleward * d
         limits = mul-le-mul_right d (omega (arith, from-to j h))
 
-        starts : from r * d ≤ size → from r * b * d ≤ size * b
-        starts k = omega (arith, mul-le-mul_right b k, mul_right_comm (from r) d b)
+        starts : r.equatorward * d ≤ size → r.equatorward * b * d ≤ size * b
+        starts k = omega (arith, mul-le-mul_right b k, mul_right_comm r.equatorward d b)
 
-        before : size ≤ to r * d → size * b ≤ poleward_end b r * d
+        before : size ≤ r.poleward * d → size * b ≤ poleward_end b r * d
         before k = go (is_polar r.northern) refl
           where
             go : (q : Bool) → is_polar r.northern ≡ q → size * b ≤ poleward_end b r * d
@@ -79,7 +80,7 @@ module _ (b j : ℕ) (i : 0 < b) (h : j < 9) where
         ends (inr (f, n, k)) = omega (arith, farther n, past-limit f)
 
   -- a row of the zone is this row
-  own_row : (zone : ℕ) → table_row zone ≡ some r → (p : Point) (w : CoversPoint b zone p) → w.row ≡ r
+  own_row : (zone : ℕ) → table_row zone ≡ Some r → (p : Point) (w : CoversPoint b zone p) → w.row ≡ r
   own_row zone e p w = let f = w.of_zone in cc
 
   -- a point north of the Equator or on it, and one south of it
@@ -103,7 +104,7 @@ module _ (b j : ℕ) (i : 0 < b) (h : j < 9) where
     mirror-is k = is_mul (neg_ℤ (pos k)) d 0 k (is-neg (pos k) k 0 (is-nat k))
 
     abbrev S : ℕ
-    S = from r * b
+    S = r.equatorward * b
 
     abbrev E : ℕ
     E = poleward_end b r

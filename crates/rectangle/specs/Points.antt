@@ -1,24 +1,24 @@
--- The rectangle's list, point by point (02, E3: "latitude read as a continuous line"). Claims: the proofs are proofs/Hundredths.antt, proofs/Stretch.antt,
+-- The rectangle's list, point by point of latitude read as a continuous line. Claims: the proofs are proofs/Hundredths.antt, proofs/Stretch.antt,
 -- proofs/Shared.antt and proofs/Poleward.antt. What is said of a fraction is multiplied by its denominator.
 --     Point              a point of the line: numerator / denominator hundredths of an arc-second
 --     AtMost, Below      two points in their order, multiplied out
 --     InRectangle        a point of the rectangle, both edges belonging to it
 --     HoldsPoint, OverlapsPoint    it lies between the row's limits, or in the row's overlap, by its size
---     CoversPoint        the zone covers the point: 01's sentences on a latitude, of any point
+--     CoversPoint        the zone covers the point: what is said of a latitude, of any point
 --     Between, NotBeyond a point strictly between two ends that were multiplied by B, and one that is not beyond them
 --     Shared             two different points that lie in both, with all between them
---     WholeIs            at a whole hundredth CoversPoint is 01's cover
+--     WholeIs            at a whole hundredth CoversPoint is `covers`
 --     StretchIs          a zone's stretch is what it covers: each point between its ends is covered, and none beyond them
 --     SharesIs           the test of a zone and a rectangle is true exactly when there are two such points
 --     RectangleListed    a number is in the list exactly when it is a zone's for which there are two such points
 --     CoverPoleward      a zone that covers a latitude is listed for every rectangle that starts there and goes poleward
-use Rattle.std.specs.Prelude.{◌≡◌, true, false, ◌⊎◌, ◌↔◌, ℕ, ◌-◌, ◌*◌, ◌≤◌, ◌<◌, ℤ, pos, nat_abs, ◌*ℤ◌, ◌≤ℤ◌, ◌<ℤ◌}
-use Rattle.std.proofs.Math.Option.{some}
+use Rattle.std.specs.Prelude.{◌≡◌, true, false, ◌⊎◌, ◌↔◌, ℕ, ◌-◌, ◌*◌, ◌≤◌, ◌<◌, ℤ, pos, nat_abs, ◌*ℤ◌, ◌≤ℤ◌, ◌<ℤ◌, Some}
 use Rattle.whole.specs.Whole.{outside}
 use Rattle.whole.specs.Lists.{occurs}
-use Rattle.arc.specs.Zones.{circle, quarter, Row, table_row, is_polar, from, to}
+use Rattle.arc.specs.Zones.{circle, quarter, table_row, is_polar}
+use Rattle.arc.specs.declared.zone_table.Row.{Row}
 use Rattle.arc.specs.Scales.{is_scale}
-use Rattle.arc.specs.Spacing.{row_unit, spacing_at}
+use Rattle.arc.specs.Pixels.{row_unit, spacing_at}
 use Rattle.zones.specs.Basic.{zone_on}
 use Rattle.zones.specs.Cover.{covers}
 use Rattle.rectangle.specs.Stretch.{Stretch, zone_stretch, shares}
@@ -42,20 +42,20 @@ InRectangle south north p = ((south *ℤ pos p.denominator) ≤ℤ p.numerator) 
 -- a limit belongs to the poleward zone, and 90° to the polar zones
 abbrev pub HoldsPoint : Row → Point → Type 0
 HoldsPoint r p =
-    (from r * p.denominator ≤ nat_abs p.numerator)
-    × ((nat_abs p.numerator < to r * p.denominator) ⊎ ((r.poleward ≡ 90) × (nat_abs p.numerator ≡ quarter * p.denominator)))
+    (r.equatorward * p.denominator ≤ nat_abs p.numerator)
+    × ((nat_abs p.numerator < r.poleward * p.denominator) ⊎ ((r.poleward ≡ quarter) × (nat_abs p.numerator ≡ quarter * p.denominator)))
 
 -- a non-polar zone with poleward limit P: |lat| at least P and (|lat| − P) × B < 1024 × H
 abbrev pub OverlapsPoint : ℕ → Row → Point → Type 0
 OverlapsPoint b r p =
     (is_polar r.northern ≡ false)
-    × (to r * p.denominator ≤ nat_abs p.numerator)
-    × ((nat_abs p.numerator - to r * p.denominator) * b < 1024 * circle * p.denominator)
+    × (r.poleward * p.denominator ≤ nat_abs p.numerator)
+    × ((nat_abs p.numerator - r.poleward * p.denominator) * b < 1024 * circle * p.denominator)
 
 -- a point of its hemisphere, the numerator having its sign, that lies in it or in its overlap
 pub record CoversPoint (b zone : ℕ) (p : Point) : Type 0 where
   pub row : Row
-  pub of_zone : table_row zone ≡ some row
+  pub of_zone : table_row zone ≡ Some row
   pub hemisphere : zone ≡ zone_on p.numerator row
   pub lies : HoldsPoint row p ⊎ OverlapsPoint b row p
 
@@ -83,7 +83,7 @@ WholeIs =
 
 abbrev pub StretchIs : Type 0
 StretchIs =
-    (b : ℕ) → 0 < b → (zone : ℕ) (r : Row) → table_row zone ≡ some r → (p : Point)
+    (b : ℕ) → 0 < b → (zone : ℕ) (r : Row) → table_row zone ≡ Some r → (p : Point)
     → (Between b (zone_stretch b zone r) p → CoversPoint b zone p) × (CoversPoint b zone p → NotBeyond b (zone_stretch b zone r) p)
 
 abbrev pub SharesIs : Type 0

@@ -3,11 +3,12 @@
 --     shares_row b r low high    the row shares a stretch of more than zero height with the sizes from low to high; low is below high, or both are 0
 --     Sides                      what `zone_shares` is handed
 use Rattle.std.specs.Prelude.{ℕ, ◌≤◌, ◌<◌, Bool, ◌&&◌, ltb}
-use Rattle.arc.specs.Zones.{half, Row, from}
+use Rattle.arc.specs.Zones.{half}
+use Rattle.arc.specs.declared.zone_table.Row.{Row}
 use Rattle.zones.specs.Steps.{reaches, Rows}
 
-unfoldable pub shares_row : ℕ → Row → ℕ → ℕ → Bool
-shares_row b r low high = ltb (from r) high && reaches b r low
+abbrev pub shares_row : ℕ → Row → ℕ → ℕ → Bool
+shares_row b r low high = ltb r.equatorward high && reaches b r low
 
 -- a zone, and a rectangle whose edges are counted from the South Pole
 pub record Sides (b zone south north : ℕ) : Type 0 where

@@ -9,8 +9,8 @@ use lib.IntN.{ℤ}
 use lib.ListN.{length, take}
 use borrow.Author.Tests.{le-leb}
 use Rattle.whole.specs.Whole.{outside}
-use Rattle.arc.specs.declared.Series.{Series}
-use Rattle.arc.specs.declared.SpacingAnswer.{SpacingAnswer}
+use Rattle.arc.specs.declared.series.Series.{Series}
+use Rattle.arc.specs.declared.series.Spacing.{Spacing}
 use Rattle.arc.specs.Refusals.{refusal}
 use Rattle.arc.specs.Zones.{half, quarter, is_polar}
 use Rattle.arc.specs.Spacing.{spacing_of, Grids}
@@ -20,11 +20,11 @@ use Rattle.origin.specs.declared.Origin.{Origin}
 use Rattle.origin.specs.declared.OriginAnswer.{OriginAnswer}
 use Rattle.origin.specs.Origin.{origin_of, align_in, stored_angle, Aligned, on_grid}
 use Rattle.origin.proofs.Aligned.{aligned, aligned-on-grid, aligned-scale}
-use Rattle.card.specs.declared.Record.{Record}
-use Rattle.card.specs.Layout.{LSO, PSO, bytes_of}
+use Rattle.card_text.specs.declared.Record.{Record}
+use Rattle.card_text.specs.Layout.{LSO, PSO, bytes_of}
 use Rattle.text.specs.Text.{angle_text}
-use Rattle.card.specs.Write.{card_text, out_of}
-use Rattle.card.specs.RoundTrips.{ReadBack}
+use Rattle.card_text.specs.Write.{card_text, out_of}
+use Rattle.card_text.specs.RoundTrips.{ReadBack}
 use Rattle.round_trip.specs.Aligned.{Fits, Carried, AlignedBack}
 use Rattle.round_trip.proofs.Records.{Good, Writes, is-written, text_out}
 use Rattle.round_trip.proofs.ReadBack.{long, read_back, lso-text, pso-text}

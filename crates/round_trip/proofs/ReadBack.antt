@@ -10,31 +10,30 @@ use lib.Dec.{eqb}
 use lib.IntN.{ℤ, nat_abs}
 use lib.ListN.{length, get_or}
 use Rattle.whole.specs.Whole.{outside}
-use Rattle.arc.specs.declared.Series.{Series}
-use Rattle.arc.specs.declared.Verdict.{Verdict}
-use Rattle.arc.specs.declared.SpacingAnswer.{SpacingAnswer}
+use Rattle.arc.specs.declared.series.Series.{Series}
+use Rattle.arc.specs.declared.series.Spacing.{Spacing}
 use Rattle.arc.specs.Zones.{half, quarter, is_polar}
 use Rattle.arc.specs.Spacing.{spacing_of, Grids}
 use Rattle.arc.proofs.Answered.{answered-grids}
 use Rattle.arc.proofs.TownScales.{writing-spacing, writing-grids}
 use Rattle.origin.specs.Origin.{stored_angle}
 use Rattle.origin.proofs.Axis.{Axis, latitudes, longitudes, stored-within}
-use Rattle.card.specs.declared.Card.{Card}
-use Rattle.card.specs.declared.Record.{Record}
-use Rattle.card.specs.declared.Fill.{Fill}
+use Rattle.card_text.specs.declared.Fields.{Fields}
+use Rattle.card_text.specs.declared.Record.{Record}
+use Rattle.card_text.specs.declared.Fill.{Fill}
 use Rattle.text.specs.Text.{number, angle_of, digits, angle_text}
-use Rattle.card.specs.Layout.{Subfield, STR, ARV, BRV, LSO, PSO, NUL, NUS, NLL, NLS, NFL, NFC, BAD, TIF, layout, bytes_of, walk}
-use Rattle.card.specs.Extents.{extents_hold}
-use Rattle.card.specs.Blanks.{total_blanks}
-use Rattle.card.specs.Read.{number_in, card_of, accepted_card, read_of}
-use Rattle.card.specs.Write.{counted, values_of, card_text}
-use Rattle.card.specs.RoundTrips.{record_of, ReadBack, ReadsBack, TextReadBack}
+use Rattle.card_text.specs.Layout.{Subfield, STR, ARV, BRV, LSO, PSO, NUL, NUS, NLL, NLS, NFL, NFC, BAD, TIF, layout, bytes_of, walk}
+use Rattle.card_text.specs.Extents.{extents_hold}
+use Rattle.card_text.specs.Blanks.{total_blanks}
+use Rattle.card_text.specs.Read.{number_in, card_of, accepted_card, read_of}
+use Rattle.card_text.specs.Write.{counted, values_of, card_text}
+use Rattle.card_text.specs.RoundTrips.{record_of, ReadBack, ReadsBack, TextReadBack}
 use Rattle.text.proofs.Numbers.{number_digits}
 use Rattle.text.proofs.Angles.{angle-of-text}
 use Rattle.round_trip.proofs.Table.{count_held, angle-held, a-name, a-flag, Along, done, ◌then◌, along-at, Held, Text, length-written, texts, walks}
-use Rattle.card.proofs.Found.{Stores}
-use Rattle.card.proofs.Acceptance.{to_read}
-use Rattle.card.proofs.Strict.{strict-accepts}
+use Rattle.card_text.proofs.Found.{Stores}
+use Rattle.card_text.proofs.Acceptance.{to_read}
+use Rattle.card_text.proofs.Strict.{strict-accepts}
 use Rattle.round_trip.proofs.Records.{card_with, extents, Good, good, n-on, m-on, sizes, inverted, text_out}
 
 -- a tile stores the angle read from the text of its stored angle
@@ -110,7 +109,7 @@ module _ (a b : ℕ) (r : Record) (g : Grids a b) (ok : Good a b r) (twelve : le
   brv-back = digits-back BRV b (text 2 (omega arith)) (omega (arith, g.rows.most))
 
   module _ (series : Series) where
-    abbrev k : Card
+    abbrev k : Fields
     k = card_of series a b r.n r.m card
 
     same : record_of k ≡ r
@@ -162,7 +161,7 @@ module _ (a b : ℕ) (r : Record) (g : Grids a b) (ok : Good a b r) (twelve : le
 
     pub read_back : spacing_of series ≡ SpacingAnswer.Constants a b → is_polar series.zone ≡ false → ReadBack series r card
     unfolding card_of
-    read_back e p = record { card = k; read = is_read e p; of_series = refl; same = same }
+    read_back e p = record { fields = k; read = is_read e p; of_series = refl; same = same }
 
     -- the card is the record's
     pub read-with : spacing_of series ≡ SpacingAnswer.Constants a b → is_polar series.zone ≡ false

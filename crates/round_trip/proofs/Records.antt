@@ -10,24 +10,23 @@ use lib.ListN.{length, take, drop}
 use lib.Seq.{take_at}
 use borrow.Author.Tests.{leb-true, le-leb, not-true}
 use Rattle.whole.specs.Whole.{outside, raise}
-use Rattle.arc.specs.declared.Series.{Series}
-use Rattle.arc.specs.declared.Verdict.{Verdict}
-use Rattle.arc.specs.declared.SpacingAnswer.{SpacingAnswer}
+use Rattle.arc.specs.declared.series.Series.{Series}
+use Rattle.arc.specs.declared.series.Spacing.{Spacing}
 use Rattle.arc.specs.Refusals.{refusal}
 use Rattle.arc.specs.Zones.{is_polar}
 use Rattle.arc.specs.TownScales.{spacing_for_writing}
-use Rattle.card.specs.declared.Card.{Card}
-use Rattle.card.specs.declared.Record.{Record}
+use Rattle.card_text.specs.declared.Fields.{Fields}
+use Rattle.card_text.specs.declared.Record.{Record}
 use Rattle.text.specs.Text.{name_laid}
 use Rattle.origin.specs.Origin.{on_grid}
-use Rattle.card.specs.Extents.{extents_hold}
-use Rattle.card.specs.Write.{card_text, first, record_tests, write_in, write_of, out_of}
-use Rattle.card.proofs.Walked.{tested, between}
-use Rattle.card.proofs.Spans.{Extends, extends}
+use Rattle.card_text.specs.Extents.{extents_hold}
+use Rattle.card_text.specs.Write.{card_text, first, record_tests, write_in, write_of, out_of}
+use Rattle.card_text.proofs.Walked.{tested, between}
+use Rattle.card_text.proofs.Spans.{Extends, extends}
 
 -- ---- the card of a record
 
-abbrev pub card_with : Series → ℕ → ℕ → Record → Card
+abbrev pub card_with : Series → ℕ → ℕ → Record → Fields
 card_with series a b r =
     record {
       series = series;

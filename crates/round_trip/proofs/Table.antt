@@ -10,11 +10,10 @@ use lib.Dec.{eqb}
 use lib.IntN.{ℤ, nat_abs}
 use lib.ListN.{length, get_or, drop, length-append, drop_of_length-le}
 use borrow.Author.Tests.{le-leb, eqb-true}
-use Rattle.arc.specs.declared.Verdict.{Verdict}
 use Rattle.text.specs.Text.{is_flag, name_laid, part}
-use Rattle.card.specs.declared.Fill.{Fill}
-use Rattle.card.specs.Layout.{Kind, Subfield, STR, bytes_of, right_kind, right_value, judge_field, walk}
-use Rattle.card.specs.Write.{Value, counted, angle, named, flagged, text_of, written}
+use Rattle.card_text.specs.declared.Fill.{Fill}
+use Rattle.card_text.specs.Layout.{Kind, Subfield, STR, bytes_of, right_kind, right_value, judge_field, walk}
+use Rattle.card_text.specs.Write.{Value, counted, angle, named, flagged, text_of, written}
 use Rattle.text.proofs.Bytes.{part_at, cut}
 use Rattle.text.proofs.Numbers.{length_digits, all_digits, number_digits}
 use Rattle.text.proofs.Angles.{length-angle, text-laid, text-valid}

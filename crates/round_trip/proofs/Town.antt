@@ -3,10 +3,10 @@
 use Rattle.arc.proofs.ScaleLaws.{scale-least}
 use Rattle.arc.proofs.Answered.{answered-from}
 use Rattle.arc.proofs.TownScales.{town-refused, only-from}
-use Rattle.card.specs.declared.Fill.{Fill}
-use Rattle.card.specs.Write.{write_of, out_of}
-use Rattle.card.specs.RoundTrips.{record_of, WrittenScale, TownNotWritten, HeldNotWritten}
-use Rattle.card.proofs.Acceptance.{read-to}
+use Rattle.card_text.specs.declared.Fill.{Fill}
+use Rattle.card_text.specs.Write.{write_of, out_of}
+use Rattle.card_text.specs.RoundTrips.{record_of, WrittenScale, TownNotWritten, HeldNotWritten}
+use Rattle.card_text.proofs.Acceptance.{read-to}
 use Rattle.round_trip.proofs.Records.{inverted}
 
 pub written-scale : WrittenScale

@@ -8,29 +8,28 @@ use native.Mathlib.Omega.{arith}
 use lib.Dec.{leb, eqb}
 use lib.ListN.{length, get_or, take}
 use borrow.Author.Tests.{eqb-true}
-use Rattle.arc.specs.declared.Series.{Series}
+use Rattle.arc.specs.declared.series.Series.{Series}
 use Rattle.arc.specs.Zones.{half, quarter}
-use Rattle.arc.specs.declared.Verdict.{Verdict}
 use Rattle.arc.specs.Spacing.{Grids}
 use Rattle.arc.proofs.Answered.{answered-grids}
 use Rattle.arc.proofs.TownScales.{written_from}
-use Rattle.card.specs.declared.Card.{Card}
-use Rattle.card.specs.declared.Fill.{Fill}
-use Rattle.card.specs.declared.Reading.{Reading}
+use Rattle.card_text.specs.declared.Fields.{Fields}
+use Rattle.card_text.specs.declared.Fill.{Fill}
+use Rattle.card_text.specs.declared.Reading.{Reading}
 use Rattle.text.specs.Text.{all, is_digit, is_flag, angle_laid, angle_valid, angle_of, digits, angle_text}
-use Rattle.card.specs.Layout.{Subfield, STR, ARV, BRV, LSO, PSO, NUL, NUS, NLL, NLS, NFL, NFC, PNC, PNL, COD, ROD, POR, PCB, PVB, TIF, layout, bytes_of}
-use Rattle.card.specs.Read.{number_in, card_of, accepted_card, read_of, read_strict}
-use Rattle.card.specs.Write.{values_of, card_text, write_of, out_of}
-use Rattle.card.specs.RoundTrips.{record_of, WritesBack, ReadIsText, TextIsRead}
+use Rattle.card_text.specs.Layout.{Subfield, STR, ARV, BRV, LSO, PSO, NUL, NUS, NLL, NLS, NFL, NFC, PNC, PNL, COD, ROD, POR, PCB, PVB, TIF, layout, bytes_of}
+use Rattle.card_text.specs.Read.{number_in, card_of, accepted_card, read_of, read_strict}
+use Rattle.card_text.specs.Write.{values_of, card_text, write_of, out_of}
+use Rattle.card_text.specs.RoundTrips.{record_of, WritesBack, ReadIsText, TextIsRead}
 use Rattle.text.proofs.Bytes.{length_part, drop-next}
 use Rattle.text.proofs.Numbers.{digits_number}
 use Rattle.text.proofs.Angles.{text-of-angle}
 use Rattle.round_trip.proofs.Table.{Along, done, ◌then◌, Text, written_back}
 use Rattle.round_trip.proofs.Records.{Good, Writes, is-written, text_out}
 use Rattle.round_trip.proofs.ReadBack.{long, read-with}
-use Rattle.card.proofs.Walked.{between, RightIn, right-in}
-use Rattle.card.proofs.Acceptance.{ReadTo, read-to}
-use Rattle.card.proofs.Strict.{tolerant-accepts}
+use Rattle.card_text.proofs.Walked.{between, RightIn, right-in}
+use Rattle.card_text.proofs.Acceptance.{ReadTo, read-to}
+use Rattle.card_text.proofs.Strict.{tolerant-accepts}
 
 -- a flag's byte is that of its value
 flag-byte : (x : ℕ) (t : Bool) → eqb x 89 ≡ t → is_flag x ≡ true → x ≡ cond t 89 78
@@ -38,9 +37,9 @@ flag-byte x true q e = eqb-true x 89 q
 flag-byte x false q e = eqb-true x 78 (rw q at e)
 
 -- a card as 01 reads it
-module _ (series : Series) (s : List ℕ) (k : Card) (n : ℕ) (d : ReadTo Fill.Zeros series s k n) where
+module _ (series : Series) (s : List ℕ) (k : Fields) (n : ℕ) (d : ReadTo Fill.Zeros series s k n) where
   -- the card's value, as it is read
-  abbrev c : Card
+  abbrev c : Fields
   c = card_of series d.a d.b d.n d.m s
 
   -- what passed
@@ -100,13 +99,13 @@ module _ (series : Series) (s : List ℕ) (k : Card) (n : ℕ) (d : ReadTo Fill.
   unfolding card_text layout
   text_same = written_back s 0 refl d.long all-texts
 
-strict-text : (series : Series) (s : List ℕ) (k : Card) → read_strict series s ≡ accepted_card k 0 → card_text k.a k.b (record_of k) ≡ s
+strict-text : (series : Series) (s : List ℕ) (k : Fields) → read_strict series s ≡ accepted_card k 0 → card_text k.a k.b (record_of k) ≡ s
 unfolding card_of
 strict-text series s k e = let d = read-to Fill.Zeros series s k 0 e in rw (← d.card) (text_same series s k 0 d)
 
 -- a card as it is read, with blanks or without
-module _ (series : Series) (s : List ℕ) (k : Card) (n : ℕ) (d : ReadTo Fill.Blanks series s k n) where
-  abbrev value : Card
+module _ (series : Series) (s : List ℕ) (k : Fields) (n : ℕ) (d : ReadTo Fill.Blanks series s k n) where
+  abbrev value : Fields
   value = card_of series d.a d.b d.n d.m s
 
   passed : (i : ℕ) → i < 20 → RightIn Fill.Blanks s (get_or layout i STR)

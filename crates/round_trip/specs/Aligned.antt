@@ -4,19 +4,18 @@
 --     Carried ..         it is written, and read back to the same n and m; LSO and PSO are the texts of o's angles
 --     AlignedBack        the claim
 use Rattle.std.specs.Prelude.{◌≡◌, List, true, ℕ, ◌≤◌, ℤ, length, take}
-use Rattle.arc.specs.declared.Series.{Series}
-use Rattle.arc.specs.declared.Verdict.{Verdict}
-use Rattle.arc.specs.declared.SpacingAnswer.{SpacingAnswer}
+use Rattle.arc.specs.declared.series.Series.{Series}
+use Rattle.arc.specs.declared.series.Spacing.{Spacing}
 use Rattle.arc.specs.Spacing.{spacing_of}
 use Rattle.origin.specs.declared.Origin.{Origin}
 use Rattle.origin.specs.declared.OriginAnswer.{OriginAnswer}
 use Rattle.origin.specs.Origin.{align_of}
-use Rattle.card.specs.declared.Record.{Record}
+use Rattle.card_text.specs.declared.Record.{Record}
 use Rattle.text.specs.Text.{name_laid, angle_text}
-use Rattle.card.specs.Layout.{LSO, PSO, bytes_of}
-use Rattle.card.specs.Extents.{extents_hold}
-use Rattle.card.specs.Write.{write_of, out_of}
-use Rattle.card.specs.RoundTrips.{ReadBack}
+use Rattle.card_text.specs.Layout.{LSO, PSO, bytes_of}
+use Rattle.card_text.specs.Extents.{extents_hold}
+use Rattle.card_text.specs.Write.{write_of, out_of}
+use Rattle.card_text.specs.RoundTrips.{ReadBack}
 
 pub record Fits (a b : ℕ) (o : Origin) (r : Record) : Type 0 where
   pub at_n : r.n ≡ o.n
@@ -33,8 +32,8 @@ pub record Fits (a b : ℕ) (o : Origin) (r : Record) : Type 0 where
 pub record Carried (series : Series) (o : Origin) (r : Record) (out s : List ℕ) : Type 0 where
   pub written : write_of series r out ≡ Verdict.Accepted
   pub back : ReadBack series r s
-  pub same_n : back.card.n ≡ o.n
-  pub same_m : back.card.m ≡ o.m
+  pub same_n : back.fields.n ≡ o.n
+  pub same_m : back.fields.m ≡ o.m
   pub lso : bytes_of LSO s ≡ angle_text 3 o.lso
   pub pso : bytes_of PSO s ≡ angle_text 2 o.pso
 

@@ -7,6 +7,8 @@ use mathlib.Core.Bool.{false≢true, and-eq-true_iff}
 use lib.Signed.{lt_z}
 use Rattle.text.specs.Text.{is_sign, minus, number, angle_laid, minutes, seconds, angle_size, angle_of, angle_valid, digits, angle_text}
 use Rattle.text.proofs.Numbers.{length_digits, number_digits, digits_number, number-below}
+use Rattle.text.specs.Buffer.{put_at, end_of}
+use Rattle.text.proofs.Splices.{none_left, none_ends}
 use Rattle.text.proofs.Runs.{Run, Runs, joined, digits-run, laid, sign_at, minutes-is, seconds-is, size_is, runs}
 
 abbrev sign_byte : ℤ → ℕ
@@ -30,6 +32,12 @@ module _ (d : ℕ) (z : ℤ) where
   pub length-angle : length (angle_text d z) ≡ d + 8
   unfolding angle_text
   length-angle = simp (length-append, length_digits) (omega arith)
+
+  pub angle_none_left : (o : ℕ) (s : List ℕ) → length s < o + (d + 8) → put_at (angle_text d z) o s ≡ s
+  angle_none_left o s h = none_left (angle_text d z) o s (omega (arith, length-angle))
+
+  pub angle_none_end : (o : ℕ) (s : List ℕ) → length s < o + (d + 8) → end_of (angle_text d z) o s ≡ o
+  angle_none_end o s h = none_ends (angle_text d z) o s (omega (arith, length-angle))
 
   joins : angle_text d z
       ≡ joined (sign_byte z) (digits d (nat_abs z / 360000)) (digits 2 (nat_abs z / 6000 % 60))
@@ -135,3 +143,6 @@ module _ (d limit : ℕ) (s : List ℕ) (long : length s ≡ d + 8) (is-laid : a
       alike : {b b' : ℕ} {d d' m m' s s' h h' : List ℕ} → b ≡ b' → d ≡ d' → m ≡ m' → s ≡ s' → h ≡ h'
           → joined b d m s h ≡ joined b' d' m' s' h'
       alike p q r s t = cc
+
+-- no room for an angle
+pub ruleset angles = (angle_none_left, angle_none_end)

@@ -1,11 +1,10 @@
 -- Laws of runs of bytes: the next byte of what is left, a run at its offset, a run of a run, a run in two parts, and a test of
 -- all bytes. Assumes nothing.
-use Rattle.std.proofs.Common.{◌≡◌, ℕ, zero, suc, ◌+◌, ◌*◌, ◌<◌, ◌≤◌, Bool, true, ◌&&◌, List, [], ◌∷◌, ◌++◌, length, get_or, take, drop, set, sym}
-use Rattle.std.proofs.Common.{refl, ap, ◌∙◌, le_of_suc-le-suc, not-suc-le-zero, add-one, arith, length-drop, take-append-drop, length-take}
+use Rattle.std.proofs.Common.{◌≡◌, ℕ, zero, suc, ◌+◌, ◌<◌, ◌≤◌, Bool, ◌&&◌, List, [], ◌∷◌, ◌++◌, length, get_or, take, drop, set, sym}
+use Rattle.std.proofs.Common.{refl, ap, ◌∙◌, add-one, arith, length-drop, take-append-drop, length-take}
 use Rattle.std.proofs.Common.{get_or-drop, drop-cons, get_or-take, take-suc, take-take, drop-drop, take-suc-set, take_at, take-add, drop_at}
-use mathlib.Core.Bool.{and_assoc, and-eq-true_iff}
+use mathlib.Core.Bool.{and_assoc}
 use Rattle.text.specs.Text.{part, all}
-use Rattle.text.specs.Buffer.{less_zero, summed}
 
 -- ---- the next byte
 
@@ -16,10 +15,6 @@ drop-next s i h = rw add-one (drop-cons s i 0 h)
 pub all-next : (f : ℕ → Bool) (ok : Bool) (s : List ℕ) (i : ℕ) → i < length s
     → ((ok && f (get_or s i 0)) && all f (drop (i + 1) s)) ≡ (ok && all f (drop i s))
 all-next f ok s i h = rw (drop-next s i h) (and_assoc ok (f (get_or s i 0)) (all f (drop (i + 1) s)))
-
--- one byte more is read
-pub summed-next : (v : ℕ) (s : List ℕ) (i : ℕ) → i < length s → summed (v * 10 + less_zero (get_or s i 0)) (drop (i + 1) s) ≡ summed v (drop i s)
-summed-next v s i h = rw (drop-next s i h)
 
 -- one byte more is copied
 pub copy-next : (r q : List ℕ) (i : ℕ) → i < length r → i < length q → take i r ≡ take i q
@@ -69,9 +64,3 @@ module _ (f : ℕ → Bool) where
       let x = all f (part 1 d s) in
       and_assoc x (all f (part (d + 1) 2 s)) (all f (part (d + 3) 2 s))
       ∙ sym (all-parts 1 d 4 (d + 1) s (omega arith) ∙ ap (λ (y : Bool). x && y) (all-parts (d + 1) 2 2 (d + 3) s (omega arith)))
-
-  -- each byte passes
-  pub all-at : (s : List ℕ) (i : ℕ) → all f s ≡ true → i < length s → f (get_or s i 0) ≡ true
-  all-at [] i e h = absurd (not-suc-le-zero h)
-  all-at (b ∷ s) zero e h = ((and-eq-true_iff _ _).0 e).0
-  all-at (b ∷ s) (suc i) e h = all-at s i ((and-eq-true_iff (f b) (all f s)).0 e).1 (le_of_suc-le-suc h)

@@ -1,17 +1,18 @@
 -- The digits of a number and the number of digits, at any width: one digit more is a division by ten with its remainder. Then
 -- the same with leading zeros off. Assumes nothing.
-use Rattle.std.proofs.Common.{◌≡◌, ℕ, zero, suc, ◌+◌, ◌-◌, ◌*◌, ◌/◌, ◌%◌, ◌^◌, ◌<◌, ◌≤◌, Bool, true, false, cond, eqb, ltb, leb, List, [], ◌∷◌}
-use Rattle.std.proofs.Common.{length, get_or, refl, ap, ◌∙◌, le_of_suc-le-suc, not-suc-le-zero, mul-le-mul_right, mod-lt, mod-eq_of_lt, mul_assoc}
-use Rattle.std.proofs.Common.{div-lt_iff_lt-mul, add-mul, mul-le-mul_left, pow-suc, le-div_iff_mul-le, zero-add, zero-mul, mul-one, add-one, arith}
-use Rattle.std.proofs.Common.{ltb-false, ltb-true, ne_eqb, le-leb, leb-false, leb-true}
-use mathlib.Core.Bool.{and-eq-true_iff}
+use Rattle.std.proofs.Common.{◌≡◌, ℕ, zero, suc, ◌+◌, ◌-◌, ◌*◌, ◌/◌, ◌%◌, ◌^◌, ◌<◌, ◌≤◌, Bool, true, false, cond, eqb, leb, List, [], ◌∷◌}
+use Rattle.std.proofs.Common.{length, get_or, refl, ap, ◌∙◌, mul-le-mul_right, mod-lt, mod-eq_of_lt, mul_assoc}
+use Rattle.std.proofs.Common.{div-lt_iff_lt-mul, add-mul, pow-suc, le-div_iff_mul-le, zero-add, zero-mul, mul-one, add-one, arith}
+use Rattle.std.proofs.Common.{ne_eqb, le-leb, leb-false, leb-true, Option, Some, None, is_some, unwrap_or, drop, drop_of_length-le}
+use mathlib.Core.Bool.{and-eq-true_iff, false≢true}
 use native.Mathlib.Nat.{pow-succ', mod-one, one-le-pow}
 use native.Mathlib.Nat.{pow-le-pow_right, div-eq_of_lt, div-eq_of_lt-le, add-sub_cancel_left, mul-add-mod_self_right}
 use native.Mathlib.Nat.{div-div-eq-div-mul}
 use lib.Arith.{mod-mul}
+use borrow.Author.Tests.{lt-leb}
 use Rattle.text.specs.Text.{all, is_digit, onward, number, digits, trimmed, decimal}
-use Rattle.text.specs.Buffer.{less_zero, summed, digits_in}
-use Rattle.text.specs.declared.Digits.{Digits}
+use Rattle.text.specs.Buffer.{digits_in}
+use Rattle.text.proofs.Bytes.{drop-next}
 
 pub tens : (w : ℕ) → 0 < 10 ^ w
 tens w = one-le-pow w 10 (omega arith)
@@ -25,11 +26,6 @@ place-next v k = rw (div-div-eq-div-mul v (10 ^ k) 10, add-one, ← pow-suc 10 k
 pub length_digits : (w v : ℕ) → length (digits w v) ≡ w
 length_digits zero v = refl
 length_digits (suc w) v = ap suc (length_digits w v)
-
-pub digit_at : (w v j : ℕ) → j < w → get_or (digits w v) j 0 ≡ 48 + v / 10 ^ (w - 1 - j) % 10
-digit_at zero v j h = absurd (not-suc-le-zero h)
-digit_at (suc w) v zero h = let e : suc w - 1 - 0 ≡ w = omega arith in rw e
-digit_at (suc w) v (suc j) h = let e : suc w - 1 - suc j ≡ w - 1 - j = omega arith in rw e (digit_at w v j (le_of_suc-le-suc h))
 
 pub all_digits : (w v : ℕ) → all is_digit (digits w v) ≡ true
 all_digits zero v = refl
@@ -90,34 +86,50 @@ unfolding number
 number-below w s l e =
     let p : 10 ^ length s ≤ 10 ^ w = pow-le-pow_right (omega arith) l in omega (arith, (onward-bounds s 0 e).1, zero-mul (10 ^ length s))
 
--- at most w digits, as they are read
-pub record Read (w : ℕ) (s : List ℕ) (r : Digits) : Type 0 where
-  pub tested : r.ok ≡ all is_digit s
-  pub read : all is_digit s ≡ true → r.value ≡ number s
-  pub small : r.value + 29 ≤ 29 * 10 ^ w
+-- ---- digits as they are read
 
--- of digits the sum is their number, and of any bytes it is small
-summed-digits : (bs : List ℕ) (v : ℕ) → all is_digit bs ≡ true → summed v bs ≡ onward v bs
-summed-digits [] v e = refl
-summed-digits (b ∷ bs) v e =
-    let t = (and-eq-true_iff (is_digit b) (all is_digit bs)).0 e in
-    let d = digit-in b t.0 in
-    let same : less_zero b ≡ b - 48 = omega arith in
-    rw same (summed-digits bs (v * 10 + (b - 48)) t.1)
+-- the number of digits s written after a number v
+abbrev pub onward_in : ℕ → List ℕ → Option ℕ
+onward_in v s = cond (all is_digit s) (Some (onward v s)) None
 
-summed-small : (bs : List ℕ) (v : ℕ) → summed v bs + 29 ≤ (v + 29) * 10 ^ length bs
-summed-small [] v = rw mul-one (omega arith)
-summed-small (b ∷ bs) v =
-    let p = 10 ^ length bs in
-    let step : (v * 10 + less_zero b + 29) * p ≤ (v + 29) * 10 * p = mul-le-mul_right p (omega arith) in
-    rw (pow-succ' 10 (length bs), ← mul_assoc (v + 29) 10 p) (omega (arith, summed-small bs (v * 10 + less_zero b), step))
+-- one byte more is read
+pub next_digit : (v : ℕ) (s : List ℕ) (i : ℕ) → i < length s → is_digit (get_or s i 0) ≡ true
+    → onward_in (v * 10 + (get_or s i 0 - 48)) (drop (i + 1) s) ≡ onward_in v (drop i s)
+next_digit v s i h e = rw (drop-next s i h, e)
 
-pub digits-read : (w : ℕ) (s : List ℕ) {r : Digits} → length s ≤ w → w ≤ 17 → r ≡ digits_in s → Read w s r
+-- a byte that is no digit ends it
+pub other_byte : (v : ℕ) (s : List ℕ) (i : ℕ) → i < length s → is_digit (get_or s i 0) ≡ false → onward_in v (drop i s) ≡ None
+other_byte v s i h e = rw (drop-next s i h, e)
+
+pub all_read : (v : ℕ) (s : List ℕ) (i : ℕ) → length s ≤ i → onward_in v (drop i s) ≡ Some v
+all_read v s i h = rw (drop_of_length-le s {i = i} h)
+
+pub digits_read : (s : List ℕ) → length s ≤ 17 → digits_in s ≡ onward_in 0 s
 unfolding digits_in number
-digits-read w s h l e =
-    let p : 29 * 10 ^ length s ≤ 29 * 10 ^ w = mul-le-mul_left 29 (pow-le-pow_right (omega arith) h) in
-    rw (e, le-leb (length s) 17 (omega arith))
-    (record { tested = refl; read = λ t. summed-digits s 0 t; small = omega (arith, summed-small s 0, p) })
+digits_read s h = rw (le-leb (length s) 17 h)
+
+pub too_long : (s : List ℕ) → 17 < length s → digits_in s ≡ None
+unfolding digits_in
+too_long s h = rw (lt-leb (length s) 17 h)
+
+pub pow_bound : (i : ℕ) → i ≤ 16 → 10 ^ i ≤ 10000000000000000
+pow_bound i h = pow-le-pow_right (omega arith) h
+
+-- at most w digits, as they are read
+pub record Read (w : ℕ) (s : List ℕ) (r : Option ℕ) : Type 0 where
+  pub tested : is_some r ≡ all is_digit s
+  pub read : all is_digit s ≡ true → unwrap_or r 0 ≡ number s
+  pub small : unwrap_or r 0 < 10 ^ w
+
+pub digits-read : (w : ℕ) (s : List ℕ) {r : Option ℕ} → length s ≤ w → w ≤ 17 → r ≡ digits_in s → Read w s r
+unfolding digits_in
+digits-read w s h l e = rw (e, le-leb (length s) 17 (omega arith)) (go (all is_digit s) refl)
+  where
+    go : (t : Bool) → all is_digit s ≡ t → Read w s (cond t (Some (number s)) None)
+    go true q = record { tested = rw q; read = λ _. refl; small = number-below w s h q }
+    go false q = record { tested = rw q; read = λ d. absurd (false≢true (rw q at d)); small = tens w }
+
+pub ruleset reading = (next_digit, other_byte, all_read, digits_read, too_long, pow_bound)
 
 -- ---- leading zeros
 
@@ -152,13 +164,17 @@ pub decimal-is : (w v : ℕ) → 0 < w → w ≤ 20 → v < 10 ^ w → (1 < w �
 unfolding decimal
 decimal-is w v p h l m = trim-to 20 w v h p l ∙ trim-stop w v l m
 
--- a number of 64 bits has at most 20 digits
-pub few-digits : (k v : ℕ) → 10 ^ k ≤ v → v < 10 ^ 20 → k < 20
-few-digits k v h l = go (ltb k 20) refl
+-- the width by the greatest power of ten that is not above the number
+pub power_width : (v k : ℕ) → 10 ^ k ≤ v → v < 10 * 10 ^ k → k < 20 → decimal v ≡ digits (k + 1) v
+power_width v k l h m = decimal-is (k + 1) v (omega arith) (omega arith) (rw (add-one, pow-succ' 10 k) h) (λ _. l')
   where
-    go : (t : Bool) → ltb k 20 ≡ t → k < 20
-    go true e = ltb-true k 20 e
-    go false e = let p : 10 ^ 20 ≤ 10 ^ k = pow-le-pow_right (omega arith) (ltb-false k 20 e) in absurd (omega arith)
+    l' : 10 ^ (k + 1 - 1) ≤ v
+    l' = let e : k + 1 - 1 ≡ k = omega arith in rw e l
+
+pub zero_width : (v : ℕ) → v ≡ 0 → decimal v ≡ digits 1 v
+zero_width v e = decimal-is 1 v (omega arith) (omega arith) (omega arith) (λ h. absurd (omega arith))
+
+pub ruleset widths = (power_width, zero_width)
 
 -- the digits are never more
 trim-le : (l : List ℕ) → length (trimmed l) ≤ length l

@@ -1,11 +1,14 @@
 -- A text put into a buffer at an offset: texts put one after the other are one text, and a loop that stores a text from its last
 -- byte to its first has put it. Assumes nothing.
-use Rattle.std.proofs.Common.{◌≡◌, ℕ, suc, ◌+◌, ◌-◌, ◌<◌, ◌≤◌, Bool, true, false, cond, not, leb, List, [], ◌∷◌, ◌++◌, length, get_or, take, drop}
+use Rattle.std.proofs.Common.{◌≡◌, ℕ, suc, ◌+◌, ◌-◌, ◌/◌, div-one, ◌%◌, ◌^◌, ◌<◌, ◌≤◌, Bool, true, false, cond, List, [], ◌∷◌, ◌++◌, length, get_or, take, drop}
 use Rattle.std.proofs.Common.{set, sym, refl, ap, ◌∙◌, append_assoc, add-zero, add_assoc, zero-add, add-one, arith, length-append, length-drop}
-use Rattle.std.proofs.Common.{take-append-drop, length-take, length-take-le, drop-cons, take-suc, drop-drop, take_at, le-leb, leb-false, leb-true}
-use lib.Seq.{set_at, set_split, append_snoc, drop-append-add, drop-length}
-use borrow.Author.Tests.{lt-leb, not-true, not-false}
+use Rattle.std.proofs.Common.{take-append-drop, length-take, length-take-le, take-suc, drop-drop, take_at, le-leb, leb-true}
+use lib.Seq.{set_at, set_split, append_snoc, drop-append-add}
+use borrow.Author.Tests.{lt-leb}
+use borrow.Rule.Slice.PartMut.{put_mid}
 use Rattle.whole.specs.Lists.{over}
+use Rattle.text.specs.Text.{digits}
+use Rattle.text.proofs.Numbers.{length_digits, place-next}
 use Rattle.text.specs.Buffer.{splice, has_room, put_at, end_of}
 use Rattle.text.specs.Steps.{Put}
 
@@ -76,17 +79,6 @@ pub put-fits : (x : List ℕ) (o : ℕ) (s : List ℕ) → o + length x ≤ leng
 unfolding put_at
 put-fits x o s h = rw (le-leb (o + length x) (length s) h)
 
-pub put-none : (x : List ℕ) (o : ℕ) (s : List ℕ) → length s < o + length x → (o ≡ end_of x o s) × (s ≡ put_at x o s)
-unfolding put_at end_of
-put-none x o s h = rw (lt-leb (o + length x) (length s) h) (refl, refl)
-
--- a test of the room, as the code makes it
-pub no_room : {t : Bool} (m n : ℕ) → t ≡ leb m n → not t ≡ true → n < m
-no_room {t} m n e h = leb-false m n (sym e ∙ not-true t h)
-
-pub room : {t : Bool} (m n : ℕ) → t ≡ leb m n → not t ≡ false → m ≤ n
-room {t} m n e h = leb-true m n (sym e ∙ not-false t h)
-
 -- a text that was put if it fits
 abbrev pub PutIf : List ℕ → ℕ → List ℕ → List ℕ → ℕ → Type 0
 PutIf x o s t r = o + length x ≤ length s → Put x o s t r
@@ -111,40 +103,62 @@ module _ {x s t : List ℕ} {o r : ℕ} where
         holds = b.holds ∙ rw (a.holds, a.ends) (splice-splice o x y s (omega (arith, a.ends, a.fits)));
       }
 
--- ---- a loop: the bytes of a text from its j-th on stand at the offset
+-- ---- what the code does
 
-pub record Ending (x s : List ℕ) (o : ℕ) (t : List ℕ) (j : ℕ) : Type 0 where
-  pub fits : o + length x ≤ length s
-  pub within : j ≤ length x
-  pub so : t ≡ splice (o + j) (drop j x) s
+pub none_left : (x : List ℕ) (o : ℕ) (s : List ℕ) → length s < o + length x → put_at x o s ≡ s
+unfolding put_at
+none_left x o s h = rw (lt-leb (o + length x) (length s) h)
 
-pub ending-none : (x s : List ℕ) (o : ℕ) → o + length x ≤ length s → Ending x s o s (length x)
-ending-none x s o h = record { fits = h; within = omega arith; so = rw (drop-length x) (sym (splice-nil (o + length x) s)) }
+pub none_ends : (x : List ℕ) (o : ℕ) (s : List ℕ) → length s < o + length x → end_of x o s ≡ o
+unfolding end_of
+none_ends x o s h = rw (lt-leb (o + length x) (length s) h)
 
-module _ {x s t : List ℕ} {o j : ℕ} (p : Ending x s o t j) where
-  pub ending-length : length t ≡ length s
-  ending-length =
-      let f = p.fits in
-      let w = p.within in
-      ap length p.so ∙ length-splice (o + j) (drop j x) s (omega (arith, length-drop j x))
+pub put_ends : (x : List ℕ) (o : ℕ) (s : List ℕ) → o + length x ≤ length s → end_of x o s ≡ o + length x
+unfolding end_of
+put_ends x o s h = rw (le-leb (o + length x) (length s) h)
 
-  -- one turn
-  pub ending-next : (b : ℕ) → 0 < j → get_or x (j - 1) 0 ≡ b → Ending x s o (set t (o + (j - 1)) b) (j - 1)
-  ending-next b h e =
-      let f = p.fits in
-      let w = p.within in
-      let n : suc (j - 1) ≡ j = omega arith in
-      let m : suc (o + (j - 1)) ≡ o + j = omega arith in
-      let d : b ∷ drop j x ≡ drop (j - 1) x = sym (rw (n, e) at (drop-cons x (j - 1) 0 (omega arith))) in
-      let q : set (splice (suc (o + (j - 1))) (drop j x) s) (o + (j - 1)) b ≡ splice (o + (j - 1)) (b ∷ drop j x) s =
-      splice_front (o + (j - 1)) b (drop j x) s (omega arith) in
-      record { fits = f; within = omega arith; so = rw (p.so, ← d) (rw m at q) }
+-- a part of the buffer is written
+pub part_left : (x : List ℕ) (o k : ℕ) (s : List ℕ) → o + length x ≤ length s → k ≡ length x → put_mid o k s x ≡ put_at x o s
+unfolding put_at splice
+part_left x o k s h e = rw (le-leb (o + length x) (length s) h, e, drop-drop (length x) o s)
 
-  -- the last turn
-  pub ending-all : j ≡ 0 → Put x o s t (o + length x)
-  ending-all e = record { ends = refl; fits = p.fits; holds = rw (e, add-zero) at p.so }
+-- one byte is written
+pub byte_left : (o b : ℕ) (s : List ℕ) → o < length s → set s o b ≡ put_at (b ∷ []) o s
+unfolding put_at splice
+byte_left o b s h = rw (le-leb (o + 1) (length s) (omega arith), set_split s o b h, add-one)
 
--- one byte
-pub put_one : (s : List ℕ) (o b : ℕ) → o < length s → Put (b ∷ []) o s (set s o b) (o + 1)
-unfolding splice
-put_one s o b h = record { ends = refl; fits = omega arith; holds = rw add-one (set_split s o b h) }
+pub ruleset putting = (none_left, none_ends, put_ends, part_left, byte_left)
+
+-- ---- the last digits stand at an offset, and one more is written before them
+
+module _ (v w o : ℕ) (s : List ℕ) where
+  pub digits_none_left : length s < o + w → put_at (digits w v) o s ≡ s
+  digits_none_left h = none_left (digits w v) o s (omega (arith, length_digits w v))
+
+  pub digits_none_end : length s < o + w → end_of (digits w v) o s ≡ o
+  digits_none_end h = none_ends (digits w v) o s (omega (arith, length_digits w v))
+
+  pub digits_end : o + w ≤ length s → end_of (digits w v) o s ≡ o + w
+  digits_end h = put_ends (digits w v) o s (omega (arith, length_digits w v)) ∙ ap (λ (n : ℕ). o + n) (length_digits w v)
+
+  pub digits_left : o + w ≤ length s → splice o (digits w v) s ≡ put_at (digits w v) o s
+  unfolding put_at
+  digits_left h = rw (le-leb (o + length (digits w v)) (length s) (omega (arith, length_digits w v)))
+
+  pub digits_start : splice (o + w) (digits (w - w) v) s ≡ s
+  digits_start = let e : w - w ≡ 0 = omega arith in rw e (splice-nil (o + w) s)
+
+  pub digit_before : (j b : ℕ) → 0 < j → j ≤ w → o + w ≤ length s → b ≡ 48 + v / 10 ^ (w - j) % 10
+      → set (splice (o + j) (digits (w - j) v) s) (o + (j - 1)) b ≡ splice (o + (j - 1)) (digits (w - (j - 1)) v) s
+  digit_before j b h l f e =
+      let n : o + j ≡ suc (o + (j - 1)) = omega arith in
+      let m : w - (j - 1) ≡ suc (w - j) = omega arith in
+      rw (e, n, m) (splice_front (o + (j - 1)) (48 + v / 10 ^ (w - j) % 10) (digits (w - j) v) s (omega arith))
+
+pub place_before : (v w j : ℕ) → 0 < j → j ≤ w → v / 10 ^ (w - (j - 1)) ≡ v / 10 ^ (w - j) / 10
+place_before v w j h l = let m : w - (j - 1) ≡ w - j + 1 = omega arith in rw m (sym (place-next v (w - j)))
+
+pub place_first : (v w : ℕ) → v / 10 ^ (w - w) ≡ v
+place_first v w = let e : w - w ≡ 0 = omega arith in rw e (div-one v)
+
+pub ruleset writing = (digits_none_left, digits_none_end, digits_end, digits_left, digits_start, digit_before, place_before, place_first, length-put)

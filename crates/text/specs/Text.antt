@@ -1,11 +1,11 @@
--- The bytes of a subfield: digits, angles, names (002, 3.17.1; 01, "The image card, 98 bytes"). Definitions only.
+-- The bytes of a subfield: digits, angles, names (MIL-A-89007, 3.17.1). Definitions only.
 --     bytes t            the bytes of a text, each character's code
 --     part o w s         the w bytes of s from offset o
 --     is_digit, is_capital 0 to 9, A to Z
 --     all f s            f holds of each byte
 --     number s           the number that digits stand for; a byte below 0, as the blank is, counts as a 0
 --     blanks s           how many blanks s starts with
---     filled s           blanks or none, then digits to the end, one at least (02, E2)
+--     filled s           blanks or none, then digits to the end, one at least
 --     angle_laid d s     ±DDDMMSS.SS or ±DDMMSS.SS, d being the count of degree digits
 --     angle_size d s     its size in hundredths of an arc-second
 --     angle_of d s       the angle

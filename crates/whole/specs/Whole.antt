@@ -1,4 +1,4 @@
--- Whole numbers as document 01 uses them, signed. Definitions, and what they are held to. No proofs.
+-- Whole numbers, signed. Definitions, and what they are held to. No proofs.
 --     floor_div x d      the floor of x / d
 --     nearest x d        the whole number nearest to x / d: the floor of x / d + 1 / 2
 --     near x d           the same of a natural x
@@ -6,18 +6,16 @@
 --     modulo x d         x modulo d, from 0 to d − 1
 --     nat_abs z          |z|, of the kit
 --     outside k z        z is below −k or above k
---     counted_by k z     z counted from −k, where it is not outside
-use Rattle.std.specs.Prelude.{◌≡◌, Bool, false, cond, ◌||◌, ℕ, ◌+◌, ◌-◌, ◌*◌, ◌/◌, ◌≤◌, ◌<◌, ℤ, pos, negsuc, neg_ℤ, nat_abs, ◌+ℤ◌, ◌-ℤ◌, ◌*ℤ◌, ◌≤ℤ◌, ◌<ℤ◌}
+--     counted_by k z     z counted from −k, none where it is outside
+use Rattle.std.specs.Prelude.{◌≡◌, Bool, false, if◌then◌else◌, Option, Some, None, ◌||◌, ℕ, ◌+◌, ◌-◌, ◌*◌, ◌/◌, ◌≤◌, ◌<◌, ℤ, pos, negsuc, neg_ℤ, nat_abs, ◌+ℤ◌, ◌-ℤ◌, ◌*ℤ◌, ◌≤ℤ◌, ◌<ℤ◌}
 use Rattle.std.specs.Int.Signed.{lt_z}
-use Rattle.whole.specs.declared.Counted.{Counted}
-use Rattle.whole.specs.declared.Counted.TheVariants.{From, Outside}
 
 -- the floor of x / d, for negative numbers too: negsuc n is −(n + 1)
 unfoldable pub floor_div : ℤ → ℕ → ℤ
 floor_div (pos n) d = pos (n / d)
 floor_div (negsuc n) d = negsuc (n / d)
 
--- "nearest" means the floor of the value plus one half, for negative values too (01, "Units and the zone table")
+-- "nearest" means the floor of the value plus one half, for negative values too
 unfoldable pub nearest : ℤ → ℕ → ℤ
 nearest x d = floor_div (pos 2 *ℤ x +ℤ pos d) (2 * d)
 
@@ -25,7 +23,7 @@ nearest x d = floor_div (pos 2 *ℤ x +ℤ pos d) (2 * d)
 unfoldable pub near : ℕ → ℕ → ℕ
 near x d = (2 * x + d) / (2 * d)
 
--- the smallest whole number not below x / d (01, "Units and the zone table", "Origins and the zone grid")
+-- the smallest whole number not below x / d
 unfoldable pub ceil_div : ℤ → ℕ → ℤ
 ceil_div x d = floor_div (x +ℤ pos (d - 1)) d
 
@@ -43,8 +41,8 @@ raise k (pos n) = n + k
 raise k (negsuc n) = k - (n + 1)
 
 -- z counted from −k
-abbrev pub counted_by : ℕ → ℤ → Counted
-counted_by k z = cond (outside k z) Outside (From (raise k z))
+abbrev pub counted_by : ℕ → ℤ → Option ℕ
+counted_by k z = if outside k z then None else Some (raise k z)
 
 -- ---- what the definitions are held to: proved in proofs/Held.antt
 

@@ -1,34 +1,27 @@
-// Signed numbers at the edge of unsigned arithmetic, and the nearest whole number. Every function answers for every number of its parameters' types.
+//! Signed numbers at the edge of unsigned arithmetic, and the nearest whole number. Each function answers for every number of its parameters' types.
 #![tactic(auto)]
 
 ghost use Rattle.std.specs.Prelude.{◌≡◌, pos, nat_abs, ◌-ℤ◌};
 ghost use Rattle.whole.specs.Whole.{near, counted_by};
 
-// A whole number counted from a stated one, or outside.
-#[derive(Clone, Copy)]
-pub enum Counted {
-    From(u64),
-    Outside,
-}
+pub mod laws;
 
-// |z|.
+/// |z|, also of the least `i64`.
 pub fn size(z: i64) -> u64
     ensures { result ≡ nat_abs z }
 {
-    if z < 0 {
-        return ((0 - (z + 1)) as u64) + 1;
-    }
-    z as u64
+    z.unsigned_abs()
 }
 
-// a − b.
+/// a − b, negative where b is the larger.
 pub fn difference(a: u32, b: u32) -> i64
     ensures { result ≡ pos a -ℤ pos b }
 {
-    (a as i64) - (b as i64)
+    i64::from(a) - i64::from(b)
 }
 
-// The nearest whole number to x / d, a half going up; 0 where d is 0.
+/// The nearest whole number to x / d, a half going up; 0 where d is 0.
+#[tactic(auto, using(crate::proofs::Rounding::rounding))]
 pub fn nearest(x: u64, d: u64) -> u64
     ensures { result ≡ near x d }
 {
@@ -36,16 +29,16 @@ pub fn nearest(x: u64, d: u64) -> u64
         return 0;
     }
     let rest = x % d;
-    x / d + ((d - rest <= rest) as u64)
+    if d - rest <= rest { x / d + 1 } else { x / d }
 }
 
-// z counted from −limit, unless it is outside −limit to limit.
-pub fn count_from(z: i64, limit: u32) -> Counted
+/// z counted from −limit, from 0 to 2 × limit; `None` where z is outside −limit to limit. Both ends of the range are in it.
+pub fn count_from(z: i64, limit: u32) -> Option<u64>
     ensures { result ≡ counted_by limit z }
 {
-    let k = limit as i64;
-    if !((z < 0 - k) | (k < z)) {
-        return Counted::From((z + k) as u64);
+    let limit = i64::from(limit);
+    if !(-limit..=limit).contains(&z) {
+        return None;
     }
-    Counted::Outside
+    Some((z + limit) as u64)
 }

@@ -10,8 +10,8 @@ use lib.Dec.{leb, ltb, eqb}
 use lib.IntN.{ℤ, nat_abs}
 use Rattle.whole.specs.Lists.{occurs, those}
 use Rattle.whole.proofs.Lists.{occurs-those, occurs-down}
-use Rattle.arc.specs.Zones.{from, to, row_at}
-use Rattle.arc.specs.Spacing.{row_unit, spacing_at}
+use Rattle.arc.specs.Zones.{row_at}
+use Rattle.arc.specs.Pixels.{row_unit, spacing_at}
 use Rattle.arc.proofs.Table.{polar-at}
 use Rattle.zones.specs.Basic.{basic_zone}
 use Rattle.zones.specs.Cover.{covers, first_zone, zones_equatorward, cover_zones}
@@ -19,6 +19,7 @@ use Rattle.zones.specs.CoverAll.{CoverListed}
 use Rattle.zones.specs.Steps.{reaches}
 use Rattle.zones.proofs.Rows.{place}
 use Rattle.zones.proofs.Order.{to-from}
+use Rattle.zones.proofs.Six.{six-at-most}
 use Rattle.zones.proofs.Covering.{covers-is, own-side, basic-is}
 
 module _ (b : ℕ) (lat : ℤ) where
@@ -33,23 +34,23 @@ module _ (b : ℕ) (lat : ℤ) where
   reached : reaches b (row_at i) (nat_abs lat) ≡ true
   unfolding i
   reached =
-      ⊎_elim (λ h. rw (lt-ltb (nat_abs lat) (to (row_at i)) h))
-      (λ h. rw (polar-at i in_table, eq-eqb i 8 (omega arith), or-true (ltb (nat_abs lat) (to (row_at i)))))
+      ⊎_elim (λ h. rw (lt-ltb (nat_abs lat) (row_at i).poleward h))
+      (λ h. rw (polar-at i in_table, eq-eqb i 8 (omega arith), or-true (ltb (nat_abs lat) (row_at i).poleward)))
       (place (nat_abs lat)).high
 
   basic-covers : covers b lat (first_zone lat + i) ≡ true
   unfolding i
-  basic-covers = covers-is b i in_table lat ∙ rw (le-leb (from (row_at i)) (nat_abs lat) (place (nat_abs lat)).low, reached)
+  basic-covers = covers-is b i in_table lat ∙ rw (le-leb (row_at i).equatorward (nat_abs lat) (place (nat_abs lat)).low, reached)
 
   -- no row poleward of its row does
   not_beyond : (j : ℕ) → j < 9 → covers b lat (first_zone lat + j) ≡ true → j ≤ i
   unfolding i
   not_beyond j h e = go (ltb i j) refl
     where
-      starts : from (row_at j) ≤ nat_abs lat
+      starts : (row_at j).equatorward ≤ nat_abs lat
       starts =
-          leb-true (from (row_at j)) (nat_abs lat)
-          ((and-eq-true_iff (leb (from (row_at j)) (nat_abs lat)) (reaches b (row_at j) (nat_abs lat))).0 (sym (covers-is b j h lat) ∙ e)).0
+          leb-true (row_at j).equatorward (nat_abs lat)
+          ((and-eq-true_iff (leb (row_at j).equatorward (nat_abs lat)) (reaches b (row_at j) (nat_abs lat))).0 (sym (covers-is b j h lat) ∙ e)).0
 
       go : (t : Bool) → ltb i j ≡ t → j ≤ i
       go true k =
@@ -86,3 +87,5 @@ module _ (b : ℕ) (lat : ℤ) where
 
 pub cover-listed : CoverListed
 cover-listed s g lat e zone = (listed-covers (spacing_at row_unit s) lat zone, covers-listed (spacing_at row_unit s) lat zone)
+
+pub ruleset claims = (cover-listed, six-at-most)

@@ -7,7 +7,7 @@ use native.Mathlib.Omega.{arith}
 use lib.ListN.{length}
 use lib.IntN.{nat_abs}
 use Rattle.arc.specs.Zones.{row_at}
-use Rattle.arc.specs.Spacing.{row_unit, spacing_at}
+use Rattle.arc.specs.Pixels.{row_unit, spacing_at}
 use Rattle.whole.specs.Lists.{those, down_from}
 use Rattle.zones.specs.Cover.{first_zone, AtMostSix}
 use Rattle.zones.specs.Steps.{reaches, cover_from, Rowed}

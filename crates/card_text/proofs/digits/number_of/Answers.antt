@@ -1,9 +1,12 @@
--- A first byte that is no blank leaves no blanks to pass over. Assumes nothing.
-use Rattle.std.proofs.Common.{sym}
-use Rattle.card_text.proofs.Blanks.{skip-none, number_read}
+-- Past the blanks is the end of the run. Assumes nothing.
+use Rattle.std.proofs.Common.{ap, ◌∙◌}
+use borrow.Author.Rules.{part_to_end}
+use Rattle.text.specs.Buffer.{digits_in}
+use Rattle.card_text.proofs.Blanks.{past_blanks}
 use Rattle.card_text.proofs.digits.number_of.Goals as goal
 
-pub returns : goal.returns
-returns c =
-    let a = c.args in
-    number_read a.fill a.s.now 0 c.requires.not_empty c.requires.width (sym (skip-none a.fill a.s.now c.if-s-eq32.false)) c.digits_of.ensures
+pub returns-then-s-eq32 : goal.returns-then-s-eq32
+returns-then-s-eq32 c =
+    c.digits_of.ensures
+    ∙ ap digits_in (part_to_end c.args.s.now c.skipped.result)
+    ∙ rw c.skipped.ensures (past_blanks c.args.fill c.args.s.now c.requires.not_empty c.requires.width)

@@ -1,0 +1,8 @@
+-- What is read is known. Assumes nothing.
+use Rattle.std.proofs.Common.{sym, ◌∙◌}
+use Rattle.card.proofs.Known.{strict-known}
+use Rattle.card.proofs.Card.read_strict.Goals as goal
+
+pub invariant_of-result : goal.invariant_of-result
+invariant_of-result c =
+    strict-known c.args.series c.args.bytes.now _ c.in_ok-reading.reading.blanks (sym c.read_strict.ensures ∙ c.in_ok-reading.was)

@@ -1,0 +1,38 @@
+-- Runs of digits and of letters, byte by byte. Assumes nothing.
+use Rattle.std.proofs.Common.{◌≡◌, ℕ, ◌+◌, ◌^◌, ◌<◌, ◌≤◌, true, false, List, [], ◌∷◌, length, get_or, drop, refl, ap, sym, ◌∙◌, arith, drop_of_length-le, le-leb, Option, Some, None}
+use mathlib.Core.Bool.{Bool}
+use Rattle.std.specs.Prelude.{if◌then◌else◌}
+use Rattle.std.specs.Option.{IfSome}
+use Rattle.text.specs.Text.{all, is_digit, is_name_byte, number}
+use Rattle.text.specs.Buffer.{digits_in}
+use Rattle.text.proofs.Bytes.{drop-next}
+use Rattle.text.proofs.Numbers.{number-below}
+use Rattle.card_text.specs.StepsFields.{run_of}
+
+-- ---- digits
+
+pub run_is : (s : List ℕ) → length s ≤ 17 → digits_in s ≡ run_of s
+unfolding digits_in
+run_is s h = rw (le-leb (length s) 17 h)
+
+pub run_small : (s : List ℕ) → length s ≤ 8 → IfSome (run_of s) (λ v. v < 100000000)
+run_small s h = go (all is_digit s) refl
+  where
+    go : (t : Bool) → all is_digit s ≡ t → IfSome (if t then Some (number s) else None) (λ v. v < 100000000)
+    go true e = omega (arith, number-below 8 s h e)
+    go false e = tt
+
+pub ruleset runs = (run_is, run_small)
+
+-- ---- letters
+
+pub named_next : (s : List ℕ) (i : ℕ) → i < length s → is_name_byte (get_or s i 0) ≡ true → all is_name_byte (drop i s) ≡ all is_name_byte (drop (i + 1) s)
+named_next s i h e = rw (drop-next s i h, e)
+
+pub named_other : (s : List ℕ) (i : ℕ) → i < length s → is_name_byte (get_or s i 0) ≡ false → all is_name_byte (drop i s) ≡ false
+named_other s i h e = rw (drop-next s i h, e)
+
+pub named_end : (s : List ℕ) (i : ℕ) → length s ≤ i → all is_name_byte (drop i s) ≡ true
+named_end s i h = rw (drop_of_length-le s {i = i} h)
+
+pub ruleset named = (named_next, named_other, named_end)
