@@ -6,16 +6,15 @@
 --     to_list_of, list_left ..  what `to_list` answers, and what the list then holds
 use Rattle.std.specs.Prelude.{◌≡◌, ℕ, zero, suc, ◌+◌, ◌*◌, ◌^◌, ◌<◌, List, [], ◌∷◌, Bool, true, cond, not, ◌&&◌, ◌||◌, eqb, length, get_or, Result, Ok, Err}
 use Rattle.whole.specs.Lists.{each}
-use Rattle.arc.specs.declared.Refusal.{Refusal}
-use Rattle.arc.specs.Refusals.{refusal}
-use Rattle.card.specs.declared.Card.{Card}
+use Rattle.arc.specs.declared.refusal.Refusal.{Refusal}
+use Rattle.card_text.specs.declared.Fields.{Fields}
 use Rattle.tiles.specs.Index.{index_length}
 use Rattle.tiles.specs.Bits.{words_length, stray_bit}
 use Rattle.tiles.specs.Corrections.{kept}
 use Rattle.tiles.specs.AsList.{list_of, Forms}
 
 -- 6, of the lengths of the list and of the words
-unfoldable pub lengths_wrong : Card → ℕ → ℕ → Bool
+unfoldable pub lengths_wrong : Fields → ℕ → ℕ → Bool
 lengths_wrong k index_long words_long = not (eqb index_long (index_length k)) || not (eqb words_long (words_length k))
 
 -- ---- list to bits
@@ -37,52 +36,52 @@ abbrev pub bits_of : List ℕ → ℕ → List ℕ
 bits_of index n = each n (λ i. word_from index (i * 64) 64 ∷ [])
 
 -- 6, then 20 where the list isn't in reading order
-unfoldable pub to_bits_of : Card → List ℕ → List ℕ → Result Unit Refusal
+unfoldable pub to_bits_of : Fields → List ℕ → List ℕ → Result Unit Refusal
 to_bits_of k index words =
-    cond (lengths_wrong k (length index) (length words)) (Err (refusal 6))
-    (cond (in_order 0 index) (Ok tt) (Err (refusal 20)))
+    cond (lengths_wrong k (length index) (length words)) (Err Refusal.Length)
+    (cond (in_order 0 index) (Ok tt) (Err Refusal.ReadingOrder))
 
 -- in a refusal the words stay
-unfoldable pub bits_left : Card → List ℕ → List ℕ → List ℕ
+unfoldable pub bits_left : Fields → List ℕ → List ℕ → List ℕ
 bits_left k index words = kept (to_bits_of k index words) words (bits_of index (length words))
 
 -- ---- bits to list
 
 -- 6, then 21 for a bit set past the last tile
-unfoldable pub to_list_of : Card → List ℕ → List ℕ → Result Unit Refusal
+unfoldable pub to_list_of : Fields → List ℕ → List ℕ → Result Unit Refusal
 to_list_of k words index =
-    cond (lengths_wrong k (length index) (length words)) (Err (refusal 6))
-    (cond (stray_bit k words) (Err (refusal 21)) (Ok tt))
+    cond (lengths_wrong k (length index) (length words)) (Err Refusal.Length)
+    (cond (stray_bit k words) (Err Refusal.StrayBit) (Ok tt))
 
 -- in a refusal the list stays
-unfoldable pub list_left : Card → List ℕ → List ℕ → List ℕ
+unfoldable pub list_left : Fields → List ℕ → List ℕ → List ℕ
 list_left k words index = kept (to_list_of k words index) index (list_of k words)
 
 -- ---- what converting is held to: proved in proofs/RoundTrip.antt
 
 -- the words written are the list's other form, so every look-up and window answer is the same
 abbrev pub ToBitsForms : Type 0
-ToBitsForms = (k : Card) (index words : List ℕ) → to_bits_of k index words ≡ Ok tt → Forms k index (bits_left k index words)
+ToBitsForms = (k : Fields) (index words : List ℕ) → to_bits_of k index words ≡ Ok tt → Forms k index (bits_left k index words)
 
 -- and the list written is the words' other form
 abbrev pub ToListForms : Type 0
-ToListForms = (k : Card) (words index : List ℕ) → to_list_of k words index ≡ Ok tt → Forms k (list_left k words index) words
+ToListForms = (k : Fields) (words index : List ℕ) → to_list_of k words index ≡ Ok tt → Forms k (list_left k words index) words
 
 -- a list that has presence bits is in reading order, so 20 is for those alone that have none
 abbrev pub FormsInOrder : Type 0
-FormsInOrder = (k : Card) (index words : List ℕ) → Forms k index words → in_order 0 index ≡ true
+FormsInOrder = (k : Fields) (index words : List ℕ) → Forms k index words → in_order 0 index ≡ true
 
 -- to bits and back gives the list, into whatever list of that length
 abbrev pub BitsAndBack : Type 0
 BitsAndBack =
-    (k : Card) (index words other : List ℕ) → to_bits_of k index words ≡ Ok tt → length other ≡ length index
+    (k : Fields) (index words other : List ℕ) → to_bits_of k index words ≡ Ok tt → length other ≡ length index
     → let bits = bits_left k index words in
     (to_list_of k bits other ≡ Ok tt) × (list_left k bits other ≡ index)
 
 -- to a list and back gives the bits, in words of 64 bits
 abbrev pub ListAndBack : Type 0
 ListAndBack =
-    (k : Card) (words index other : List ℕ) → ((i : ℕ) → get_or words i 0 < 2 ^ 64) → to_list_of k words index ≡ Ok tt
+    (k : Fields) (words index other : List ℕ) → ((i : ℕ) → get_or words i 0 < 2 ^ 64) → to_list_of k words index ≡ Ok tt
     → length other ≡ length words
     → let list = list_left k words index in
     (to_bits_of k list other ≡ Ok tt) × (bits_left k list other ≡ words)

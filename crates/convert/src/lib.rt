@@ -3,7 +3,7 @@
 
 ghost use Rattle.std.specs.Prelude.{◌≡◌, cond, ◌*◌, ◌≤◌, eqb, length, get_or};
 ghost use Rattle.presence.specs.Presence.{numbers_to};
-ghost use Rattle.card.specs.Read.{Known};
+ghost use Rattle.card_text.specs.Read.{Known};
 ghost use Rattle.convert.specs.Convert.{lengths_wrong, in_order, bit_of, word_from, bits_of, to_bits_of, bits_left, to_list_of, list_left};
 
 use arc::Refusal;
@@ -14,11 +14,12 @@ pub mod laws;
 // Whether the list or the words are of the wrong length.
 #[tactic(auto, unfolding(crate::specs::Convert::lengths_wrong))]
 fn lengths_wrong(card: Card, index: usize, words: usize) -> bool
-    requires { Known card }
-    ensures { result ≡ lengths_wrong card index words }
+    ensures is { result ≡ lengths_wrong card index words }
+    ensures known { Known card }
 {
-    let tiles = card.nfl * card.nfc;
-    if card.tif {
+    let fields = card.fields();
+    let tiles = fields.nfl * fields.nfc;
+    if fields.tif {
         index as u64 != tiles || words as u64 != (tiles + 63) / 64
     } else {
         index != 0 || words != 0
@@ -96,15 +97,14 @@ fn set_list(words: &[u64], index: &mut [u32])
 /// Writes the presence bits of a list in reading order. Refuses 6, 20 where the list is in another order; in a refusal the words stay.
 #[tactic(auto, unfolding(crate::specs::Convert::to_bits_of, crate::specs::Convert::bits_left))]
 pub fn to_bits(card: Card, index: &[u32], words: &mut [u64]) -> Result<(), Refusal>
-    requires { Known card }
     ensures answer { result ≡ to_bits_of card index.now words.old }
     ensures left { words.new ≡ bits_left card index.now words.old }
 {
     if lengths_wrong(card, index.len(), words.len()) {
-        return Err(arc::refused(6));
+        return Err(Refusal::Length);
     }
     if !in_order(index) {
-        return Err(arc::refused(20));
+        return Err(Refusal::ReadingOrder);
     }
     set_words(index, words);
     Ok(())
@@ -113,15 +113,15 @@ pub fn to_bits(card: Card, index: &[u32], words: &mut [u64]) -> Result<(), Refus
 /// Writes the list of presence bits. Refuses 6, 21 for a bit past the last tile; in a refusal the list stays.
 #[tactic(auto, unfolding(crate::specs::Convert::to_list_of, crate::specs::Convert::list_left))]
 pub fn to_list(card: Card, words: &[u64], index: &mut [u32]) -> Result<(), Refusal>
-    requires { Known card }
     ensures answer { result ≡ to_list_of card words.now index.old }
     ensures left { index.new ≡ list_left card words.now index.old }
 {
     if lengths_wrong(card, index.len(), words.len()) {
-        return Err(arc::refused(6));
+        return Err(Refusal::Length);
     }
-    if presence::any_set(words, card.nfl * card.nfc) {
-        return Err(arc::refused(21));
+    let fields = card.fields();
+    if presence::any_set(words, fields.nfl * fields.nfc) {
+        return Err(Refusal::StrayBit);
     }
     set_list(words, index);
     Ok(())

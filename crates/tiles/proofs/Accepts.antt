@@ -10,7 +10,7 @@ use borrow.Author.Tests.{le-ltb}
 use lib.ListN.{length, get_or, take}
 use lib.Seq.{get_or-take, length-take-le}
 use Rattle.std.specs.Prelude.{Ok}
-use Rattle.card.specs.declared.Card.{Card}
+use Rattle.card_text.specs.declared.Fields.{Fields}
 use Rattle.tiles.specs.declared.Said.{Said}
 use Rattle.tiles.specs.Index.{tiles, in_base, index_wrong, said_of}
 use Rattle.whole.specs.Lists.{occurs}
@@ -23,7 +23,7 @@ use Rattle.tiles.proofs.Counted.{occurs-at, place, each-named}
 use Rattle.tiles.proofs.Pass.{good_none, good_new}
 
 -- ---- with TIF Y
-module _ (k : Card) (index : List ℕ) (count : ℕ) (w : index_wrong k index count ≡ false) (y : k.tif ≡ true)
+module _ (k : Fields) (index : List ℕ) (count : ℕ) (w : index_wrong k index count ≡ false) (y : k.tif ≡ true)
     (a : NoneAbove k (said_of k index count)) (e : EachPlaced k (said_of k index count) count) where
   long : length index ≡ tiles k
   long = index_long k index count w y

@@ -3,11 +3,11 @@ use mathlib.Core.Path.{◌≡◌, refl, sym, ap, ◌∙◌}
 use mathlib.Core.List.{List, ◌∷◌, ◌++◌}
 use Prim.Native.Nat.{ℕ, suc, ◌+◌, ◌-◌, ◌*◌, ◌≤◌, ◌<◌}
 use native.Mathlib.Omega.{arith}
-use Rattle.card.specs.declared.Card.{Card}
+use Rattle.card_text.specs.declared.Fields.{Fields}
 use Rattle.std.specs.Prelude.{Option, None, Result, Ok}
 use Rattle.tiles.specs.declared.Said.{Said}
 use Rattle.whole.specs.Lists.{up_from}
-use Rattle.arc.specs.declared.Refusal.{Refusal}
+use Rattle.arc.specs.declared.refusal.Refusal.{Refusal}
 use Rattle.tiles.specs.Window.{window_tiles, scanned, scan}
 use Rattle.tiles.specs.Steps.{kind}
 
@@ -23,7 +23,7 @@ by_kind t Said.Above rest = refl
 
 module _ (says : ℕ → Said) where
   -- a row begins, and ends
-  pub enter : (k : Card) (top left r height width : ℕ) → r < height
+  pub enter : (k : Fields) (top left r height width : ℕ) → r < height
       → scan says (window_tiles k (top + r) left (height - r) width)
       ≡ scan says (up_from ((top + r) * k.nfc + left + 0) (width - 0) ++ window_tiles k (top + (r + 1)) left (height - (r + 1)) width)
   enter k top left r height width h =
@@ -37,7 +37,7 @@ module _ (says : ℕ → Said) where
       → scan says (up_from (s + c) (width - c) ++ rest) ≡ scan says rest
   leave s c width rest h = let e : width - c ≡ 0 = omega arith in rw e
 
-  pub done : (k : Card) (top left r height width : ℕ) → height ≤ r
+  pub done : (k : Fields) (top left r height width : ℕ) → height ≤ r
       → scan says (window_tiles k (top + r) left (height - r) width) ≡ Ok None
   done k top left r height width h = let e : height - r ≡ 0 = omega arith in rw e
 

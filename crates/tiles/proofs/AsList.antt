@@ -11,7 +11,7 @@ use lib.ListN.{length, get_or, get_or-eq_default}
 use Rattle.presence.specs.Presence.{present, number_at}
 use Rattle.presence.proofs.Counted.{present-past, number-none}
 use Rattle.presence.proofs.Set.{none-set}
-use Rattle.card.specs.declared.Card.{Card}
+use Rattle.card_text.specs.declared.Fields.{Fields}
 use Rattle.tiles.specs.declared.Said.{Said}
 use Rattle.tiles.specs.declared.Source.{Source}
 use Rattle.tiles.specs.Index.{IndexView, tiles, in_base, index_length, index_wrong, said, said_of, by_list}
@@ -24,7 +24,7 @@ use Rattle.tiles.specs.AsList.{SourceAsList, EitherPartAsList, EitherBandsAsList
 use Rattle.tiles.proofs.Listed.{listed-length, listed_at}
 
 -- no bit is set past the last tile, nor past the words
-none-past : (k : Card) (words : List ℕ) → length words ≡ words_length k → stray_bit k words ≡ false → (t : ℕ) → index_length k ≤ t → present words t ≡ 0
+none-past : (k : Fields) (words : List ℕ) → length words ≡ words_length k → stray_bit k words ≡ false → (t : ℕ) → index_length k ≤ t → present words t ≡ 0
 unfolding stray_bit
 none-past k words e o t h = go k.tif e h (dec_le (length words) (t / 64))
   where
@@ -49,7 +49,7 @@ bits-have-list k words e o =
     go t (no h) = sym (listed_at (number_at words) (index_length k) t (lt_of_not-le h))
 
 -- ---- two forms of one index
-module _ (k : Card) (index words : List ℕ) (f : Forms k index words) where
+module _ (k : Fields) (index words : List ℕ) (f : Forms k index words) where
   says_same : (count : ℕ) → said_bits k words count ≡ said_of k index count
   unfolding said_bits said_of
   says_same count = fun_ext (λ t. ap (λ (e : ℕ). cond k.tif (said Source.Base count e) (Said.Stored (in_base (t + 1)))) (f.entries t))

@@ -10,9 +10,8 @@ use lib.ListN.{length, get_or}
 use lib.IntN.{ℤ, nat_abs}
 use Rattle.std.specs.Prelude.{Option, Some, Result, Ok, Err}
 use Rattle.whole.specs.Results.{◌>>=◌}
-use Rattle.arc.specs.declared.Refusal.{Refusal}
-use Rattle.arc.specs.Refusals.{refusal}
-use Rattle.card.specs.declared.Card.{Card}
+use Rattle.arc.specs.declared.refusal.Refusal.{Refusal}
+use Rattle.card_text.specs.declared.Fields.{Fields}
 use Rattle.card.specs.Grid.{in_tiles}
 use Rattle.tiles.specs.declared.Source.{Source}
 use Rattle.tiles.specs.declared.Stored.{Stored}
@@ -33,7 +32,7 @@ use Rattle.tiles.proofs.Sources.{base-held, second-held}
 -- ---- two indexes and two second lists
 
 -- part and values follow the number
-pub alike : (k : Card) (i j : List ℕ) (count : ℕ) (store x y : List ℕ) (corrected : ℕ) (second : List ℕ) (r c : ℤ)
+pub alike : (k : Fields) (i j : List ℕ) (count : ℕ) (store x y : List ℕ) (corrected : ℕ) (second : List ℕ) (r c : ℤ)
     → source_of k i count store x corrected second r c ≡ source_of k j count store y corrected second r c
     → SameAnswers k i j count store x y corrected second r c
 unfolding part_by bands_by
@@ -44,7 +43,7 @@ alike k i j count store x y corrected second r c e =
       values = ap (λ (a : Result Stored Refusal). a >>= (λ s. Ok (bands_at (part_in a store second) (in_band r c)))) e;
     }
 
-module _ (k : Card) (index : List ℕ) (count : ℕ) (store corrections other : List ℕ) (corrected : ℕ) (second : List ℕ) (r c : ℤ)
+module _ (k : Fields) (index : List ℕ) (count : ℕ) (store corrections other : List ℕ) (corrected : ℕ) (second : List ℕ) (r c : ℤ)
     (e : length corrections ≡ length other) where
   -- outside the tiles every list of that length answers alike
   outside-alike : in_tiles k r c ≡ false
@@ -69,12 +68,12 @@ standby-alike k index count store corrections other corrected second r c e f =
 -- ---- an all-zero list
 
 -- where the tile is not corrected, the base answers
-base-found : (k : Card) (corrections : List ℕ) (corrected : ℕ) (says : ℕ → Said) (r c : ℤ) → get_or corrections (tile_of k (nat_abs r) (nat_abs c)) 0 ≡ 0
+base-found : (k : Fields) (corrections : List ℕ) (corrected : ℕ) (says : ℕ → Said) (r c : ℤ) → get_or corrections (tile_of k (nat_abs r) (nat_abs c)) 0 ≡ 0
     → found_of k (said_with corrections corrected says) r c ≡ found_of k says r c
 base-found k corrections corrected says r c z =
     one-tile k (said_with corrections corrected says) says r c (with_none corrections (tile_of k (nat_abs r) (nat_abs c)) corrected says z)
 
-module _ (k : Card) (index : List ℕ) (count : ℕ) (store corrections : List ℕ) (corrected : ℕ) (second : List ℕ) (r c : ℤ)
+module _ (k : Fields) (index : List ℕ) (count : ℕ) (store corrections : List ℕ) (corrected : ℕ) (second : List ℕ) (r c : ℤ)
     (w : corrections_wrong k corrections corrected second ≡ false) (z : get_or corrections (tile_of k (nat_abs r) (nat_abs c)) 0 ≡ 0) where
   base-number : source_of k index count store corrections corrected second r c ≡ number_of k index count store r c
   unfolding stored_by
@@ -109,7 +108,7 @@ zero-window k index count corrections corrected top left height width z w =
     rw (w, e)
 
 -- ---- where a correction stands
-some-found : (k : Card) (corrections : List ℕ) (corrected : ℕ) (says other : ℕ → Said) (r c : ℤ)
+some-found : (k : Fields) (corrections : List ℕ) (corrected : ℕ) (says other : ℕ → Said) (r c : ℤ)
     → (get_or corrections (tile_of k (nat_abs r) (nat_abs c)) 0 ≡ 0 → ⊥)
     → found_of k (said_with corrections corrected says) r c ≡ found_of k (said_with corrections corrected other) r c
 some-found k corrections corrected says other r c d =
@@ -124,7 +123,7 @@ base-not-consulted k index other count store corrections corrected second r c d 
     (rw (e, some-found k corrections corrected (said_of k index count) (said_of k other count) r c d))
 
 -- what is said of a tile, by two indexes that agree where no correction stands
-one-said : (k : Card) (index other : List ℕ) (count : ℕ) (corrections : List ℕ) (corrected t : ℕ)
+one-said : (k : Fields) (index other : List ℕ) (count : ℕ) (corrections : List ℕ) (corrected t : ℕ)
     → (get_or corrections t 0 ≡ 0 → get_or index t 0 ≡ get_or other t 0)
     → said_with corrections corrected (said_of k index count) t ≡ said_with corrections corrected (said_of k other count) t
 unfolding said_of
@@ -184,7 +183,7 @@ missing-in-both k index count corrections corrected top left height width t =
     says = said_with corrections corrected (said_of k index count)
 
     go : (a b x y : Bool) → unless_wrong a (unless_wrong b (Ok tt)) >>= (λ u.
-        cond {A = Result (Option ℕ) Refusal} (x || y) (Err (refusal 12)) (scan says (window_tiles k top left height width)))
+        cond {A = Result (Option ℕ) Refusal} (x || y) (Err Refusal.OutsideTiles) (scan says (window_tiles k top left height width)))
         ≡ Ok (Some t)
         → (get_or corrections t 0 ≡ 0) × (said_of k index count t ≡ Said.Missing)
     go true b x y e = let z : ◌≡◌ {A = ℕ} 0 1 = cc in absurd (omega arith)

@@ -10,15 +10,15 @@ use lib.Dec.{eqb}
 use lib.ListN.{length}
 use Rattle.presence.specs.Presence.{any_set_from}
 use Rattle.presence.proofs.Set.{set_past}
-use Rattle.card.specs.declared.Card.{Card}
-use Rattle.card.specs.Read.{Known}
+use Rattle.card_text.specs.declared.Fields.{Fields}
+use Rattle.card_text.specs.Read.{Known}
 use Rattle.tiles.specs.Index.{tiles, count_wrong}
 use Rattle.tiles.specs.Bits.{words_length, words_wrong, stray_bit}
 use Rattle.tiles.specs.Entries.{neither, count-few}
 use Rattle.tiles.proofs.Entry.{tiles_small}
 
 -- ---- lengths
-module _ (k : Card) (words : List ℕ) where
+module _ (k : Fields) (words : List ℕ) where
   pub words_right : (count : ℕ) → words_wrong k words count ≡ false → length words ≡ words_length k
   unfolding words_wrong
   words_right count e = eqb-true (length words) (words_length k) (not-false _ (neither (not (eqb (length words) (words_length k))) (count_wrong k count) e).0)

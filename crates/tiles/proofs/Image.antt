@@ -7,7 +7,7 @@ use native.Mathlib.Nat.{add-mul, one-mul}
 use native.Mathlib.Numerals.{add-one}
 use native.Mathlib.Decide.{ℕ_discrete}
 use borrow.Author.Tests.{le-ltb}
-use Rattle.card.specs.declared.Card.{Card}
+use Rattle.card_text.specs.declared.Fields.{Fields}
 use Rattle.tiles.specs.declared.Said.{Said}
 use Rattle.tiles.specs.declared.Stored.{Stored}
 use Rattle.std.specs.Prelude.{None, Ok}
@@ -25,7 +25,7 @@ row-join t (suc a) n =
     let f : t + suc a ≡ t + 1 + a = omega arith in
     rw (e, f, row-join (t + 1) a n)
 
-whole-rows : (k : Card) (top height : ℕ)
+whole-rows : (k : Fields) (top height : ℕ)
     → window_tiles k top 0 height k.nfc ≡ up_from (top * k.nfc) (height * k.nfc)
 whole-rows k top zero = let e : 0 * k.nfc ≡ 0 = omega arith in rw e
 whole-rows k top (suc height) =
@@ -56,7 +56,7 @@ module _ (says : ℕ → Said) where
   stored-scan t (suc n) f =
       rw (f t (omega arith) (omega arith)).1 (stored-scan (t + 1) n (λ j p q. f j (omega arith) (omega arith)))
 
-  view-is : (k : Card) → view_of k says 0 0 k.nfl k.nfc ≡ scan says (up_from 0 (tiles k))
+  view-is : (k : Fields) → view_of k says 0 0 k.nfl k.nfc ≡ scan says (up_from 0 (tiles k))
   unfolding view_of
   view-is k =
       let z : 0 * k.nfc ≡ 0 = omega arith in

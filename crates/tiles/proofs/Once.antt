@@ -11,9 +11,9 @@ use borrow.Author.Tests.{ltb-false}
 use lib.Dec.{ltb, eqb}
 use lib.ListN.{length, get_or, take}
 use lib.Seq.{get_or-take, length-take-le}
+use Rattle.arc.specs.declared.refusal.Refusal.{Refusal}
 use Rattle.std.specs.Prelude.{Ok, Err}
-use Rattle.arc.specs.Refusals.{refusal}
-use Rattle.card.specs.declared.Card.{Card}
+use Rattle.card_text.specs.declared.Fields.{Fields}
 use Rattle.tiles.specs.declared.Said.{Said}
 use Rattle.tiles.specs.Index.{tiles, in_base, index_wrong, said_of}
 use Rattle.whole.specs.Lists.{occurs}
@@ -47,7 +47,7 @@ module _ (index : List ℕ) (count : ℕ) (b : first_bad count index ≡ none) w
       go (no p) (no q) = omega (arith, lt_of_not-le p, lt_of_not-le q)
 
 -- ---- what an accepted check says
-record Checked (k : Card) (index : List ℕ) (count : ℕ) : Type 0 where
+record Checked (k : Fields) (index : List ℕ) (count : ℕ) : Type 0 where
   right : index_wrong k index count ≡ false
   passes : k.tif ≡ true → (first_bad count index ≡ none) × (all_named count index ≡ true)
 
@@ -61,12 +61,12 @@ passed index count = go (first_bad count index) (all_named count index) refl ref
     go none false e f h = let g = rw f at h in let z : ◌≡◌ {A = ℕ} 0 1 = cc in absurd (omega arith)
     go none true e f h = (e, f)
 
-checked : (k : Card) (index marks : List ℕ) (count : ℕ) → check_of k index count marks ≡ Ok tt → Checked k index count
+checked : (k : Fields) (index marks : List ℕ) (count : ℕ) → check_of k index count marks ≡ Ok tt → Checked k index count
 unfolding check_of
 checked k index marks count = go (index_wrong k index count || ltb (length marks) count) refl
   where
     go : (x : Bool) → index_wrong k index count || ltb (length marks) count ≡ x
-        → cond x (Err (refusal 6)) (cond k.tif (judged count index (first_bad count index)) (Ok tt))
+        → cond x (Err Refusal.Length) (cond k.tif (judged count index (first_bad count index)) (Ok tt))
         ≡ Ok tt → Checked k index count
     go true e h = let z : ◌≡◌ {A = ℕ} 0 1 = cc in absurd (omega arith)
     go false e h =
@@ -81,7 +81,7 @@ number_in Said.Missing = 0
 number_in Said.Above = 0
 
 -- ---- by TIF
-module _ (k : Card) (index : List ℕ) (count : ℕ) (w : Checked k index count) where
+module _ (k : Fields) (index : List ℕ) (count : ℕ) (w : Checked k index count) where
   one_place : (y : Bool) → k.tif ≡ y → EachPlaced k (said_of k index count) count
   unfolding number_in
   one_place true y n p q =

@@ -3,8 +3,7 @@ use mathlib.Core.Path.{◌≡◌, refl}
 use mathlib.Core.Bool.{Bool, true, false, cond}
 use Rattle.std.specs.Prelude.{Result, Ok, Err}
 use Rattle.whole.specs.Results.{◌>>=◌}
-use Rattle.arc.specs.declared.Refusal.{Refusal}
-use Rattle.arc.specs.Refusals.{refusal}
+use Rattle.arc.specs.declared.refusal.Refusal.{Refusal}
 use Rattle.tiles.specs.Index.{unless_wrong, index_wrong, store_wrong, said_of}
 use Rattle.tiles.specs.LookUp.{found_of, stored_by}
 use Rattle.tiles.specs.Window.{view_of, window_by}
@@ -15,23 +14,23 @@ use Rattle.tiles.specs.Orders.{WindowOrder, BitsWindowOrder, CorrectedWindowOrde
 
 -- by these tests: the base's, the corrections' and that of stray bits
 module _ {A : Type 0} (x : Result A Refusal) where
-  one : (a : Bool) → unless_wrong a (Ok tt) >>= (λ u. x) ≡ cond a (Err (refusal 6)) x
+  one : (a : Bool) → unless_wrong a (Ok tt) >>= (λ u. x) ≡ cond a (Err Refusal.Length) x
   one true = refl
   one false = refl
 
-  two : (a s : Bool) → unless_wrong a (cond s (Err (refusal 21)) (Ok tt)) >>= (λ u. x) ≡ cond a (Err (refusal 6)) (cond s (Err (refusal 21)) x)
+  two : (a s : Bool) → unless_wrong a (cond s (Err Refusal.StrayBit) (Ok tt)) >>= (λ u. x) ≡ cond a (Err Refusal.Length) (cond s (Err Refusal.StrayBit) x)
   two true s = refl
   two false true = refl
   two false false = refl
 
-  beside : (a b : Bool) → unless_wrong b (unless_wrong a (Ok tt)) >>= (λ u. x) ≡ cond a (Err (refusal 6)) (cond b (Err (refusal 6)) x)
+  beside : (a b : Bool) → unless_wrong b (unless_wrong a (Ok tt)) >>= (λ u. x) ≡ cond a (Err Refusal.Length) (cond b (Err Refusal.Length) x)
   beside true true = refl
   beside true false = refl
   beside false true = refl
   beside false false = refl
 
-  beside-two : (a b s : Bool) → unless_wrong b (unless_wrong a (cond s (Err (refusal 21)) (Ok tt))) >>= (λ u. x)
-      ≡ cond a (Err (refusal 6)) (cond b (Err (refusal 6)) (cond s (Err (refusal 21)) x))
+  beside-two : (a b s : Bool) → unless_wrong b (unless_wrong a (cond s (Err Refusal.StrayBit) (Ok tt))) >>= (λ u. x)
+      ≡ cond a (Err Refusal.Length) (cond b (Err Refusal.Length) (cond s (Err Refusal.StrayBit) x))
   beside-two true true s = refl
   beside-two true false s = refl
   beside-two false true s = refl

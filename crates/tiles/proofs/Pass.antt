@@ -11,8 +11,7 @@ use lib.Dec.{ltb}
 use lib.ListN.{length, get_or, take, drop, set, length-drop, length-append, get_or-append}
 use lib.Seq.{take-suc, take-length}
 use Rattle.std.specs.Prelude.{Result, Ok, Err}
-use Rattle.arc.specs.declared.Refusal.{Refusal}
-use Rattle.arc.specs.Refusals.{refusal_at}
+use Rattle.arc.specs.declared.refusal.Refusal.{Refusal}
 use Rattle.whole.specs.Lists.{occurs, first_from, one_more}
 use Rattle.tiles.specs.Check.{bad_at, first_bad, judged, before, mark_at, marked, marks_passed}
 use Rattle.tiles.proofs.First.{first-hit, first_next, first-none}
@@ -60,7 +59,7 @@ module _ (count : ℕ) (entries m : List ℕ) where
 
 -- 15 at a place
 abbrev refused : ℕ → Result Unit Refusal
-refused n = Err (refusal_at 15 n)
+refused n = Err (Refusal.Entry n)
 
 -- a mark and what it marks
 mark-none : (b : Bool) → ◌≡◌ {A = ℕ} (cond b 1 0) 0 → b ≡ false

@@ -11,12 +11,11 @@ use lib.Seq.{length-take-le}
 use lib.IntN.{ℤ, nat_abs}
 use Rattle.std.specs.Prelude.{Result, Ok, Err, IfOk}
 use Rattle.whole.specs.Results.{◌>>=◌}
-use Rattle.arc.specs.declared.Refusal.{Refusal}
-use Rattle.arc.specs.declared.Verdict.{Verdict}
-use Rattle.arc.specs.Refusals.{refusal, on_verdict}
-use Rattle.card.specs.declared.Card.{Card}
-use Rattle.card.specs.Read.{Known}
-use Rattle.card.specs.Grid.{in_tiles, in_chart, verdict_of}
+use Rattle.arc.specs.declared.refusal.Refusal.{Refusal}
+use Rattle.card_text.specs.declared.Fields.{Fields}
+use Rattle.card_text.specs.Read.{Known}
+use Rattle.card.specs.Grid.{verdict_of}
+use Rattle.card.proofs.Answers.{accepted-in}
 use Rattle.card.proofs.Regions.{PixelInside, tiles-inside}
 use Rattle.tiles.specs.declared.Source.{Source}
 use Rattle.tiles.specs.declared.Stored.{Stored}
@@ -28,26 +27,21 @@ use Rattle.tiles.specs.Entries.{neither, not-wrong}
 use Rattle.tiles.proofs.Entry.{tiles_small, tile-inside, stored-most}
 
 -- a pixel of the tiles
-tile-of : (k : Card) (r c : ℤ) → PixelInside k r c → tile_of k (nat_abs r) (nat_abs c) < tiles k
+tile-of : (k : Fields) (r c : ℤ) → PixelInside k r c → tile_of k (nat_abs r) (nat_abs c) < tiles k
 tile-of k r c w =
     rw (w.row.same, w.column.same)
     (tile-inside (w.row.at / 128) (w.column.at / 128) k.nfl k.nfc (omega (arith, w.row.below))
     (omega (arith, w.column.below)))
 
-pub tile-in : (k : Card) (r c : ℤ) → verdict_of k r c ≡ Verdict.Accepted → tile_of k (nat_abs r) (nat_abs c) < tiles k
-tile-in k r c v = tile-of k r c (tiles-inside k r c (go (in_tiles k r c) (in_chart k r c) v))
-  where
-    go : (b d : Bool) → cond b (cond d Verdict.Accepted (Verdict.Refused (refusal 13))) (Verdict.Refused (refusal 12))
-        ≡ Verdict.Accepted → b ≡ true
-    go true d e = refl
-    go false d e = let z : ◌≡◌ {A = ℕ} 0 1 = cc in absurd (omega arith)
+pub tile-in : (k : Fields) (r c : ℤ) → verdict_of k r c ≡ Ok tt → tile_of k (nat_abs r) (nat_abs c) < tiles k
+tile-in k r c v = tile-of k r c (tiles-inside k r c (accepted-in k r c v).0)
 
-pub tile_few : (k : Card) (r c : ℤ) → Known k → verdict_of k r c ≡ Verdict.Accepted → tile_of k (nat_abs r) (nat_abs c) ≤ 998001
+pub tile_few : (k : Fields) (r c : ℤ) → Known k → verdict_of k r c ≡ Ok tt → tile_of k (nat_abs r) (nat_abs c) ≤ 998001
 tile_few k r c w v = omega (arith, tile-in k r c v, tiles_small k w)
 
 -- ---- what is stored is an accepted pixel's tile
 
-pub record Found (k : Card) (says : ℕ → Said) (r c : ℤ) (s : Stored) : Type 0 where
+pub record Found (k : Fields) (says : ℕ → Said) (r c : ℤ) (s : Stored) : Type 0 where
   pub inside : tile_of k (nat_abs r) (nat_abs c) < tiles k
   pub said-is : says (tile_of k (nat_abs r) (nat_abs c)) ≡ Said.Stored s
 
@@ -56,18 +50,17 @@ number-stored t s (Said.Stored m) e = cc
 number-stored t s Said.Missing e = let z : ◌≡◌ {A = ℕ} 0 1 = cc in absurd (omega arith)
 number-stored t s Said.Above e = let z : ◌≡◌ {A = ℕ} 0 1 = cc in absurd (omega arith)
 
-pub found : (k : Card) (says : ℕ → Said) (r c : ℤ) (s : Stored) → found_of k says r c ≡ Ok s → Found k says r c s
+pub found : (k : Fields) (says : ℕ → Said) (r c : ℤ) (s : Stored) → found_of k says r c ≡ Ok s → Found k says r c s
 unfolding found_of
 found k says r c s = go (verdict_of k r c) refl
   where
-    go : (v : Verdict) → verdict_of k r c ≡ v
-        → on_verdict v Err (stored_said (tile_of k (nat_abs r) (nat_abs c)) (says (tile_of k (nat_abs r) (nat_abs c))))
-        ≡ Ok s → Found k says r c s
-    go Verdict.Accepted e h = record { inside = tile-in k r c e; said-is = number-stored _ s _ h }
-    go (Verdict.Refused x) e h = let z : ◌≡◌ {A = ℕ} 0 1 = cc in absurd (omega arith)
+    go : (v : Result Unit Refusal) → verdict_of k r c ≡ v
+        → v >>= (λ u. stored_said (tile_of k (nat_abs r) (nat_abs c)) (says (tile_of k (nat_abs r) (nat_abs c)))) ≡ Ok s → Found k says r c s
+    go (Ok u) e h = record { inside = tile-in k r c e; said-is = number-stored _ s _ h }
+    go (Err x) e h = let z : ◌≡◌ {A = ℕ} 0 1 = cc in absurd (omega arith)
 
 -- past the index's own refusals
-pub past : (k : Card) (v : IndexView) (base second : List ℕ) (r c : ℤ) (s : Stored) → stored_by k v base second r c ≡ Ok s
+pub past : (k : Fields) (v : IndexView) (base second : List ℕ) (r c : ℤ) (s : Stored) → stored_by k v base second r c ≡ Ok s
     → (v.check_with base second ≡ Ok tt) × (found_of k v.says r c ≡ Ok s)
 unfolding stored_by
 past k v base second r c s = go (v.check_with base second) refl
@@ -78,18 +71,18 @@ past k v base second r c s = go (v.check_with base second) refl
     go (Err x) e h = let z : ◌≡◌ {A = ℕ} 0 1 = cc in absurd (omega arith)
 
 -- it lies in the store that is named
-pub lies_found : (k : Card) (v : IndexView) (base second : List ℕ) (r c : ℤ) → IsHeld k v → v.check_with base second ≡ Ok tt → (s : Stored)
+pub lies_found : (k : Fields) (v : IndexView) (base second : List ℕ) (r c : ℤ) → IsHeld k v → v.check_with base second ≡ Ok tt → (s : Stored)
     → found_of k v.says r c ≡ Ok s → Lies s.number (store_at s.source base second)
 lies_found k v base second r c held o s e =
     let f = found k v.says r c s e in
     held base second o _ f.inside s f.said-is
 
-pub lies_told : (k : Card) (v : IndexView) (base second : List ℕ) (r c : ℤ) → IsHeld k v → v.check_with base second ≡ Ok tt → (a : Result Stored Refusal)
+pub lies_told : (k : Fields) (v : IndexView) (base second : List ℕ) (r c : ℤ) → IsHeld k v → v.check_with base second ≡ Ok tt → (a : Result Stored Refusal)
     → a ≡ found_of k v.says r c → IfOk a (λ s. Lies s.number (store_at s.source base second))
 lies_told k v base second r c held o (Ok s) e = lies_found k v base second r c held o s (sym e)
 lies_told k v base second r c held o (Err x) e = tt
 
-pub lies_stored : (k : Card) (v : IndexView) (base second : List ℕ) (r c : ℤ) (s : Stored) → IsHeld k v → stored_by k v base second r c ≡ Ok s
+pub lies_stored : (k : Fields) (v : IndexView) (base second : List ℕ) (r c : ℤ) (s : Stored) → IsHeld k v → stored_by k v base second r c ≡ Ok s
     → Lies s.number (store_at s.source base second)
 lies_stored k v base second r c s held e =
     let p = past k v base second r c s e in
@@ -106,7 +99,7 @@ pub record InStore (n count : ℕ) (store : List ℕ) : Type 0 where
 pub in-store : (n count : ℕ) (store : List ℕ) → 1 ≤ n → n ≤ count → not (eqb (length store) (count * tile_bytes)) ≡ false → InStore n count store
 in-store n count store p q e = record { some = p; most = q; long = eqb-true (length store) (count * tile_bytes) (not-false _ e) }
 
-pub number-held : (k : Card) (index : List ℕ) (count : ℕ) (store : List ℕ) (r c : ℤ) (s : Stored)
+pub number-held : (k : Fields) (index : List ℕ) (count : ℕ) (store : List ℕ) (r c : ℤ) (s : Stored)
     → number_of k index count store r c ≡ Ok s → (s.source ≡ Source.Base) × InStore s.number count store
 number-held k index count store r c s e =
     let p = past k _ store _ r c s e in

@@ -10,11 +10,9 @@ use lib.ListN.{length, get_or, set, length-set}
 use lib.Seq.{get_or-set_same, get_or-set_other}
 use lib.IntN.{ℤ, nat_abs}
 use Rattle.whole.specs.Lists.{occurs}
-use Rattle.arc.specs.declared.Refusal.{Refusal}
-use Rattle.arc.specs.declared.Verdict.{Verdict}
-use Rattle.arc.specs.Refusals.{refusal, refusal_at}
+use Rattle.arc.specs.declared.refusal.Refusal.{Refusal}
 use Rattle.std.specs.Prelude.{Option, Result, Ok, Err}
-use Rattle.card.specs.declared.Card.{Card}
+use Rattle.card_text.specs.declared.Fields.{Fields}
 use Rattle.card.specs.Grid.{verdict_of}
 use Rattle.tiles.specs.declared.Said.{Said}
 use Rattle.tiles.specs.declared.Source.{Source}
@@ -28,7 +26,7 @@ use Rattle.tiles.specs.Laws.{with-some}
 use Rattle.tiles.proofs.Sources.{list-long}
 use Rattle.tiles.proofs.Corrections.{standby-alike, as-base}
 
-module _ (k : Card) (corrections : List ℕ) (corrected t number : ℕ) where
+module _ (k : Fields) (corrections : List ℕ) (corrected t number : ℕ) where
   -- what was accepted
   record Set : Type 0 where
     right : list_wrong k corrections corrected ≡ false
@@ -40,7 +38,7 @@ module _ (k : Card) (corrections : List ℕ) (corrected t number : ℕ) where
   accepted = go (list_wrong k corrections corrected) (leb (tiles k) t) (ltb corrected number) refl refl refl
     where
       go : (a b d : Bool) → list_wrong k corrections corrected ≡ a → leb (tiles k) t ≡ b → ltb corrected number ≡ d
-          → cond {A = Result Unit Refusal} a (Err (refusal 6)) (cond b (Err (refusal 12)) (cond d (Err (refusal_at 15 t)) (Ok tt)))
+          → cond {A = Result Unit Refusal} a (Err Refusal.Length) (cond b (Err Refusal.OutsideTiles) (cond d (Err (Refusal.Entry t)) (Ok tt)))
           ≡ Ok tt → Set
       go true b d p q s e = let z : ◌≡◌ {A = ℕ} 0 1 = cc in absurd (omega arith)
       go false true d p q s e = let z : ◌≡◌ {A = ℕ} 0 1 = cc in absurd (omega arith)
@@ -106,7 +104,7 @@ other-pixels k index count store corrections corrected second t number r c d =
     (after-length k corrections corrected t number) (λ i. after-other k corrections corrected t number _ (λ s. d (i, s)))
 
 -- a pixel of the chart, in a tile that is corrected by `number`
-corrected-found : (k : Card) (corrections : List ℕ) (corrected number : ℕ) (says : ℕ → Said) (r c : ℤ) → verdict_of k r c ≡ Verdict.Accepted
+corrected-found : (k : Fields) (corrections : List ℕ) (corrected number : ℕ) (says : ℕ → Said) (r c : ℤ) → verdict_of k r c ≡ Ok tt
     → get_or corrections (tile_of k (nat_abs r) (nat_abs c)) 0 ≡ number → (number ≡ 0 → ⊥) → number ≤ corrected
     → found_of k (said_with corrections corrected says) r c ≡ Ok (in_second number)
 unfolding found_of
@@ -116,7 +114,7 @@ corrected-found k corrections corrected number says r c v e d h =
     rw (v, with-some corrections t corrected says g, e, said-stored Source.Corrections corrected number d h)
 
 -- past both 6
-past-lengths : (k : Card) (index : List ℕ) (count : ℕ) (store corrections : List ℕ) (corrected : ℕ) (second : List ℕ) (r c : ℤ)
+past-lengths : (k : Fields) (index : List ℕ) (count : ℕ) (store corrections : List ℕ) (corrected : ℕ) (second : List ℕ) (r c : ℤ)
     → store_wrong k index count store ≡ false → corrections_wrong k corrections corrected second ≡ false
     → source_of k index count store corrections corrected second r c ≡ found_of k (said_with corrections corrected (said_of k index count)) r c
 unfolding stored_by
@@ -145,15 +143,15 @@ scan-apart f g t h (x ∷ ts) o =
     ap₂ (scanned x) (h x (eqb-false x t n.0)) (scan-apart f g t h ts n.1)
 
 -- a window that is not outside holds no such tile
-view-apart : (k : Card) (f g : ℕ → Said) (t top left height width : ℕ) → ((j : ℕ) → (j ≡ t → ⊥) → f j ≡ g j)
+view-apart : (k : Fields) (f g : ℕ → Said) (t top left height width : ℕ) → ((j : ℕ) → (j ≡ t → ⊥) → f j ≡ g j)
     → (top + height ≤ k.nfl → left + width ≤ k.nfc → occurs t (window_tiles k top left height width) ≡ false)
     → view_of k f top left height width ≡ view_of k g top left height width
 unfolding view_of
 view-apart k f g t top left height width h o = go (ltb k.nfl (top + height)) (ltb k.nfc (left + width)) refl refl
   where
     go : (a b : Bool) → ltb k.nfl (top + height) ≡ a → ltb k.nfc (left + width) ≡ b
-        → cond {A = Result (Option ℕ) Refusal} (a || b) (Err (refusal 12)) (scan f (window_tiles k top left height width))
-        ≡ cond {A = Result (Option ℕ) Refusal} (a || b) (Err (refusal 12)) (scan g (window_tiles k top left height width))
+        → cond {A = Result (Option ℕ) Refusal} (a || b) (Err Refusal.OutsideTiles) (scan f (window_tiles k top left height width))
+        ≡ cond {A = Result (Option ℕ) Refusal} (a || b) (Err Refusal.OutsideTiles) (scan g (window_tiles k top left height width))
     go true b p q = refl
     go false true p q = refl
     go false false p q =

@@ -10,7 +10,7 @@ use lib.Dec.{ltb, eqb}
 use lib.ListN.{length, get_or}
 use lib.IntN.{ℤ, nat_abs}
 use Rattle.std.specs.Prelude.{Ok}
-use Rattle.card.specs.declared.Card.{Card}
+use Rattle.card_text.specs.declared.Fields.{Fields}
 use Rattle.tiles.specs.declared.Said.{Said}
 use Rattle.tiles.specs.declared.Source.{Source}
 use Rattle.tiles.specs.Index.{tiles, in_base, in_second, tile_bytes, index_wrong, said_of, tile_of}
@@ -21,7 +21,7 @@ use Rattle.tiles.proofs.Entry.{stored-most}
 use Rattle.tiles.proofs.PixelTile.{InStore, in-store, found, past}
 
 -- ---- lengths
-module _ (k : Card) (corrections : List ℕ) (corrected : ℕ) (e : list_wrong k corrections corrected ≡ false) where
+module _ (k : Fields) (corrections : List ℕ) (corrected : ℕ) (e : list_wrong k corrections corrected ≡ false) where
   parted : (not (eqb (length corrections) (tiles k)) ≡ false) × (ltb (tiles k) corrected ≡ false)
   unfolding list_wrong
   parted = neither (not (eqb (length corrections) (tiles k))) (ltb (tiles k) corrected) e
@@ -33,7 +33,7 @@ module _ (k : Card) (corrections : List ℕ) (corrected : ℕ) (e : list_wrong k
   corrected_most = ltb-false (tiles k) corrected parted.1
 
 -- ---- the number is in the store that is named
-module _ (k : Card) (index : List ℕ) (count : ℕ) (store corrections : List ℕ) (corrected : ℕ) (second : List ℕ) (r c : ℤ) where
+module _ (k : Fields) (index : List ℕ) (count : ℕ) (store corrections : List ℕ) (corrected : ℕ) (second : List ℕ) (r c : ℤ) where
   abbrev tile : ℕ
   tile = tile_of k (nat_abs r) (nat_abs c)
 

@@ -6,9 +6,9 @@
 --     source_of, either_part_of, either_bands_of, corrected_window_of    look-up and window by a list with corrections beside it
 --     setting_of, set_of ..   what `set_correction` answers, and what the list then holds
 use Rattle.std.specs.Prelude.{ℕ, ◌*◌, List, [], ◌∷◌, Bool, cond, not, ◌||◌, ltb, leb, eqb, length, get_or, set, ℤ, pos, Option, Result, Ok, Err}
-use Rattle.arc.specs.declared.Refusal.{Refusal}
-use Rattle.arc.specs.Refusals.{refusal, refusal_at, Report, answered, refused_with}
-use Rattle.card.specs.declared.Card.{Card}
+use Rattle.arc.specs.declared.refusal.Refusal.{Refusal}
+use Rattle.arc.specs.Refusals.{Report, answered, refused_with}
+use Rattle.card_text.specs.declared.Fields.{Fields}
 use Rattle.tiles.specs.declared.Said.{Said}
 use Rattle.tiles.specs.declared.Source.{Source}
 use Rattle.tiles.specs.declared.Stored.{Stored}
@@ -18,11 +18,11 @@ use Rattle.tiles.specs.LookUp.{stored_by, part_by, bands_by}
 use Rattle.tiles.specs.Window.{window_by}
 
 -- the second list is as long as the image's tile grid, with N too; the corrected count is at most the tiles
-unfoldable pub list_wrong : Card → List ℕ → ℕ → Bool
+unfoldable pub list_wrong : Fields → List ℕ → ℕ → Bool
 list_wrong k corrections corrected = not (eqb (length corrections) (tiles k)) || ltb (tiles k) corrected
 
 -- 6 for this list, count or store
-unfoldable pub corrections_wrong : Card → List ℕ → ℕ → List ℕ → Bool
+unfoldable pub corrections_wrong : Fields → List ℕ → ℕ → List ℕ → Bool
 corrections_wrong k corrections corrected second =
     list_wrong k corrections corrected || not (eqb (length second) (corrected * tile_bytes))
 
@@ -32,7 +32,7 @@ said_with corrections corrected says t =
     cond (eqb (get_or corrections t 0) 0) (says t) (said Source.Corrections corrected (get_or corrections t 0))
 
 -- 6 of the corrections and 6 of the base, which are one refusal, then 21; corrected first
-abbrev pub corrected_by : Card → IndexView → List ℕ → ℕ → IndexView
+abbrev pub corrected_by : Fields → IndexView → List ℕ → ℕ → IndexView
 corrected_by k v corrections corrected =
     record {
       check = unless_wrong (list_wrong k corrections corrected) v.check;
@@ -43,22 +43,22 @@ corrected_by k v corrections corrected =
 -- ---- by a list with corrections beside it
 
 -- 6 of the base or of the corrections, then 12, 13, 15 of a correction, 14, 15
-abbrev pub source_of : Card → List ℕ → ℕ → List ℕ → List ℕ → ℕ → List ℕ → ℤ → ℤ → Result Stored Refusal
+abbrev pub source_of : Fields → List ℕ → ℕ → List ℕ → List ℕ → ℕ → List ℕ → ℤ → ℤ → Result Stored Refusal
 source_of k index count store corrections corrected second r c =
     stored_by k (corrected_by k (by_list k index count) corrections corrected) store second r c
 
 -- a part of the base store or of the corrections store
-abbrev pub either_part_of : Card → List ℕ → ℕ → List ℕ → List ℕ → ℕ → List ℕ → ℤ → ℤ → List ℕ
+abbrev pub either_part_of : Fields → List ℕ → ℕ → List ℕ → List ℕ → ℕ → List ℕ → ℤ → ℤ → List ℕ
 either_part_of k index count store corrections corrected second r c =
     part_by k (corrected_by k (by_list k index count) corrections corrected) store second r c
 
 -- the three band values of that part
-abbrev pub either_bands_of : Card → List ℕ → ℕ → List ℕ → List ℕ → ℕ → List ℕ → ℤ → ℤ → Result Bands Refusal
+abbrev pub either_bands_of : Fields → List ℕ → ℕ → List ℕ → List ℕ → ℕ → List ℕ → ℤ → ℤ → Result Bands Refusal
 either_bands_of k index count store corrections corrected second r c =
     bands_by k (corrected_by k (by_list k index count) corrections corrected) store second r c
 
 -- 6 of the base or of the corrections, then 12, 15: a corrected tile isn't missing
-abbrev pub corrected_window_of : Card → List ℕ → ℕ → List ℕ → ℕ → ℕ → ℕ → ℕ → ℕ → Result (Option ℕ) Refusal
+abbrev pub corrected_window_of : Fields → List ℕ → ℕ → List ℕ → ℕ → ℕ → ℕ → ℕ → ℕ → Result (Option ℕ) Refusal
 corrected_window_of k index count corrections corrected top left height width =
     window_by k (corrected_by k (by_list k index count) corrections corrected) top left height width
 
@@ -74,11 +74,11 @@ source_report (Err e) = refused_with e 2
 -- ---- setting the entry of tile t, by its number from 0; 0 takes a correction back
 
 -- 6, then 12 for a tile outside, then 15 for a number above the count
-unfoldable pub setting_of : Card → List ℕ → ℕ → ℕ → ℕ → Result Unit Refusal
+unfoldable pub setting_of : Fields → List ℕ → ℕ → ℕ → ℕ → Result Unit Refusal
 setting_of k corrections corrected t number =
-    cond (list_wrong k corrections corrected) (Err (refusal 6))
-    (cond (leb (tiles k) t) (Err (refusal 12))
-    (cond (ltb corrected number) (Err (refusal_at 15 t)) (Ok tt)))
+    cond (list_wrong k corrections corrected) (Err Refusal.Length)
+    (cond (leb (tiles k) t) (Err Refusal.OutsideTiles)
+    (cond (ltb corrected number) (Err (Refusal.Entry t)) (Ok tt)))
 
 -- `after` where it is answered; in a refusal the list stays
 abbrev pub kept : Result Unit Refusal → List ℕ → List ℕ → List ℕ
@@ -86,5 +86,5 @@ kept (Ok x) before after = after
 kept (Err e) before after = before
 
 -- that entry only
-unfoldable pub set_of : Card → List ℕ → ℕ → ℕ → ℕ → List ℕ
+unfoldable pub set_of : Fields → List ℕ → ℕ → ℕ → ℕ → List ℕ
 set_of k corrections corrected t number = kept (setting_of k corrections corrected t number) corrections (set corrections t number)

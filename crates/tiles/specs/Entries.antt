@@ -6,8 +6,8 @@ use native.Mathlib.Omega.{arith}
 use borrow.Author.Tests.{lt-ltb, le-ltb, eq-eqb, ne_eqb, ltb-true, ltb-false, eqb-true, eqb-false, not-false}
 use lib.Dec.{ltb, eqb}
 use Rattle.std.specs.Prelude.{Result, Ok}
-use Rattle.arc.specs.declared.Refusal.{Refusal}
-use Rattle.card.specs.declared.Card.{Card}
+use Rattle.arc.specs.declared.refusal.Refusal.{Refusal}
+use Rattle.card_text.specs.declared.Fields.{Fields}
 use Rattle.tiles.specs.declared.Source.{Source}
 use Rattle.tiles.specs.declared.Said.{Said}
 use Rattle.tiles.specs.Index.{tiles, unless_wrong, count_wrong, said}
@@ -49,7 +49,7 @@ entry-is source count e v h = subst (EntryIs source count e) h (go (eqb e 0) (lt
     go false false p q = let d = eqb-false e 0 p in (refl, refl, omega arith, ltb-false count e q)
 
 -- ---- the count
-pub count-few : (k : Card) (count : ℕ) → count_wrong k count ≡ false → count ≤ tiles k
+pub count-few : (k : Fields) (count : ℕ) → count_wrong k count ≡ false → count ≤ tiles k
 count-few k count = go k.tif
   where
     go : (b : Bool) → cond b (ltb (tiles k) count) (not (eqb count (tiles k))) ≡ false → count ≤ tiles k

@@ -12,7 +12,7 @@ use lib.ListN.{length, get_or}
 use Rattle.std.specs.Prelude.{Ok}
 use Rattle.presence.specs.Presence.{present, number_at}
 use Rattle.presence.proofs.Counted.{number-none, number-some, some_number, near, far}
-use Rattle.card.specs.declared.Card.{Card}
+use Rattle.card_text.specs.declared.Fields.{Fields}
 use Rattle.tiles.specs.declared.Source.{Source}
 use Rattle.tiles.specs.declared.Stored.{Stored}
 use Rattle.tiles.specs.declared.Said.{Said}
@@ -30,7 +30,7 @@ BaseIs count (Said.Stored s) = (s.source ≡ Source.Base) × (1 ≤ s.number) ×
 BaseIs count Said.Missing = Unit
 BaseIs count Said.Above = Unit
 
-pub base-most : (k : Card) (count e t : ℕ) → count_wrong k count ≡ false → t < tiles k
+pub base-most : (k : Fields) (count e t : ℕ) → count_wrong k count ≡ false → t < tiles k
     → BaseIs count (cond k.tif (said Source.Base count e) (Said.Stored (in_base (t + 1))))
 base-most k count e t w h = go k.tif w
   where
@@ -51,14 +51,14 @@ lies-in count base second v s e b w =
     let l = eqb-true (length base) (count * tile_bytes) (not-false _ w) in
     subst (λ (x : Source). Lies s.number (store_at x base second)) (sym m.0) (m.1, omega (arith, m.2, l))
 
-pub list-held : (k : Card) (index : List ℕ) (count : ℕ) → IsHeld k (by_list k index count)
+pub list-held : (k : Fields) (index : List ℕ) (count : ℕ) → IsHeld k (by_list k index count)
 unfolding said_of index_wrong
 list-held k index count base second c t h s e =
     let w = neither (index_wrong k index count) (not (eqb (length base) (count * tile_bytes))) (not-wrong _ _ c).0 in
     let x = neither (not (eqb (length index) (index_length k))) (count_wrong k count) w.0 in
     lies-in count base second _ s e (base-most k count (get_or index t 0) t x.1 h) w.1
 
-pub bits-held : (k : Card) (words : List ℕ) (count : ℕ) → IsHeld k (by_bits k words count)
+pub bits-held : (k : Fields) (words : List ℕ) (count : ℕ) → IsHeld k (by_bits k words count)
 unfolding said_bits words_wrong
 bits-held k words count base second c t h s e =
     let w = neither (words_wrong k words count) (not (eqb (length base) (count * tile_bytes))) (not-wrong _ _ c).0 in
@@ -74,7 +74,7 @@ module _ (corrections : List ℕ) (t corrected : ℕ) (says : ℕ → Said) wher
   unfolding said_with
   with-some d = rw (ne_eqb (get_or corrections t 0) 0 d)
 
-pub corrected-held : (k : Card) (v : IndexView) (corrections : List ℕ) (corrected : ℕ) → IsHeld k v → IsHeld k (corrected_by k v corrections corrected)
+pub corrected-held : (k : Fields) (v : IndexView) (corrections : List ℕ) (corrected : ℕ) → IsHeld k v → IsHeld k (corrected_by k v corrections corrected)
 unfolding corrections_wrong
 corrected-held k v corrections corrected held base second c t h s = go (ℕ_discrete (get_or corrections t 0) 0)
   where
@@ -90,7 +90,7 @@ corrected-held k v corrections corrected held base second c t h s = go (ℕ_disc
         subst (λ (x : Source). Lies s.number (store_at x base second)) (sym m.0) (m.2, omega (arith, m.3, l))
 
 -- ---- a glance tells what is said
-pub corrected-glance : (k : Card) (f g : ℕ → Said) (corrections : List ℕ) (corrected : ℕ) → IsGlance k f g
+pub corrected-glance : (k : Fields) (f g : ℕ → Said) (corrections : List ℕ) (corrected : ℕ) → IsGlance k f g
     → IsGlance k (said_with corrections corrected f) (said_with corrections corrected g)
 unfolding said_with
 corrected-glance k f g corrections corrected same t h = go (eqb (get_or corrections t 0) 0)
@@ -103,7 +103,7 @@ corrected-glance k f g corrections corrected same t h = go (eqb (get_or correcti
     go false = refl
 
 -- the bits say the same by their count and by where it passes the stated one, the number aside
-pub bits-glance : (k : Card) (words : List ℕ) (count : ℕ) → IsGlance k (glance_bits k words (end_of k words count)) (said_bits k words count)
+pub bits-glance : (k : Fields) (words : List ℕ) (count : ℕ) → IsGlance k (glance_bits k words (end_of k words count)) (said_bits k words count)
 unfolding said_bits glance_bits
 bits-glance k words count t h = go k.tif (ℕ_discrete (present words t) 0) (dec_le (end_of k words count) t)
   where

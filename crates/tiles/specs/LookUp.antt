@@ -7,9 +7,9 @@
 use Rattle.std.specs.Prelude.{◌≡◌, ℕ, ◌+◌, ◌*◌, ◌-◌, ◌%◌, ◌≤◌, ◌<◌, List, [], ◌∷◌, ◌++◌, length, get_or, take, drop, ℤ, Result, Ok, Err}
 use Rattle.std.specs.Prelude.{pos, nat_abs}
 use Rattle.whole.specs.Results.{◌>>=◌}
-use Rattle.arc.specs.declared.Refusal.{Refusal}
-use Rattle.arc.specs.Refusals.{refusal, refusal_at, Report, answered, refused_with, on_verdict}
-use Rattle.card.specs.declared.Card.{Card}
+use Rattle.arc.specs.declared.refusal.Refusal.{Refusal}
+use Rattle.arc.specs.Refusals.{Report, answered, refused_with}
+use Rattle.card_text.specs.declared.Fields.{Fields}
 use Rattle.card.specs.Grid.{verdict_of}
 use Rattle.tiles.specs.declared.Source.{Source}
 use Rattle.tiles.specs.declared.Stored.{Stored}
@@ -23,17 +23,17 @@ band_bytes = 16384
 -- 14, 15, the place of 15 being the tile
 abbrev pub stored_said : ℕ → Said → Result Stored Refusal
 stored_said t (Said.Stored s) = Ok s
-stored_said t Said.Missing = Err (refusal 14)
-stored_said t Said.Above = Err (refusal_at 15 t)
+stored_said t Said.Missing = Err Refusal.NotStored
+stored_said t Said.Above = Err (Refusal.Entry t)
 
 -- 12, 13, 14, 15
-unfoldable pub found_of : Card → (ℕ → Said) → ℤ → ℤ → Result Stored Refusal
-found_of k says r c =
-    on_verdict (verdict_of k r c) Err
-    (stored_said (tile_of k (nat_abs r) (nat_abs c)) (says (tile_of k (nat_abs r) (nat_abs c))))
+unfoldable pub found_of : Fields → (ℕ → Said) → ℤ → ℤ → Result Stored Refusal
+found_of k says r c = do
+  _ ← verdict_of k r c
+  stored_said (tile_of k (nat_abs r) (nat_abs c)) (says (tile_of k (nat_abs r) (nat_abs c)))
 
 -- what the index is refused with, then 12, 13, 14, 15
-unfoldable pub stored_by : Card → IndexView → List ℕ → List ℕ → ℤ → ℤ → Result Stored Refusal
+unfoldable pub stored_by : Fields → IndexView → List ℕ → List ℕ → ℤ → ℤ → Result Stored Refusal
 stored_by k v base second r c = do
   _ ← v.check_with base second
   found_of k v.says r c
@@ -51,7 +51,7 @@ abbrev pub part_in : Result Stored Refusal → List ℕ → List ℕ → List �
 part_in (Ok s) base second = part_at s.number (store_at s.source base second)
 part_in (Err e) base second = []
 
-unfoldable pub part_by : Card → IndexView → List ℕ → List ℕ → ℤ → ℤ → List ℕ
+unfoldable pub part_by : Fields → IndexView → List ℕ → List ℕ → ℤ → ℤ → List ℕ
 part_by k v base second r c = part_in (stored_by k v base second r c) base second
 
 -- a pixel's place in its tile's band
@@ -62,20 +62,20 @@ abbrev pub bands_at : List ℕ → ℕ → Bands
 bands_at tile i =
     record { red = get_or tile i 0; green = get_or tile (i + band_bytes) 0; blue = get_or tile (i + 2 * band_bytes) 0 }
 
-unfoldable pub bands_by : Card → IndexView → List ℕ → List ℕ → ℤ → ℤ → Result Bands Refusal
+unfoldable pub bands_by : Fields → IndexView → List ℕ → List ℕ → ℤ → ℤ → Result Bands Refusal
 bands_by k v base second r c = do
   s ← stored_by k v base second r c
   Ok (bands_at (part_by k v base second r c) (in_band r c))
 
 -- ---- by a list: 6, then 12, 13, 14, 15
 
-abbrev pub number_of : Card → List ℕ → ℕ → List ℕ → ℤ → ℤ → Result Stored Refusal
+abbrev pub number_of : Fields → List ℕ → ℕ → List ℕ → ℤ → ℤ → Result Stored Refusal
 number_of k index count store r c = stored_by k (by_list k index count) store [] r c
 
-abbrev pub part_of : Card → List ℕ → ℕ → List ℕ → ℤ → ℤ → List ℕ
+abbrev pub part_of : Fields → List ℕ → ℕ → List ℕ → ℤ → ℤ → List ℕ
 part_of k index count store r c = part_by k (by_list k index count) store [] r c
 
-abbrev pub bands_of : Card → List ℕ → ℕ → List ℕ → ℤ → ℤ → Result Bands Refusal
+abbrev pub bands_of : Fields → List ℕ → ℕ → List ℕ → ℤ → ℤ → Result Bands Refusal
 bands_of k index count store r c = bands_by k (by_list k index count) store [] r c
 
 -- ---- the paper's number, place and values
@@ -93,14 +93,14 @@ bands_report (Err e) = refused_with e 3
 -- of what is said, only that of the pixel's own tile matters
 abbrev pub OneTile : Type 0
 OneTile =
-    (k : Card) (says other : ℕ → Said) (r c : ℤ)
+    (k : Fields) (says other : ℕ → Said) (r c : ℤ)
     → says (tile_of k (nat_abs r) (nat_abs c)) ≡ other (tile_of k (nat_abs r) (nat_abs c))
     → found_of k says r c ≡ found_of k other r c
 
 -- of the index, only its length and that tile's entry matter
 abbrev pub OneEntry : Type 0
 OneEntry =
-    (k : Card) (index other : List ℕ) (count : ℕ) (store : List ℕ) (r c : ℤ) → length index ≡ length other
+    (k : Fields) (index other : List ℕ) (count : ℕ) (store : List ℕ) (r c : ℤ) → length index ≡ length other
     → get_or index (tile_of k (nat_abs r) (nat_abs c)) 0 ≡ get_or other (tile_of k (nat_abs r) (nat_abs c)) 0
     → number_of k index count store r c ≡ number_of k other count store r c
 
@@ -117,7 +117,7 @@ pub record InPlace (count n : ℕ) (part store : List ℕ) : Type 0 where
 -- a stored number is of the base store, and has its part there; a refusal has none
 abbrev pub PartIs : Type 0
 PartIs =
-    (k : Card) (index : List ℕ) (count : ℕ) (store : List ℕ) (r c : ℤ)
+    (k : Fields) (index : List ℕ) (count : ℕ) (store : List ℕ) (r c : ℤ)
     → ((s : Stored) → number_of k index count store r c ≡ Ok s
     → (s.source ≡ Source.Base) × InPlace count s.number (part_of k index count store r c) store)
     × ((e : Refusal) → number_of k index count store r c ≡ Err e

@@ -1,8 +1,7 @@
 -- The orders of refusals, written out for each form of the index: proved in proofs/Orders.antt.
 use Rattle.std.specs.Prelude.{◌≡◌, ℕ, List, ℤ, cond, Option, Result, Err}
-use Rattle.arc.specs.declared.Refusal.{Refusal}
-use Rattle.arc.specs.Refusals.{refusal}
-use Rattle.card.specs.declared.Card.{Card}
+use Rattle.arc.specs.declared.refusal.Refusal.{Refusal}
+use Rattle.card_text.specs.declared.Fields.{Fields}
 use Rattle.tiles.specs.declared.Stored.{Stored}
 use Rattle.tiles.specs.Index.{index_wrong, store_wrong, said_of}
 use Rattle.tiles.specs.LookUp.{found_of, number_of}
@@ -15,35 +14,35 @@ use Rattle.tiles.specs.Bits.{words_wrong, bits_wrong, stray_bit, said_bits, bits
 -- 6, then 12, 13, 14, 15
 abbrev pub NumberOrder : Type 0
 NumberOrder =
-    (k : Card) (index : List ℕ) (count : ℕ) (store : List ℕ) (r c : ℤ)
+    (k : Fields) (index : List ℕ) (count : ℕ) (store : List ℕ) (r c : ℤ)
     → number_of k index count store r c
-    ≡ cond {A = Result Stored Refusal} (store_wrong k index count store) (Err (refusal 6)) (found_of k (said_of k index count) r c)
+    ≡ cond {A = Result Stored Refusal} (store_wrong k index count store) (Err Refusal.Length) (found_of k (said_of k index count) r c)
 
 -- 6, 21, then 12, 13, 14, 15
 abbrev pub BitsNumberOrder : Type 0
 BitsNumberOrder =
-    (k : Card) (words : List ℕ) (count : ℕ) (store : List ℕ) (r c : ℤ)
+    (k : Fields) (words : List ℕ) (count : ℕ) (store : List ℕ) (r c : ℤ)
     → bits_number_of k words count store r c
-    ≡ cond {A = Result Stored Refusal} (bits_wrong k words count store) (Err (refusal 6))
-    (cond (stray_bit k words) (Err (refusal 21)) (found_of k (said_bits k words count) r c))
+    ≡ cond {A = Result Stored Refusal} (bits_wrong k words count store) (Err Refusal.Length)
+    (cond (stray_bit k words) (Err Refusal.StrayBit) (found_of k (said_bits k words count) r c))
 
 -- 6 of the base, 6 of the corrections, then 12, 13, 15 of a correction, 14, 15
 abbrev pub SourceOrder : Type 0
 SourceOrder =
-    (k : Card) (index : List ℕ) (count : ℕ) (store corrections : List ℕ) (corrected : ℕ) (second : List ℕ) (r c : ℤ)
+    (k : Fields) (index : List ℕ) (count : ℕ) (store corrections : List ℕ) (corrected : ℕ) (second : List ℕ) (r c : ℤ)
     → source_of k index count store corrections corrected second r c
-    ≡ cond {A = Result Stored Refusal} (store_wrong k index count store) (Err (refusal 6))
-    (cond (corrections_wrong k corrections corrected second) (Err (refusal 6))
+    ≡ cond {A = Result Stored Refusal} (store_wrong k index count store) (Err Refusal.Length)
+    (cond (corrections_wrong k corrections corrected second) (Err Refusal.Length)
     (found_of k (said_with corrections corrected (said_of k index count)) r c))
 
 -- 6 of the base, 6 of the corrections, 21, then 12, 13, 15 of a correction, 14, 15
 abbrev pub BitsSourceOrder : Type 0
 BitsSourceOrder =
-    (k : Card) (words : List ℕ) (count : ℕ) (store corrections : List ℕ) (corrected : ℕ) (second : List ℕ) (r c : ℤ)
+    (k : Fields) (words : List ℕ) (count : ℕ) (store corrections : List ℕ) (corrected : ℕ) (second : List ℕ) (r c : ℤ)
     → bits_source_of k words count store corrections corrected second r c
-    ≡ cond {A = Result Stored Refusal} (bits_wrong k words count store) (Err (refusal 6))
-    (cond (corrections_wrong k corrections corrected second) (Err (refusal 6))
-    (cond (stray_bit k words) (Err (refusal 21))
+    ≡ cond {A = Result Stored Refusal} (bits_wrong k words count store) (Err Refusal.Length)
+    (cond (corrections_wrong k corrections corrected second) (Err Refusal.Length)
+    (cond (stray_bit k words) (Err Refusal.StrayBit)
     (found_of k (said_with corrections corrected (said_bits k words count)) r c)))
 
 -- ---- the window
@@ -51,33 +50,33 @@ BitsSourceOrder =
 -- 6, then 12, 15
 abbrev pub WindowOrder : Type 0
 WindowOrder =
-    (k : Card) (index : List ℕ) (count top left height width : ℕ)
+    (k : Fields) (index : List ℕ) (count top left height width : ℕ)
     → window_of k index count top left height width
-    ≡ cond {A = Result (Option ℕ) Refusal} (index_wrong k index count) (Err (refusal 6)) (view_of k (said_of k index count) top left height width)
+    ≡ cond {A = Result (Option ℕ) Refusal} (index_wrong k index count) (Err Refusal.Length) (view_of k (said_of k index count) top left height width)
 
 -- 6, 21, then 12, 15
 abbrev pub BitsWindowOrder : Type 0
 BitsWindowOrder =
-    (k : Card) (words : List ℕ) (count top left height width : ℕ)
+    (k : Fields) (words : List ℕ) (count top left height width : ℕ)
     → bits_window_of k words count top left height width
-    ≡ cond {A = Result (Option ℕ) Refusal} (words_wrong k words count) (Err (refusal 6))
-    (cond (stray_bit k words) (Err (refusal 21)) (view_of k (said_bits k words count) top left height width))
+    ≡ cond {A = Result (Option ℕ) Refusal} (words_wrong k words count) (Err Refusal.Length)
+    (cond (stray_bit k words) (Err Refusal.StrayBit) (view_of k (said_bits k words count) top left height width))
 
 -- 6 of the base, 6 of the corrections, then 12, 15
 abbrev pub CorrectedWindowOrder : Type 0
 CorrectedWindowOrder =
-    (k : Card) (index : List ℕ) (count : ℕ) (corrections : List ℕ) (corrected top left height width : ℕ)
+    (k : Fields) (index : List ℕ) (count : ℕ) (corrections : List ℕ) (corrected top left height width : ℕ)
     → corrected_window_of k index count corrections corrected top left height width
-    ≡ cond {A = Result (Option ℕ) Refusal} (index_wrong k index count) (Err (refusal 6))
-    (cond (list_wrong k corrections corrected) (Err (refusal 6))
+    ≡ cond {A = Result (Option ℕ) Refusal} (index_wrong k index count) (Err Refusal.Length)
+    (cond (list_wrong k corrections corrected) (Err Refusal.Length)
     (view_of k (said_with corrections corrected (said_of k index count)) top left height width))
 
 -- 6 of the base, 6 of the corrections, 21, then 12, 15
 abbrev pub CorrectedBitsWindowOrder : Type 0
 CorrectedBitsWindowOrder =
-    (k : Card) (words : List ℕ) (count : ℕ) (corrections : List ℕ) (corrected top left height width : ℕ)
+    (k : Fields) (words : List ℕ) (count : ℕ) (corrections : List ℕ) (corrected top left height width : ℕ)
     → corrected_bits_window_of k words count corrections corrected top left height width
-    ≡ cond {A = Result (Option ℕ) Refusal} (words_wrong k words count) (Err (refusal 6))
-    (cond (list_wrong k corrections corrected) (Err (refusal 6))
-    (cond (stray_bit k words) (Err (refusal 21))
+    ≡ cond {A = Result (Option ℕ) Refusal} (words_wrong k words count) (Err Refusal.Length)
+    (cond (list_wrong k corrections corrected) (Err Refusal.Length)
+    (cond (stray_bit k words) (Err Refusal.StrayBit)
     (view_of k (said_with corrections corrected (said_bits k words count)) top left height width)))

@@ -7,8 +7,7 @@
 --     WindowRows k ..        what a window of an image is bounded by
 use Rattle.std.specs.Prelude.{◌≡◌, ℕ, ◌+◌, ◌*◌, ◌≤◌, ◌<◌, List, cond, leb, eqb, length, Ok}
 use Rattle.presence.specs.Presence.{present, within}
-use Rattle.card.specs.declared.Card.{Card}
-use Rattle.card.specs.Read.{Known}
+use Rattle.card_text.specs.declared.Fields.{Fields}
 use Rattle.tiles.specs.declared.Stored.{Stored}
 use Rattle.tiles.specs.declared.Said.{Said}
 use Rattle.tiles.specs.Index.{tiles, tile_bytes, in_base, IndexView}
@@ -17,7 +16,7 @@ use Rattle.tiles.specs.LookUp.{store_at}
 abbrev pub Lies : ℕ → List ℕ → Type 0
 Lies n store = (1 ≤ n) × (n * tile_bytes ≤ length store)
 
-abbrev pub IsHeld : Card → IndexView → Type 0
+abbrev pub IsHeld : Fields → IndexView → Type 0
 IsHeld k v =
     (base second : List ℕ) → v.check_with base second ≡ Ok tt → (t : ℕ) → t < tiles k → (s : Stored) → v.says t ≡ Said.Stored s
     → Lies s.number (store_at s.source base second)
@@ -27,22 +26,21 @@ kind (Said.Stored s) = Said.Stored (in_base 0)
 kind Said.Missing = Said.Missing
 kind Said.Above = Said.Above
 
-abbrev pub IsGlance : Card → (ℕ → Said) → (ℕ → Said) → Type 0
+abbrev pub IsGlance : Fields → (ℕ → Said) → (ℕ → Said) → Type 0
 IsGlance k glance says = (t : ℕ) → t < tiles k → kind (glance t) ≡ kind (says t)
 
 -- the number is not told
 abbrev pub said_before : ℕ → List ℕ → ℕ → Said
 said_before end words t = cond (eqb (present words t) 0) Said.Missing (cond (leb end t) Said.Above (Said.Stored (in_base 0)))
 
-unfoldable pub glance_bits : Card → List ℕ → ℕ → ℕ → Said
+unfoldable pub glance_bits : Fields → List ℕ → ℕ → ℕ → Said
 glance_bits k words end t = cond k.tif (said_before end words t) (Said.Stored (in_base 0))
 
 -- how far the bits are not above the count
-abbrev pub end_of : Card → List ℕ → ℕ → ℕ
+abbrev pub end_of : Fields → List ℕ → ℕ → ℕ
 end_of k words count = within words count (tiles k)
 
 -- a window of an image
-pub record WindowRows (k : Card) (top left height width : ℕ) : Type 0 where
-  pub known : Known k
+pub record WindowRows (k : Fields) (top left height width : ℕ) : Type 0 where
   pub down : top + height ≤ k.nfl
   pub across : left + width ≤ k.nfc

@@ -1,5 +1,5 @@
 ghost use Rattle.std.specs.Prelude.{◌≡◌, length};
-ghost use Rattle.card.specs.Read.{Known};
+ghost use Rattle.card_text.specs.Read.{Known};
 ghost use Rattle.tiles.specs.Bits.{words_length, words_wrong, bits_wrong, stray_bit, by_bits};
 ghost use Rattle.tiles.specs.Steps.{glance_bits, end_of};
 ghost use Rattle.tiles.specs.Laws.{bits-held, bits-glance};
@@ -19,10 +19,10 @@ impl ByBits<'_> {
     // Whether the words or the count are of the wrong length.
     #[tactic(auto, unfolding(crate::specs::Bits::words_wrong))]
     fn is_wrong(&self, card: Card) -> bool
-        requires { Known card }
-        ensures { result ≡ words_wrong card self.now.words.now self.now.count }
+        ensures is { result ≡ words_wrong card self.now.words.now self.now.count }
+        ensures known { Known card }
     {
-        let length = if card.tif {
+        let length = if card.fields().tif {
             (tiles_of(card) + 63) / 64
         } else {
             0
@@ -33,7 +33,6 @@ impl ByBits<'_> {
     // Whether the words, the count or the store is of the wrong length.
     #[tactic(auto, using(crate::proofs::Forms::words_count))]
     fn is_wrong_with(&self, card: Card, store: &[u8]) -> bool
-        requires { Known card }
         ensures { result ≡ bits_wrong card self.now.words.now self.now.count store.now }
     {
         self.is_wrong(card) || store.len() as u64 != self.count * Tile::BYTES
@@ -42,7 +41,6 @@ impl ByBits<'_> {
     // Whether a bit is set past the last tile.
     #[tactic(auto, using(crate::proofs::Forms::stray_is))]
     fn has_stray(&self, card: Card) -> bool
-        requires known { Known card }
         requires words_fit { length self.now.words.now ≡ words_length card }
         ensures { result ≡ stray_bit card self.now.words.now }
     {
@@ -64,24 +62,24 @@ impl TileIndex for ByBits<'_> {
     #[tactic(auto, using(crate::proofs::Forms::words_right))]
     fn check(&self, card: Card) -> Result<(), Refusal> {
         if self.is_wrong(card) {
-            return Err(arc::refused(6));
+            return Err(Refusal::Length);
         }
         if self.has_stray(card) {
-            return Err(arc::refused(21));
+            return Err(Refusal::StrayBit);
         }
         Ok(())
     }
 
     fn check_with(&self, card: Card, stores: Stores<'_>) -> Result<(), Refusal> {
         if self.is_wrong_with(card, stores.base) {
-            return Err(arc::refused(6));
+            return Err(Refusal::Length);
         }
         self.check(card)
     }
 
     #[tactic(auto, unfolding(crate::specs::Bits::said_bits))]
     fn says(&self, card: Card, tile: u32) -> Said {
-        if !card.tif {
+        if !card.fields().tif {
             return Said::Stored(Stored {
                 source: Source::Base,
                 number: u64::from(tile) + 1,
@@ -97,7 +95,7 @@ impl TileIndex for ByBits<'_> {
 
     #[tactic(auto, unfolding(crate::specs::Steps::glance_bits))]
     fn glance(&self, card: Card, before: u64, tile: u32) -> Said {
-        if card.tif {
+        if card.fields().tif {
             if presence::bit(self.words, u64::from(tile)) == 0 {
                 return Said::Missing;
             }

@@ -1,9 +1,8 @@
 // The index check.
 ghost use Rattle.std.specs.Prelude.{◌≡◌, [], ◌++◌, ◌≤◌, length, drop, replicate};
-ghost use Rattle.card.specs.Read.{Known};
 ghost use Rattle.tiles.specs.Check.{first_bad, judged, marked, marks_passed, check_of, marks_of};
 
-use crate::{ByList, bad_entry};
+use crate::ByList;
 use arc::Refusal;
 use card::Card;
 
@@ -18,18 +17,20 @@ fn mark_entries(index: &[u32], count: usize, marks: &mut [u8]) -> Result<(), Ref
     for (i, &entry) in index.iter().enumerate() {
         let e = entry as usize;
         if count < e {
-            return Err(bad_entry(i as u64));
+            return Err(Refusal::Entry { at: i as u64 });
         }
         if e != 0 {
             if marks[e - 1] != 0 {
-                return Err(bad_entry(i as u64));
+                return Err(Refusal::Entry { at: i as u64 });
             }
             marks[e - 1] = 1;
             named += 1;
         }
     }
     if named < count {
-        return Err(bad_entry(index.len() as u64));
+        return Err(Refusal::Entry {
+            at: index.len() as u64,
+        });
     }
     Ok(())
 }
@@ -37,7 +38,6 @@ fn mark_entries(index: &[u32], count: usize, marks: &mut [u8]) -> Result<(), Ref
 // Whether each number 1 to count occurs exactly once, and which occur. Refuses 6, 15.
 #[tactic(auto, unfolding(crate::specs::Check::check_of, crate::specs::Check::marks_of))]
 pub fn index_check(card: Card, index: &[u32], count: u64, marks: &mut [u8]) -> Result<(), Refusal>
-    requires { Known card }
     ensures answer { result ≡ check_of card index.now count marks.old }
     ensures left { marks.new ≡ marks_of card index.now count marks.old }
 {
@@ -46,10 +46,10 @@ pub fn index_check(card: Card, index: &[u32], count: u64, marks: &mut [u8]) -> R
         count,
     };
     if list.is_wrong(card) || (marks.len() as u64) < count {
-        return Err(arc::refused(6));
+        return Err(Refusal::Length);
     }
     let n = count as usize;
-    if !card.tif {
+    if !card.fields().tif {
         marks[..n].fill(1);
         return Ok(());
     }

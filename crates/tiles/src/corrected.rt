@@ -1,10 +1,10 @@
 // Corrections beside the base charts.
 ghost use Rattle.std.specs.Prelude.{◌≡◌};
-ghost use Rattle.card.specs.Read.{Known};
+ghost use Rattle.card_text.specs.Read.{Known};
 ghost use Rattle.tiles.specs.Corrections.{list_wrong, corrections_wrong, said_with, corrected_by, setting_of, set_of};
 ghost use Rattle.tiles.specs.Laws.{corrected-held, corrected-glance};
 
-use crate::{Said, Source, Stores, TileIndex, bad_entry, entry_at, number_says, tiles_of};
+use crate::{Said, Source, Stores, TileIndex, entry_at, number_says, tiles_of};
 use arc::{Refusal, Tile};
 use card::Card;
 
@@ -20,8 +20,8 @@ pub struct Corrected<'a, I> {
 // Whether the corrections or their count is of the wrong length.
 #[tactic(auto, unfolding(crate::specs::Corrections::list_wrong))]
 fn list_wrong(card: Card, corrections: &[u32], corrected: u64) -> bool
-    requires { Known card }
-    ensures { result ≡ list_wrong card corrections.now corrected }
+    ensures is { result ≡ list_wrong card corrections.now corrected }
+    ensures known { Known card }
 {
     let tiles = tiles_of(card);
     corrections.len() as u64 != tiles || tiles < corrected
@@ -30,7 +30,6 @@ fn list_wrong(card: Card, corrections: &[u32], corrected: u64) -> bool
 // Whether the corrections, their count or their store is of the wrong length.
 #[tactic(auto, using(crate::proofs::Sources::corrected_most), unfolding(crate::specs::Corrections::corrections_wrong))]
 fn corrections_wrong(card: Card, corrections: &[u32], corrected: u64, second: &[u8]) -> bool
-    requires { Known card }
     ensures { result ≡ corrections_wrong card corrections.now corrected second.now }
 {
     list_wrong(card, corrections, corrected) || second.len() as u64 != corrected * Tile::BYTES
@@ -50,14 +49,14 @@ impl<I: TileIndex> TileIndex for Corrected<'_, I> {
     // Its own 6 and the base's are one refusal, so that 21 comes after both.
     fn check(&self, card: Card) -> Result<(), Refusal> {
         if list_wrong(card, self.entries, self.count) {
-            return Err(arc::refused(6));
+            return Err(Refusal::Length);
         }
         self.base.check(card)
     }
 
     fn check_with(&self, card: Card, stores: Stores<'_>) -> Result<(), Refusal> {
         if corrections_wrong(card, self.entries, self.count, stores.corrections) {
-            return Err(arc::refused(6));
+            return Err(Refusal::Length);
         }
         self.base.check_with(card, stores)
     }
@@ -92,18 +91,17 @@ pub fn set_correction(
     tile: u64,
     number: u64,
 ) -> Result<(), Refusal>
-    requires { Known card }
     ensures answer { result ≡ setting_of card corrections.old corrected tile number }
     ensures left { corrections.new ≡ set_of card corrections.old corrected tile number }
 {
     if list_wrong(card, corrections, corrected) {
-        return Err(arc::refused(6));
+        return Err(Refusal::Length);
     }
     if tiles_of(card) <= tile {
-        return Err(arc::refused(12));
+        return Err(Refusal::OutsideTiles);
     }
     if corrected < number {
-        return Err(bad_entry(tile));
+        return Err(Refusal::Entry { at: tile });
     }
     corrections[tile as usize] = number as u32;
     Ok(())

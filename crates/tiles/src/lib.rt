@@ -3,12 +3,10 @@
 #![tactic(auto)]
 
 ghost use Rattle.std.specs.Prelude.{◌≡◌, ◌≤◌, get_or};
-ghost use Rattle.arc.specs.Refusals.{refusal_at};
-ghost use Rattle.card.specs.Read.{Known};
+ghost use Rattle.card_text.specs.Read.{Known};
 ghost use Rattle.tiles.specs.declared.Source.{Source};
 ghost use Rattle.tiles.specs.Index.{tiles, count_wrong, said};
 
-use arc::Refusal;
 use card::Card;
 
 mod bits;
@@ -76,29 +74,22 @@ pub struct Window {
     pub width: u64,
 }
 
-// Refusal 15 at an entry.
-fn bad_entry(at: u64) -> Refusal
-    ensures { result ≡ refusal_at 15 at }
-{
-    Refusal { number: 15, at }
-}
-
 // How many tiles an image has.
 #[tactic(auto, using(crate::proofs::Entry::tiles_small))]
 fn tiles_of(card: Card) -> u64
-    requires { Known card }
     ensures is { result ≡ tiles card }
+    ensures known { Known card }
     ensures few { result ≤ 998001 }
 {
-    card.nfl * card.nfc
+    let fields = card.fields();
+    fields.nfl * fields.nfc
 }
 
 // Whether the count of stored tiles is not one that the image may have.
 fn count_wrong(card: Card, count: u64) -> bool
-    requires { Known card }
     ensures { result ≡ count_wrong card count }
 {
-    if card.tif {
+    if card.fields().tif {
         tiles_of(card) < count
     } else {
         count != tiles_of(card)

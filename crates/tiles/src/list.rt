@@ -1,5 +1,5 @@
 ghost use Rattle.std.specs.Prelude.{◌≡◌, refl};
-ghost use Rattle.card.specs.Read.{Known};
+ghost use Rattle.card_text.specs.Read.{Known};
 ghost use Rattle.tiles.specs.Index.{index_wrong, store_wrong, said_of, by_list};
 ghost use Rattle.tiles.specs.Laws.{list-held};
 
@@ -20,17 +20,16 @@ impl ByList<'_> {
     // Whether the list or the count is of the wrong length.
     #[tactic(auto, unfolding(crate::specs::Index::index_wrong))]
     pub(crate) fn is_wrong(&self, card: Card) -> bool
-        requires { Known card }
-        ensures { result ≡ index_wrong card self.now.entries.now self.now.count }
+        ensures is { result ≡ index_wrong card self.now.entries.now self.now.count }
+        ensures known { Known card }
     {
-        let length = if card.tif { tiles_of(card) } else { 0 };
+        let length = if card.fields().tif { tiles_of(card) } else { 0 };
         self.entries.len() as u64 != length || count_wrong(card, self.count)
     }
 
     // Whether the list, the count or the store is of the wrong length.
     #[tactic(auto, using(crate::proofs::Entry::count_most))]
     fn is_wrong_with(&self, card: Card, store: &[u8]) -> bool
-        requires { Known card }
         ensures { result ≡ store_wrong card self.now.entries.now self.now.count store.now }
     {
         self.is_wrong(card) || store.len() as u64 != self.count * Tile::BYTES
@@ -50,21 +49,21 @@ impl TileIndex for ByList<'_> {
 
     fn check(&self, card: Card) -> Result<(), Refusal> {
         if self.is_wrong(card) {
-            return Err(arc::refused(6));
+            return Err(Refusal::Length);
         }
         Ok(())
     }
 
     fn check_with(&self, card: Card, stores: Stores<'_>) -> Result<(), Refusal> {
         if self.is_wrong_with(card, stores.base) {
-            return Err(arc::refused(6));
+            return Err(Refusal::Length);
         }
         Ok(())
     }
 
     #[tactic(auto, unfolding(crate::specs::Index::said_of))]
     fn says(&self, card: Card, tile: u32) -> Said {
-        if !card.tif {
+        if !card.fields().tif {
             return Said::Stored(Stored {
                 source: Source::Base,
                 number: u64::from(tile) + 1,

@@ -60,8 +60,8 @@ impl NumberParts {
                 stored: at.number,
             },
             Err(e) => NumberParts {
-                number: e.number,
-                at: e.at,
+                number: e.number(),
+                at: e.place(),
                 stored: 0,
             },
         }
@@ -84,8 +84,8 @@ impl SourceParts {
                 stored: at.number,
             },
             Err(e) => SourceParts {
-                number: e.number,
-                at: e.at,
+                number: e.number(),
+                at: e.place(),
                 source: 0,
                 stored: 0,
             },
@@ -107,8 +107,8 @@ impl BandsParts {
                 blue: bands.blue,
             },
             Err(e) => BandsParts {
-                number: e.number,
-                at: e.at,
+                number: e.number(),
+                at: e.place(),
                 red: 0,
                 green: 0,
                 blue: 0,
@@ -136,8 +136,8 @@ impl WindowParts {
                 tile: 0,
             },
             Err(e) => WindowParts {
-                number: e.number,
-                at: e.at,
+                number: e.number(),
+                at: e.place(),
                 missing: 0,
                 tile: 0,
             },

@@ -1,14 +1,12 @@
 // Looking up a pixel's tile.
-ghost use Rattle.std.specs.Prelude.{◌≡◌, length, nat_abs, IfOk};
-ghost use Rattle.arc.specs.declared.Verdict.{Verdict};
-ghost use Rattle.card.specs.Read.{Known};
+ghost use Rattle.std.specs.Prelude.{◌≡◌, length, nat_abs, IfOk, Ok};
 ghost use Rattle.card.specs.Grid.{verdict_of};
 ghost use Rattle.tiles.specs.Index.{tile_bytes, tile_of};
 ghost use Rattle.tiles.specs.LookUp.{found_of, stored_by, part_at, store_at, part_by, in_band, bands_at, bands_by};
 ghost use Rattle.tiles.specs.Steps.{Lies};
 
-use crate::{Bands, Said, Source, Stored, Stores, TileIndex, bad_entry};
-use arc::{Refusal, Tile, Verdict};
+use crate::{Bands, Said, Source, Stored, Stores, TileIndex};
+use arc::{Refusal, Tile};
 use card::Card;
 
 // A band of a tile: 128 rows of 128, POR 0.
@@ -17,29 +15,25 @@ const BAND: usize = 16_384;
 // An accepted pixel's tile, by its number from 0 in the image.
 #[tactic(auto, using(crate::proofs::PixelTile::tile_few))]
 fn pixel_tile(card: Card, row: i64, column: i64) -> u32
-    requires known { Known card }
-    requires in_tiles { verdict_of card row column ≡ Verdict.Accepted }
+    requires in_tiles { verdict_of card row column ≡ Ok tt }
     ensures { result ≡ tile_of card (nat_abs row) (nat_abs column) }
 {
-    (whole::size(row) / Tile::SIDE * card.nfc + whole::size(column) / Tile::SIDE) as u32
+    (whole::size(row) / Tile::SIDE * card.fields().nfc + whole::size(column) / Tile::SIDE) as u32
 }
 
 // Where a pixel's tile is stored, the lengths being right. Refuses 12, 13, 15 of a correction, 14, 15.
 #[tactic(auto, unfolding(crate::specs::LookUp::found_of))]
 fn found<I: TileIndex>(card: Card, index: &I, row: i64, column: i64) -> Result<Stored, Refusal>
-    requires { Known card }
     ensures { result ≡ found_of card (I.view index.now card).says row column }
 {
-    match card.judge_pixel(row, column) {
-        Verdict::Accepted => {
-            let tile = pixel_tile(card, row, column);
-            match index.says(card, tile) {
-                Said::Stored(at) => Ok(at),
-                Said::Missing => Err(arc::refused(14)),
-                Said::Above => Err(bad_entry(u64::from(tile))),
-            }
-        }
-        Verdict::Refused(e) => Err(e),
+    card.judge_pixel(row, column)?;
+    let tile = pixel_tile(card, row, column);
+    match index.says(card, tile) {
+        Said::Stored(at) => Ok(at),
+        Said::Missing => Err(Refusal::NotStored),
+        Said::Above => Err(Refusal::Entry {
+            at: u64::from(tile),
+        }),
     }
 }
 
@@ -52,7 +46,6 @@ pub fn look_up<I: TileIndex>(
     row: i64,
     column: i64,
 ) -> Result<Stored, Refusal>
-    requires { Known card }
     ensures answer { result ≡ stored_by card (I.view index.now card) stores.entry.base.now stores.entry.corrections.now row column }
     ensures lies { IfOk result (λ s. Lies s.number (store_at s.source stores.entry.base.now stores.entry.corrections.now)) }
 {
@@ -93,7 +86,6 @@ pub fn tile<'a, I: TileIndex>(
     row: i64,
     column: i64,
 ) -> &'a [u8]
-    requires { Known card }
     ensures { result.now ≡ part_by card (I.view index.now card) stores.entry.base.now stores.entry.corrections.now row column }
 {
     match look_up(card, index, stores, row, column) {
@@ -125,7 +117,6 @@ pub fn band_values<I: TileIndex>(
     row: i64,
     column: i64,
 ) -> Result<Bands, Refusal>
-    requires { Known card }
     ensures { result ≡ bands_by card (I.view index.now card) stores.entry.base.now stores.entry.corrections.now row column }
 {
     let at = look_up(card, index, stores, row, column)?;

@@ -1,10 +1,9 @@
 // The window of tiles.
 ghost use Rattle.std.specs.Prelude.{◌≡◌, ◌+◌, ltb};
-ghost use Rattle.card.specs.Read.{Known};
 ghost use Rattle.tiles.specs.Window.{window_tiles, scan, window_by};
 ghost use Rattle.tiles.specs.Steps.{WindowRows};
 
-use crate::{Said, TileIndex, Window, bad_entry};
+use crate::{Said, TileIndex, Window};
 use arc::Refusal;
 use card::Card;
 
@@ -20,10 +19,11 @@ fn missing_in<I: TileIndex>(card: Card, index: &I, window: Window) -> Result<Opt
     requires { WindowRows card window.top window.left window.height window.width }
     ensures { result ≡ scan (I.view index.now card).says (window_tiles card window.top window.left window.height window.width) }
 {
+    let across = card.fields().nfc;
     let end = index.end(card);
     let mut missing = None;
     'rows: for r in 0..window.height {
-        let start = (window.top + r) * card.nfc + window.left;
+        let start = (window.top + r) * across + window.left;
         for c in 0..window.width {
             let tile = start + c;
             match index.glance(card, end, tile as u32) {
@@ -32,7 +32,7 @@ fn missing_in<I: TileIndex>(card: Card, index: &I, window: Window) -> Result<Opt
                     missing = Some(tile);
                     break 'rows;
                 }
-                Said::Above => return Err(bad_entry(tile)),
+                Said::Above => return Err(Refusal::Entry { at: tile }),
             }
         }
     }
@@ -47,14 +47,14 @@ pub fn first_missing<I: TileIndex>(
     index: &I,
     window: Window,
 ) -> Result<Option<u64>, Refusal>
-    requires { Known card }
     ensures { result ≡ window_by card (I.view index.now card) window.top window.left window.height window.width }
 {
     index.check(card)?;
-    if reaches_past(card.nfl, window.top, window.height)
-        || reaches_past(card.nfc, window.left, window.width)
+    let fields = card.fields();
+    if reaches_past(fields.nfl, window.top, window.height)
+        || reaches_past(fields.nfc, window.left, window.width)
     {
-        return Err(arc::refused(12));
+        return Err(Refusal::OutsideTiles);
     }
     missing_in(card, index, window)
 }

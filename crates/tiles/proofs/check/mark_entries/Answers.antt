@@ -1,5 +1,5 @@
 -- Each turn passes an entry or stops at a bad one. Assumes nothing.
-use Rattle.std.proofs.Common.{ap, Err, arith}
+use Rattle.std.proofs.Common.{refl, arith}
 use Rattle.tiles.proofs.Pass.{begun, number-le, stop-above, stop-again, pass-none, pass-new, done-short, done_all}
 use Rattle.tiles.proofs.check.mark_entries.Goals as goal
 use Rattle.tiles.proofs.check.mark_entries.Goals.{then-e-ne0+else-marks-e-ne0, else-e-ne0}
@@ -21,29 +21,27 @@ loop-i-preserved c =
 
 pub returns-then-count-e-clause-answer : goal.returns-then-count-e-clause-answer
 returns-then-count-e-clause-answer c =
-    (stop-above _ _ _ _ _ _ c.loop-i.invariant c.loop-i-test.true _ (ap Err c.bad_entry.ensures) c.if-count-e.true).0
+    (stop-above _ _ _ _ _ _ c.loop-i.invariant c.loop-i-test.true _ refl c.if-count-e.true).0
 
 pub returns-then-count-e-clause-left : goal.returns-then-count-e-clause-left
 returns-then-count-e-clause-left c =
-    (stop-above _ _ _ _ _ _ c.loop-i.invariant c.loop-i-test.true _ (ap Err c.bad_entry.ensures) c.if-count-e.true).1
+    (stop-above _ _ _ _ _ _ c.loop-i.invariant c.loop-i-test.true _ refl c.if-count-e.true).1
 
 pub returns-then-marks-e-ne0-clause-answer : goal.returns-then-marks-e-ne0-clause-answer
 returns-then-marks-e-ne0-clause-answer c =
-    let stop = ap Err c.bad_entry-then-marks-e-ne0.ensures in
-    (stop-again _ _ _ _ _ _ c.loop-i.invariant c.loop-i-test.true _ stop c.if-count-e.false c.if-e-ne0.true c.if-marks-e-ne0.true).0
+    (stop-again _ _ _ _ _ _ c.loop-i.invariant c.loop-i-test.true _ refl c.if-count-e.false c.if-e-ne0.true c.if-marks-e-ne0.true).0
 
 pub returns-then-marks-e-ne0-clause-left : goal.returns-then-marks-e-ne0-clause-left
 returns-then-marks-e-ne0-clause-left c =
-    let stopped = ap Err c.bad_entry-then-marks-e-ne0.ensures in
-    (stop-again _ _ _ _ _ _ c.loop-i.invariant c.loop-i-test.true _ stopped c.if-count-e.false c.if-e-ne0.true c.if-marks-e-ne0.true).1
+    (stop-again _ _ _ _ _ _ c.loop-i.invariant c.loop-i-test.true _ refl c.if-count-e.false c.if-e-ne0.true c.if-marks-e-ne0.true).1
 
 pub returns-then-named-count-clause-answer : goal.returns-then-named-count-clause-answer
 returns-then-named-count-clause-answer c =
-    (done-short _ _ _ _ _ _ c.loop-i.invariant c.loop-i-test.false _ (ap Err c.bad_entry-then-named-count.ensures) c.if-named-count.true).0
+    (done-short _ _ _ _ _ _ c.loop-i.invariant c.loop-i-test.false _ refl c.if-named-count.true).0
 
 pub returns-then-named-count-clause-left : goal.returns-then-named-count-clause-left
 returns-then-named-count-clause-left c =
-    (done-short _ _ _ _ _ _ c.loop-i.invariant c.loop-i-test.false _ (ap Err c.bad_entry-then-named-count.ensures) c.if-named-count.true).1
+    (done-short _ _ _ _ _ _ c.loop-i.invariant c.loop-i-test.false _ refl c.if-named-count.true).1
 
 pub returns-clause-answer : goal.returns-clause-answer
 returns-clause-answer c =

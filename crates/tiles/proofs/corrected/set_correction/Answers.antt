@@ -5,7 +5,7 @@ use Rattle.tiles.proofs.corrected.set_correction.Goals as goal
 
 pub overflow_cast-corrections : goal.overflow_cast-corrections
 overflow_cast-corrections c =
-    omega (arith, c.tiles_of.ensures.is, c.tiles_of.ensures.few, corrected_most _ _ _ (sym c.list_wrong.ensures ∙ c.if-list_wrong.false))
+    omega (arith, c.tiles_of.ensures.is, c.tiles_of.ensures.few, corrected_most _ _ _ (sym c.list_wrong.ensures.is ∙ c.if-list_wrong.false))
 
 pub bounds-corrections-tile : goal.bounds-corrections-tile
-bounds-corrections-tile c = omega (arith, c.tiles_of.ensures.is, list-long _ _ _ (sym c.list_wrong.ensures ∙ c.if-list_wrong.false))
+bounds-corrections-tile c = omega (arith, c.tiles_of.ensures.is, list-long _ _ _ (sym c.list_wrong.ensures.is ∙ c.if-list_wrong.false))

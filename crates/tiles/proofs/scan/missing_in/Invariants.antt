@@ -1,5 +1,5 @@
 -- What is left of the window is scanned as the whole. Assumes nothing.
-use Rattle.std.specs.Prelude.{◌≡◌, ◌+◌, ◌-◌, ◌++◌, None}
+use Rattle.std.specs.Prelude.{◌≡◌, ◌+◌, ◌*◌, ◌-◌, ◌++◌, None}
 use Rattle.whole.specs.Lists.{up_from}
 use Rattle.tiles.specs.Window.{window_tiles, scan}
 use Rattle.tiles.proofs.scan.missing_in.Given as goal
@@ -17,4 +17,4 @@ invariant-loop-c g l =
     let w = l.fn.window in
     (l.missing ≡ None)
     × (scan says (window_tiles l.fn.card w.top w.left w.height w.width)
-    ≡ scan says (up_from (l.start + l.c) (w.width - l.c) ++ window_tiles l.fn.card (w.top + (l.r + 1)) w.left (w.height - (l.r + 1)) w.width))
+    ≡ scan says (up_from ((w.top + l.r) * l.fn.card.nfc + w.left + l.c) (w.width - l.c) ++ window_tiles l.fn.card (w.top + (l.r + 1)) w.left (w.height - (l.r + 1)) w.width))

@@ -5,4 +5,4 @@ use Rattle.tiles.proofs.Forms.{words_count}
 use Rattle.tiles.proofs.bits.ByBits.is_wrong_with.Goals as goal
 
 pub overflow_mul-result : goal.overflow_mul-result
-overflow_mul-result c = omega (arith, tiles_small _ c.requires, words_count _ _ _ (sym c.is_wrong.ensures ∙ c.if-is_wrong.false))
+overflow_mul-result c = omega (arith, tiles_small _ c.is_wrong.ensures.known, words_count _ _ _ (sym c.is_wrong.ensures.is ∙ c.if-is_wrong.false))
