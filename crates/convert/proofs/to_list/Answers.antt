@@ -7,33 +7,33 @@ use Rattle.convert.proofs.RoundTrip.{lengths-right, index-few, stray-told}
 use Rattle.convert.proofs.to_list.Goals as goal
 
 pub overflow_mul-card : goal.overflow_mul-card
-overflow_mul-card c = omega (arith, tiles_small _ c.requires)
+overflow_mul-card c = omega (arith, tiles_small _ c.fields.ensures.known)
 
 pub returns-then-any_set-clause-answer : goal.returns-then-any_set-clause-answer
 unfolding to_list_of
 returns-then-any_set-clause-answer c =
-    let r = sym c.lengths_wrong.ensures ∙ c.if-lengths_wrong.false in
-    rw (r, stray-told c.args.card c.args.words.now _ _ r c.any_set.ensures ∙ c.if-any_set.true) (ap Err c.refused-then-any_set.ensures)
+    let r = sym c.lengths_wrong.ensures.is ∙ c.if-lengths_wrong.false in
+    rw (r, stray-told c.args.card c.args.words.now _ _ r c.any_set.ensures ∙ c.if-any_set.true) refl
 
 pub returns-then-any_set-clause-left : goal.returns-then-any_set-clause-left
 unfolding to_list_of list_left
 returns-then-any_set-clause-left c =
-    let r = sym c.lengths_wrong.ensures ∙ c.if-lengths_wrong.false in
+    let r = sym c.lengths_wrong.ensures.is ∙ c.if-lengths_wrong.false in
     rw (r, stray-told c.args.card c.args.words.now _ _ r c.any_set.ensures ∙ c.if-any_set.true)
 
 pub set_list-requires : goal.set_list-requires
 set_list-requires c =
-    omega (arith, index-few c.args.card c.requires, (lengths-right c.args.card _ _ (sym c.lengths_wrong.ensures ∙ c.if-lengths_wrong.false)).0)
+    omega (arith, index-few c.args.card c.lengths_wrong.ensures.known, (lengths-right c.args.card _ _ (sym c.lengths_wrong.ensures.is ∙ c.if-lengths_wrong.false)).0)
 
 pub returns-clause-answer : goal.returns-clause-answer
 unfolding to_list_of
 returns-clause-answer c =
-    let r = sym c.lengths_wrong.ensures ∙ c.if-lengths_wrong.false in
+    let r = sym c.lengths_wrong.ensures.is ∙ c.if-lengths_wrong.false in
     rw (r, stray-told c.args.card c.args.words.now _ _ r c.any_set.ensures ∙ c.if-any_set.false)
 
 pub returns-clause-left : goal.returns-clause-left
 unfolding to_list_of list_left
 returns-clause-left c =
-    let r = sym c.lengths_wrong.ensures ∙ c.if-lengths_wrong.false in
+    let r = sym c.lengths_wrong.ensures.is ∙ c.if-lengths_wrong.false in
     rw (r, stray-told c.args.card c.args.words.now _ _ r c.any_set.ensures ∙ c.if-any_set.false)
     (c.set_list.ensures ∙ ap (numbers_to c.args.words.now) (lengths-right c.args.card _ _ r).0)
