@@ -1,5 +1,5 @@
 -- What a card's invariant tells: its fields are those of bytes that were read. Assumes nothing.
-use Rattle.std.proofs.Common.{◌≡◌, ℕ, List, sym, ◌∙◌}
+use Rattle.std.proofs.Common.{◌≡◌, ℕ, List}
 use Rattle.arc.specs.declared.series.Series.{Series}
 use Rattle.card_text.specs.declared.Fields.{Fields}
 use Rattle.card_text.specs.Read.{Known, read_of, read_strict, accepted_card}

@@ -4,7 +4,7 @@
 use Rattle.std.specs.Prelude.{if◌then◌else◌, Result, Ok, Err}
 use Rattle.card.specs.declared.Pixel.{Pixel}
 use Rattle.card_text.specs.Layout.{Judged}
-use Rattle.card.specs.Grid.{at_position, at_pixel}
+use Rattle.card.specs.Grid.{at_pixel}
 use mathlib.Core.Path.{◌≡◌, refl, sym, ap, ◌∙◌, subst₂, subst⁻¹}
 use mathlib.Core.Bool.{Bool, true, false, not}
 use mathlib.Core.Logic.{◌⊎◌, inl, inr}

@@ -3,13 +3,13 @@ use mathlib.Core.Path.{◌≡◌, refl, sym, ap, ap₂, ◌∙◌}
 use mathlib.Core.Bool.{Bool, true, false}
 use Prim.Native.Nat.{ℕ, ◌+◌}
 use native.Mathlib.Omega.{arith}
-use lib.IntN.{ℤ, pos, negsuc, ◌-ℤ◌}
+use lib.IntN.{ℤ, pos, ◌-ℤ◌}
 use mir.Syntax.{w64}
 use mir.Val.{SFits, to_z, of_z}
 use mir.ValLaws.{to_z-of_z}
 use Rattle.std.specs.Prelude.{if◌then◌else◌, Result, Ok, Err}
 use Rattle.whole.specs.Whole.{outside, raise}
-use Rattle.whole.proofs.Signed.{Is, is-equal, is-unique, is-minus, is-difference, is-raise, raise-high}
+use Rattle.whole.proofs.Signed.{is-equal, is-unique, is-minus, is-difference, is-raise, raise-high}
 use Rattle.whole.proofs.Counts.{Inside, inside_is}
 use Rattle.arc.specs.declared.refusal.Refusal.{Refusal}
 use Rattle.arc.specs.Zones.{half, quarter}

@@ -7,7 +7,7 @@
 --     visits p lat lon ks        the visits down the list, each with the position last answered
 --     NoDrift                    the demand
 use Rattle.std.specs.Prelude.{Result, Ok, Err}
-use Rattle.card.specs.Grid.{at_position, at_pixel}
+use Rattle.card.specs.Grid.{at_position}
 use Rattle.std.specs.Prelude.{◌≡◌, true, List, [], ◌∷◌, ◌⊎◌, ℕ, ◌*◌, ◌≤◌, ℤ, pos, nat_abs, ◌+ℤ◌, ◌-ℤ◌, ◌*ℤ◌}
 use Rattle.arc.specs.declared.series.Series.{Series}
 use Rattle.arc.specs.declared.refusal.Refusal.{Refusal}

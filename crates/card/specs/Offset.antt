@@ -3,7 +3,7 @@
 --     offset_of ..           what `offset_from` answers: 4, 5 of the position, then 4, 5 of the centre
 use Rattle.std.specs.Prelude.{Result, Ok, Err}
 use Rattle.arc.specs.declared.refusal.Refusal.{Refusal}
-use Rattle.std.specs.Prelude.{◌≡◌, if◌then◌else◌, ℤ, pos, ◌-ℤ◌, Float}
+use Rattle.std.specs.Prelude.{◌≡◌, if◌then◌else◌, ℤ, ◌-ℤ◌, Float}
 use Rattle.std.specs.Float.Ieee.{of_int, to_signed}
 use Rattle.std.specs.Float.{binary64}
 use Rattle.whole.specs.Whole.{outside}

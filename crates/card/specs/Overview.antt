@@ -13,7 +13,6 @@ use Rattle.whole.specs.Results.{◌>>=◌}
 use Rattle.arc.specs.Zones.{circle}
 use Rattle.card_text.specs.declared.Fields.{Fields}
 use Rattle.card.specs.declared.Pair.{Pair}
-use Rattle.card.specs.declared.Position.{Position}
 use Rattle.card.specs.declared.Pixel.{Pixel}
 use Rattle.card_text.specs.Read.{Known}
 use Rattle.card.specs.Grid.{place_row, place_column, position_of, pixel_of}

@@ -116,7 +116,10 @@ impl Card {
         ensures { result ≡ latitude_of pair self (pos row) }
     {
         let exact = (self.fields.north - row) * Circle::H - pair.inward();
-        whole::difference(whole::nearest(exact, self.fields.b) as u32, Circle::LATITUDE)
+        whole::difference(
+            whole::nearest(exact, self.fields.b) as u32,
+            Circle::LATITUDE,
+        )
     }
 
     /// The nearest hundredth to the longitude of a column's exact place, brought into range.
@@ -137,7 +140,8 @@ impl Card {
         let half = self.fields.b / 2;
         // half a pixel for the nearest, nothing for the floor
         let up = Circle::H / 2 - pair.inward();
-        let rows = ((self.fields.north + half) * Circle::H - north * self.fields.b + up) / Circle::H;
+        let rows = ((self.fields.north + half) * Circle::H - north * self.fields.b + up)
+            / Circle::H;
         whole::difference(rows as u32, half as u32)
     }
 
@@ -147,7 +151,11 @@ impl Card {
         ensures { result ≡ column_of pair self (pos east -ℤ pos 64800000) }
     {
         let up = Circle::H / 2 - pair.inward();
-        turned((east * self.fields.a + up) / Circle::H, self.fields.east, self.fields.a) as i64
+        turned(
+            (east * self.fields.a + up) / Circle::H,
+            self.fields.east,
+            self.fields.a,
+        ) as i64
     }
 
     /// The place of a pixel on the zone grid. Refuses a pixel outside the tiles.

@@ -3,8 +3,7 @@ ghost use Rattle.std.specs.Prelude.{◌≡◌, ◌≤◌, pos, ◌-ℤ◌};
 ghost use Rattle.card.specs.Grid.{into_range};
 ghost use Rattle.card.specs.Offset.{difference, offset_of};
 
-use crate::Offset;
-use crate::range;
+use crate::{Offset, range};
 use arc::{Circle, Refusal};
 
 /// The longitude difference the short way, both counted from 180° west.

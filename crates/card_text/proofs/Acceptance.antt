@@ -109,8 +109,8 @@ module _ (fill : Fill) (series : Series) (s : List ℕ) (k : Fields) (blanks : �
       → is_polar series.zone ≡ p → eqb (length s) 98 ≡ w
       → walk fill layout s ≡ v → constants_in a b s ≡ c
       → (if p then Err Refusal.Polar
-        else (if not w then Err Refusal.Length
-        else ◌>>=◌ {B = Reading} v (λ _. if not c then Err Refusal.Spacing else with_origin series a b s (row_tile b s) (column_tile a s))))
+      else (if not w then Err Refusal.Length
+      else ◌>>=◌ {B = Reading} v (λ _. if not c then Err Refusal.Spacing else with_origin series a b s (row_tile b s) (column_tile a s))))
       ≡ accepted_card k blanks
       → ReadTo fill series s k blanks
   by_tests a b sp true w c v po wh ju co e = never Refusal.Polar k blanks e

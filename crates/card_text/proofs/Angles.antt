@@ -13,7 +13,6 @@ use Rattle.card_text.specs.declared.subfields.Angle.{Angle}
 use Rattle.text.specs.Text.{all, number, part, is_digit, is_sign, minus, angle_laid, degrees, minutes, seconds, hundredths, angle_size, angle_of, angle_valid}
 use Rattle.std.specs.Prelude.{Option, Some, None, Ok, if◌then◌else◌}
 use Rattle.text.proofs.Bytes.{all-groups}
-use Rattle.text.proofs.Runs.{laid-tests}
 use Rattle.text.proofs.Angles.{valid-tests}
 use Rattle.card_text.specs.declared.Fill.{Fill}
 use Rattle.card_text.specs.Layout.{LSO, PSO, layout, bytes_of, walk}

@@ -1,7 +1,7 @@
 -- A card without blanks before its digits is walked alike whatever may fill its numbers, and its total is told only where it is
 -- accepted; the digits that its numbers need leave room for 37. Assumes nothing.
 use mathlib.Core.Path.{◌≡◌, refl, sym, ap, ap₂, ◌∙◌}
-use mathlib.Core.Bool.{Bool, true, false, cond, not, ◌&&◌, and-eq-true_iff}
+use mathlib.Core.Bool.{Bool, true, false, not, ◌&&◌, and-eq-true_iff}
 use mathlib.Core.List.{List, [], ◌∷◌}
 use mathlib.Core.Option.{Option, some, none}
 use Rattle.std.specs.Prelude.{if◌then◌else◌, Result, Ok, Err}

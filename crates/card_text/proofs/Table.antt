@@ -7,9 +7,7 @@ use native.Mathlib.Omega.{arith}
 use Rattle.std.specs.Prelude.{Result, Ok, Err}
 use Rattle.whole.specs.Results.{◌>>=◌}
 use Rattle.arc.specs.declared.refusal.Refusal.{Refusal}
-use Rattle.card_text.specs.declared.Extents.{Extents}
 use Rattle.card_text.specs.declared.Fill.{Fill}
-use Rattle.card_text.specs.declared.subfields.Stated.{Stated}
 use Rattle.card_text.specs.declared.subfields.Values.{Values}
 use Rattle.card_text.specs.Layout.{Subfield, STR, ARV, BRV, LSO, PSO, NUL, NUS, NLL, NLS, NFL, NFC, PNC, PNL, COD, ROD, POR, PCB, PVB, BAD, TIF}
 use Rattle.card_text.specs.Layout.{Judged, judge, judge_field, right_kind, right_value, bytes_of, layout, or_else, walk}

@@ -1,13 +1,13 @@
 -- What reading answers for the values that the code keeps: the tests of `with_values`, in its order, are those of the
 -- values, and a record with its counted origin makes the fields. Assumes nothing.
-use mathlib.Core.Path.{◌≡◌, ap, sym}
+use mathlib.Core.Path.{◌≡◌}
 use mathlib.Core.Bool.{Bool, not, ◌&&◌}
 use mathlib.Core.List.{List}
 use Prim.Native.Nat.{ℕ, ◌*◌, ◌/◌, ◌≤◌}
 use lib.Dec.{eqb}
 use native.Mathlib.Omega.{arith}
 use lib.IntN.{ℤ, pos, negsuc, ◌-ℤ◌}
-use Rattle.std.specs.Prelude.{if◌then◌else◌, Option, Some, None, Err}
+use Rattle.std.specs.Prelude.{if◌then◌else◌, Option, Some, Err}
 use Rattle.text.proofs.Bytes.{byte-in}
 use Rattle.whole.specs.Whole.{raise}
 use Rattle.whole.proofs.Signed.{Is, is-difference}

@@ -12,7 +12,6 @@
 --     TextIsRead         at every scale that is read, the text of what was read is read to the same card, with no blanks
 use Rattle.std.specs.Prelude.{◌≡◌, false, List, ◌↔◌, ℕ, ◌≤◌, ◌<◌, length, take, Ok, Err}
 use Rattle.arc.specs.declared.series.Series.{Series}
-use Rattle.arc.specs.declared.series.Spacing.{Spacing}
 use Rattle.arc.specs.declared.refusal.Refusal.{Refusal}
 use Rattle.arc.specs.Zones.{is_polar}
 use Rattle.arc.specs.Spacing.{spacing_of}

@@ -39,14 +39,7 @@ pub struct Values {
 }
 
 /// Digits, from low to high, and blanks before them where they may stand.
-fn number_at(
-    fill: Fill,
-    s: &[u8],
-    o: usize,
-    w: usize,
-    low: u64,
-    high: u64,
-) -> Result<u64, Refusal>
+fn number_at(fill: Fill, s: &[u8], o: usize, w: usize, low: u64, high: u64) -> Result<u64, Refusal>
     requires within { o + w ≤ length s.now }
     requires not_empty { 0 < w }
     requires width { w ≤ 8 }

@@ -71,12 +71,7 @@ fn put_card(out: &mut [u8], a: u64, b: u64, lat: i64, lon: i64, r: Record)
 
 /// Writing, the spacing being known. Refuses a polar zone, a short output, then NFL, NFC, BAD, then the origin and the extents; on a refusal the
 /// output stays.
-pub fn write_spaced(
-    zone: u64,
-    spacing: Spacing,
-    r: Record,
-    out: &mut [u8],
-) -> Result<(), Refusal>
+pub fn write_spaced(zone: u64, spacing: Spacing, r: Record, out: &mut [u8]) -> Result<(), Refusal>
     ensures answer { result ≡ write_in zone spacing r (length out.old) }
     ensures left { out.new ≡ out_in zone spacing r out.old }
 {

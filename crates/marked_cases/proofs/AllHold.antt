@@ -1,7 +1,7 @@
 -- Each case computes. Assumes nothing.
 use mathlib.Core.Path.{refl}
 use Rattle.whole.specs.Whole.{floor_div, nearest, ceil_div, modulo}
-use Rattle.arc.specs.Spacing.{spacing_at}
+use Rattle.arc.specs.Pixels.{spacing_at}
 use Rattle.zones.specs.Basic.{first_holding}
 use Rattle.zones.specs.Cover.{covers}
 use Rattle.origin.specs.Origin.{stored_angle}

@@ -4,17 +4,18 @@
 --     AllAs cs           in each case the two are the same
 --     card               the bytes of document 01's card, as its two parts
 --     cases              the list
-use Rattle.std.specs.Prelude.{◌≡◌, List, [], ◌∷◌, ◌++◌, map, ℕ, ℤ, pos, neg_ℤ, take}
-use Rattle.arc.specs.declared.series.Spacing.{Spacing}
+use Rattle.std.specs.Prelude.{◌≡◌, List, [], ◌∷◌, ◌++◌, map, ℕ, ℤ, pos, neg_ℤ, Result, Ok, Err}
+use Rattle.whole.specs.Results.{◌>>=◌}
+use Rattle.arc.specs.declared.refusal.Refusal.{Refusal}
 use Rattle.arc.specs.Scales.{chart_series}
-use Rattle.arc.specs.Spacing.{spacing_of, spacing_report, rows_of, constant_report}
-use Rattle.zones.specs.Basic.{basic_zone_of, zone_report}
-use Rattle.zones.specs.Cover.{cover_of, cover_report}
+use Rattle.arc.specs.Spacing.{spacing_of, rows_of}
+use Rattle.zones.specs.Basic.{basic_zone_of}
+use Rattle.zones.specs.Cover.{cover_of}
 use Rattle.origin.specs.Origin.{stored_angle}
 use Rattle.text.specs.Text.{bytes}
 use Rattle.card_text.specs.Read.{read_of}
 use Rattle.card.specs.declared.Pair.{Pair}
-use Rattle.card.specs.Grid.{position_of, position_report}
+use Rattle.card.specs.Grid.{position_of}
 
 pub record Case : Type 0 where
   pub found : List ℤ
@@ -32,27 +33,30 @@ card =
     bytes "30036966400400384-0022935.07+113032.23000000000127000255000000002001000128000128"
     ++ bytes "01008BASE0101.IMGN"
 
--- the length of a cover list and its members, as document 01 writes it
+-- what is answered, as a list of numbers: nothing of a refusal
+abbrev pub numbers : {A : Type 0} → (A → List ℤ) → Result A Refusal → List ℤ
+numbers f (Ok x) = f x
+numbers f (Err e) = []
+
+-- the zones of a cover list
 abbrev pub cover : ℕ → ℤ → List ℤ
-cover scale lat = (cover_report (cover_of scale 1 lat)).values
+cover scale lat = numbers (λ v. map pos v.items) (cover_of scale 1 lat)
 
 abbrev pub zone : ℤ → List ℤ
-zone lat = (zone_report (basic_zone_of lat)).values
+zone lat = numbers (λ z. pos z ∷ []) (basic_zone_of lat)
 
 abbrev pub a_of : ℕ → ℕ → List ℤ
-a_of scale zone = take 1 (spacing_report (spacing_of (chart_series scale zone))).values
+a_of scale zone = numbers (λ x. pos x.a ∷ []) (spacing_of (chart_series scale zone))
 
 abbrev pub b_of : ℕ → List ℤ
-b_of scale = (constant_report (rows_of scale 1)).values
+b_of scale = numbers (λ b. pos b ∷ []) (rows_of scale 1)
 
 -- the stored angles of n and of m
-abbrev pub stored_row : SpacingAnswer → ℤ → List ℤ
-stored_row (SpacingAnswer.Constants a b) n = stored_angle b n ∷ []
-stored_row (SpacingAnswer.Refused r) n = []
+abbrev pub stored_row : ℤ → List ℤ
+stored_row n = numbers (λ x. stored_angle x.b n ∷ []) (spacing_of (chart_series 1000000 1))
 
-abbrev pub stored_column : SpacingAnswer → ℤ → List ℤ
-stored_column (SpacingAnswer.Constants a b) m = stored_angle a m ∷ []
-stored_column (SpacingAnswer.Refused r) m = []
+abbrev pub stored_column : ℤ → List ℤ
+stored_column m = numbers (λ x. stored_angle x.a m ∷ []) (spacing_of (chart_series 1000000 1))
 
 abbrev pub cases : List Case
 cases =
@@ -72,15 +76,15 @@ cases =
     case (zone (pos 28799999) ++ zone (pos 28800000)) (pos 8 ∷ pos 9 ∷ []) ∷
     -- at 1:1,000,000, 11,851,457 is covered by 2, 1 and 11,851,458 by 2 only
     case (cover 1000000 (pos 11851457) ++ cover 1000000 (pos 11851458))
-    (map pos (2 ∷ 2 ∷ 1 ∷ 0 ∷ 0 ∷ 0 ∷ 0 ∷ 1 ∷ 2 ∷ 0 ∷ 0 ∷ 0 ∷ 0 ∷ 0 ∷ [])) ∷
+    (map pos (2 ∷ 1 ∷ 2 ∷ [])) ∷
     -- at 1:5,000,000, 27,360,000 is covered by 8, 7, 6
-    case (cover 5000000 (pos 27360000)) (map pos (3 ∷ 8 ∷ 7 ∷ 6 ∷ 0 ∷ 0 ∷ 0 ∷ [])) ∷
+    case (cover 5000000 (pos 27360000)) (map pos (8 ∷ 7 ∷ 6 ∷ [])) ∷
     -- at 1:1,000,000 zone 1, n = 100 stores 4,143,223
-    case (stored_row (spacing_of (chart_series 1000000 1)) (pos 100)) (pos 4143223 ∷ []) ∷
+    case (stored_row (pos 100)) (pos 4143223 ∷ []) ∷
     -- m = −20 stores −897,507
-    case (stored_column (spacing_of (chart_series 1000000 1)) (neg_ℤ (pos 20))) (neg_ℤ (pos 897507) ∷ []) ∷
+    case (stored_column (neg_ℤ (pos 20))) (neg_ℤ (pos 897507) ∷ []) ∷
     -- the card's pixel (1, 1) is 4,142,899 and −897,156
-    case (position_report (position_of Pair.Corner (read_of (chart_series 1000000 1) card).card (pos 1) (pos 1))).values
+    case (numbers (λ x. x.lat ∷ x.lon ∷ []) (read_of (chart_series 1000000 1) card >>= (λ x. position_of Pair.Corner x.fields (pos 1) (pos 1))))
     (pos 4142899 ∷ neg_ℤ (pos 897156) ∷ []) ∷
     []
 

@@ -1,8 +1,10 @@
 -- An aligned origin is written and read back: alignment never leaves the grid, so a record there passes the tests of writing, and
 -- the angles stored for it are the origin's own. Assumes nothing.
+use Rattle.std.specs.Prelude.{if◌then◌else◌, Result, Ok, Err}
+use Rattle.arc.specs.declared.refusal.Refusal.{Refusal}
 use mathlib.Core.Path.{◌≡◌, refl, sym, ap, ◌∙◌}
 use mathlib.Core.List.{List}
-use mathlib.Core.Bool.{Bool, true, false, cond}
+use mathlib.Core.Bool.{Bool, true, false}
 use Prim.Native.Nat.{ℕ, ◌≤◌}
 use native.Mathlib.Omega.{arith}
 use lib.IntN.{ℤ}
@@ -10,14 +12,11 @@ use lib.ListN.{length, take}
 use borrow.Author.Tests.{le-leb}
 use Rattle.whole.specs.Whole.{outside}
 use Rattle.arc.specs.declared.series.Series.{Series}
-use Rattle.arc.specs.declared.series.Spacing.{Spacing}
-use Rattle.arc.specs.Refusals.{refusal}
 use Rattle.arc.specs.Zones.{half, quarter, is_polar}
 use Rattle.arc.specs.Spacing.{spacing_of, Grids}
 use Rattle.arc.proofs.Answered.{answered-grids}
 use Rattle.arc.proofs.TownScales.{written_from}
 use Rattle.origin.specs.declared.Origin.{Origin}
-use Rattle.origin.specs.declared.OriginAnswer.{OriginAnswer}
 use Rattle.origin.specs.Origin.{origin_of, align_in, stored_angle, Aligned, on_grid}
 use Rattle.origin.proofs.Aligned.{aligned, aligned-on-grid, aligned-scale}
 use Rattle.card_text.specs.declared.Record.{Record}
@@ -36,22 +35,26 @@ record Answered (zone a b : ℕ) (lat lon : ℤ) (o : Origin) : Type 0 where
   pub lon-in : outside half lon ≡ false
   pub is-origin : origin_of a b lat lon ≡ o
 
-answered : (zone a b : ℕ) (lat lon : ℤ) (o : Origin) → align_in zone (SpacingAnswer.Constants a b) lat lon ≡ OriginAnswer.Aligned o
+abbrev origin_or : Origin → Result Origin Refusal → Origin
+origin_or d (Ok x) = x
+origin_or d (Err e) = d
+
+answered : (zone a b : ℕ) (lat lon : ℤ) (o : Origin) → align_in zone (record { a = a; b = b }) lat lon ≡ Ok o
     → Answered zone a b lat lon o
 answered zone a b lat lon o e = go (is_polar zone) (outside quarter lat) (outside half lon) refl refl refl e
   where
     go : (p q t : Bool) → is_polar zone ≡ p → outside quarter lat ≡ q → outside half lon ≡ t
-        → cond p (OriginAnswer.Refused (refusal 3)) (cond q (OriginAnswer.Refused (refusal 4))
-        (cond t (OriginAnswer.Refused (refusal 5)) (OriginAnswer.Aligned (origin_of a b lat lon)))) ≡ OriginAnswer.Aligned o
+        → (if p then Err Refusal.Polar else (if q then Err Refusal.Latitude
+        else (if t then Err Refusal.Longitude else Ok (origin_of a b lat lon)))) ≡ Ok o
         → Answered zone a b lat lon o
     go true q t x y z e = let w : ◌≡◌ {A = ℕ} 0 1 = cc in absurd (omega arith)
     go false true t x y z e = let w : ◌≡◌ {A = ℕ} 0 1 = cc in absurd (omega arith)
     go false false true x y z e = let w : ◌≡◌ {A = ℕ} 0 1 = cc in absurd (omega arith)
-    go false false false x y z e = record { no-pole = x; lat-in = y; lon-in = z; is-origin = cc }
+    go false false false x y z e = record { no-pole = x; lat-in = y; lon-in = z; is-origin = ap (origin_or o) e }
 
 module _
     (series : Series) (a b : ℕ) (lat lon : ℤ) (o : Origin) (r : Record)
-    (s : spacing_of series ≡ SpacingAnswer.Constants a b) (l : 10000 ≤ series.scale) (n : Answered series.zone a b lat lon o) (f : Fits a b o r)
+    (s : spacing_of series ≡ Ok (record { a = a; b = b })) (l : 10000 ≤ series.scale) (n : Answered series.zone a b lat lon o) (f : Fits a b o r)
   where
     grids : Grids a b
     grids = answered-grids series a b s

@@ -1,5 +1,6 @@
 -- Reading what was written gives the record back: the record's values fill the layout, so the walk passes and each subfield holds
 -- its value's text, which is read as the value, zero-filled. Assumes nothing.
+use Rattle.std.specs.Prelude.{Ok}
 use mathlib.Core.Path.{◌≡◌, refl, sym, ap, ◌∙◌}
 use mathlib.Core.List.{List, []}
 use mathlib.Core.Bool.{Bool, true, false, cond}
@@ -11,7 +12,6 @@ use lib.IntN.{ℤ, nat_abs}
 use lib.ListN.{length, get_or}
 use Rattle.whole.specs.Whole.{outside}
 use Rattle.arc.specs.declared.series.Series.{Series}
-use Rattle.arc.specs.declared.series.Spacing.{Spacing}
 use Rattle.arc.specs.Zones.{half, quarter, is_polar}
 use Rattle.arc.specs.Spacing.{spacing_of, Grids}
 use Rattle.arc.proofs.Answered.{answered-grids}
@@ -75,7 +75,7 @@ module _ (a b : ℕ) (r : Record) (g : Grids a b) (ok : Good a b r) (twelve : le
   unfolding card_text layout
   all-texts = texts card 0 [] refl refl refl held
 
-  walked : walk Fill.Zeros layout card ≡ Verdict.Accepted
+  walked : walk Fill.Zeros layout card ≡ Ok tt
   walked = walks card held all-texts
 
   text : (i : ℕ) → i < 20 → Text card (get_or layout i STR) (get_or (values_of a b r) i (counted 0))
@@ -135,7 +135,7 @@ module _ (a b : ℕ) (r : Record) (g : Grids a b) (ok : Good a b r) (twelve : le
     extents-back = ap (extents a b) same ∙ ok.in_extents
 
     -- as 01 reads it, and so with no blanks
-    is_read : spacing_of series ≡ SpacingAnswer.Constants a b → is_polar series.zone ≡ false → read_of series card ≡ accepted_card k 0
+    is_read : spacing_of series ≡ Ok (record { a = a; b = b }) → is_polar series.zone ≡ false → read_of series card ≡ accepted_card k 0
     unfolding card_of
     is_read e p =
         (strict-accepts series card k (total_blanks layout card)
@@ -159,12 +159,12 @@ module _ (a b : ℕ) (r : Record) (g : Grids a b) (ok : Good a b r) (twelve : le
         }))
         ).1
 
-    pub read_back : spacing_of series ≡ SpacingAnswer.Constants a b → is_polar series.zone ≡ false → ReadBack series r card
+    pub read_back : spacing_of series ≡ Ok (record { a = a; b = b }) → is_polar series.zone ≡ false → ReadBack series r card
     unfolding card_of
     read_back e p = record { fields = k; read = is_read e p; of_series = refl; same = same }
 
     -- the card is the record's
-    pub read-with : spacing_of series ≡ SpacingAnswer.Constants a b → is_polar series.zone ≡ false
+    pub read-with : spacing_of series ≡ Ok (record { a = a; b = b }) → is_polar series.zone ≡ false
         → read_of series card ≡ accepted_card (card_with series a b r) 0
     unfolding card_of
     read-with e p = is_read e p ∙ ap (λ (x : Record). accepted_card (card_with series a b x) 0) same

@@ -1,8 +1,11 @@
 -- Writing, inverted test by test: it is accepted exactly where the spacing for writing is known, the zone is no pole's, the output has room and
 -- the record passes each test; and the output then starts with the card's text. Assumes nothing.
+use Rattle.std.specs.Prelude.{if◌then◌else◌, Result, Ok, Err}
+use Rattle.whole.specs.Results.{◌>>=◌}
+use Rattle.arc.specs.declared.refusal.Refusal.{Refusal}
 use mathlib.Core.Path.{◌≡◌, refl}
 use mathlib.Core.List.{List}
-use mathlib.Core.Bool.{Bool, true, false, cond, not, ◌&&◌, and-eq-true_iff}
+use mathlib.Core.Bool.{Bool, true, false, not, ◌&&◌, and-eq-true_iff}
 use Prim.Native.Nat.{ℕ, ◌*◌, ◌/◌, ◌≤◌}
 use native.Mathlib.Omega.{arith}
 use lib.Dec.{leb}
@@ -12,7 +15,6 @@ use borrow.Author.Tests.{leb-true, le-leb, not-true}
 use Rattle.whole.specs.Whole.{outside, raise}
 use Rattle.arc.specs.declared.series.Series.{Series}
 use Rattle.arc.specs.declared.series.Spacing.{Spacing}
-use Rattle.arc.specs.Refusals.{refusal}
 use Rattle.arc.specs.Zones.{is_polar}
 use Rattle.arc.specs.TownScales.{spacing_for_writing}
 use Rattle.card_text.specs.declared.Fields.{Fields}
@@ -59,14 +61,14 @@ pub record Good (a b : ℕ) (r : Record) : Type 0 where
   pub in_extents : extents a b r ≡ true
 
 module _ (a b : ℕ) (r : Record) where
-  pub good : first (record_tests a b r) ≡ Verdict.Accepted → Good a b r
+  pub good : first (record_tests a b r) ≡ Ok tt → Good a b r
   unfolding record_tests
   good e =
-      let t1 = tested (leb 1 r.nfl && leb r.nfl 999) 8 62 _ e in
-      let t2 = tested (leb 1 r.nfc && leb r.nfc 999) 8 65 _ t1.1 in
-      let t3 = tested (name_laid r.bad) 7 85 _ t2.1 in
-      let t4 = tested (on_grid a b r.n r.m) 10 0 _ t3.1 in
-      let t5 = tested (extents a b r) 11 0 _ t4.1 in
+      let t1 = tested (leb 1 r.nfl && leb r.nfl 999) (Refusal.Value 62) _ e in
+      let t2 = tested (leb 1 r.nfc && leb r.nfc 999) (Refusal.Value 65) _ t1.1 in
+      let t3 = tested (name_laid r.bad) (Refusal.Kind 85) _ t2.1 in
+      let t4 = tested (on_grid a b r.n r.m) Refusal.Origin _ t3.1 in
+      let t5 = tested (extents a b r) Refusal.Extent _ t4.1 in
       record {
         nfl-in = t1.0;
         nfc-in = t2.0;
@@ -75,7 +77,7 @@ module _ (a b : ℕ) (r : Record) where
         in_extents = t5.0;
       }
 
-  pub accepts : Good a b r → first (record_tests a b r) ≡ Verdict.Accepted
+  pub accepts : Good a b r → first (record_tests a b r) ≡ Ok tt
   unfolding record_tests
   accepts g = rw (g.nfl-in, g.nfc-in, g.name-laid, g.on-grid, g.in_extents)
 
@@ -102,7 +104,7 @@ sizes a b r g =
 -- ---- the questions
 
 pub record Writes (series : Series) (r : Record) (out : List ℕ) (a b : ℕ) : Type 0 where
-  pub spacing : spacing_for_writing series ≡ SpacingAnswer.Constants a b
+  pub spacing : spacing_for_writing series ≡ Ok (record { a = a; b = b })
   pub no-pole : is_polar series.zone ≡ false
   pub room : 98 ≤ length out
   pub is-good : Good a b r
@@ -113,23 +115,23 @@ module _ (series : Series) (r : Record) (out : List ℕ) where
     pub b : ℕ
     pub writes : Writes series r out a b
 
-  pub inverted : write_of series r out ≡ Verdict.Accepted → Written
+  pub inverted : write_of series r out ≡ Ok tt → Written
   unfolding write_of
   inverted e = go (spacing_for_writing series) refl e
     where
-      in-room : (a b : ℕ) → spacing_for_writing series ≡ SpacingAnswer.Constants a b → (p q : Bool) → is_polar series.zone ≡ p → leb 98 (length out) ≡ q
-          → cond p (Verdict.Refused (refusal 3)) (cond q (first (record_tests a b r)) (Verdict.Refused (refusal 6))) ≡ Verdict.Accepted → Written
+      in-room : (a b : ℕ) → spacing_for_writing series ≡ Ok (record { a = a; b = b }) → (p q : Bool) → is_polar series.zone ≡ p → leb 98 (length out) ≡ q
+          → (if p then Err Refusal.Polar else (if not q then Err Refusal.Length else first (record_tests a b r))) ≡ Ok tt → Written
       in-room a b s true q i j k = let z : ◌≡◌ {A = ℕ} 0 1 = cc in absurd (omega arith)
       in-room a b s false false i j k = let z : ◌≡◌ {A = ℕ} 0 1 = cc in absurd (omega arith)
       in-room a b s false true i j k =
           record { a = a; b = b; writes = record { spacing = s; no-pole = i; room = leb-true 98 (length out) j; is-good = good a b r k } }
 
-      go : (x : SpacingAnswer) → spacing_for_writing series ≡ x → write_in series.zone x r (length out) ≡ Verdict.Accepted → Written
-      go (SpacingAnswer.Constants a b) s k = in-room a b s (is_polar series.zone) (leb 98 (length out)) refl refl k
-      go (SpacingAnswer.Refused f) s k = let z : ◌≡◌ {A = ℕ} 0 1 = cc in absurd (omega arith)
+      go : (x : Result Spacing Refusal) → spacing_for_writing series ≡ x → ◌>>=◌ {B = Unit {0}} x (λ y. write_in series.zone y r (length out)) ≡ Ok tt → Written
+      go (Ok x) s k = in-room x.a x.b s (is_polar series.zone) (leb 98 (length out)) refl refl k
+      go (Err f) s k = let z : ◌≡◌ {A = ℕ} 0 1 = cc in absurd (omega arith)
 
   module _ (a b : ℕ) (w : Writes series r out a b) where
-    pub is-written : write_of series r out ≡ Verdict.Accepted
+    pub is-written : write_of series r out ≡ Ok tt
     unfolding write_of
     is-written = rw (w.spacing, w.no-pole, le-leb 98 (length out) w.room) (accepts a b r w.is-good)
 

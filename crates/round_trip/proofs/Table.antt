@@ -1,5 +1,6 @@
 -- A table of subfields that stand one after the other, by induction over it: what is written is cut at the offsets into the values'
 -- texts, so that the walk passes; and where each text is its subfield's bytes, all of them together are the bytes. Assumes nothing.
+use Rattle.std.specs.Prelude.{Ok}
 use mathlib.Core.Path.{◌≡◌, refl, sym, ap, ◌∙◌}
 use mathlib.Core.List.{List, [], ◌∷◌, ◌++◌, append_assoc}
 use mathlib.Core.Bool.{Bool, true, false, cond, ◌&&◌, and-eq-true_iff}
@@ -113,7 +114,7 @@ module _ (s : List ℕ) where
       let q : Text s f v = rw (starts o f fs c, e) (part_at pre t (written fs vs) o f.width l k) in
       next q (texts (o + f.width) (pre ++ t) (goes_on o f fs c) (length-append pre t ∙ rw (l, k)) (e ∙ sym (append_assoc pre t (written fs vs))) a)
 
-  pub walks : {fs : List Subfield} {vs : List Value} → Along Held fs vs → Along (Text s) fs vs → walk Fill.Zeros fs s ≡ Verdict.Accepted
+  pub walks : {fs : List Subfield} {vs : List Value} → Along Held fs vs → Along (Text s) fs vs → walk Fill.Zeros fs s ≡ Ok tt
   unfolding judge_field
   walks done t = refl
   walks (next p a) (next e t) = rw (e, (passes p).right-kind, (passes p).right-value) (walks a t)

@@ -1,5 +1,6 @@
 -- Writing what was read gives the bytes back exactly where no blanks were met: each subfield that passed as 01 has it is the text of the value
 -- read from it, the tiles store the angles, and the record that a card's value holds passes the tests of writing. Assumes nothing.
+use Rattle.std.specs.Prelude.{Ok}
 use mathlib.Core.Path.{◌≡◌, refl, sym, ap, ◌∙◌}
 use mathlib.Core.List.{List, [], ◌∷◌}
 use mathlib.Core.Bool.{Bool, true, false, cond, ◌&&◌}
@@ -15,10 +16,9 @@ use Rattle.arc.proofs.Answered.{answered-grids}
 use Rattle.arc.proofs.TownScales.{written_from}
 use Rattle.card_text.specs.declared.Fields.{Fields}
 use Rattle.card_text.specs.declared.Fill.{Fill}
-use Rattle.card_text.specs.declared.Reading.{Reading}
 use Rattle.text.specs.Text.{all, is_digit, is_flag, angle_laid, angle_valid, angle_of, digits, angle_text}
 use Rattle.card_text.specs.Layout.{Subfield, STR, ARV, BRV, LSO, PSO, NUL, NUS, NLL, NLS, NFL, NFC, PNC, PNL, COD, ROD, POR, PCB, PVB, TIF, layout, bytes_of}
-use Rattle.card_text.specs.Read.{number_in, card_of, accepted_card, read_of, read_strict}
+use Rattle.card_text.specs.Read.{number_in, card_of, accepted_card, blanks_told, read_of, read_strict}
 use Rattle.card_text.specs.Write.{values_of, card_text, write_of, out_of}
 use Rattle.card_text.specs.RoundTrips.{record_of, WritesBack, ReadIsText, TextIsRead}
 use Rattle.text.proofs.Bytes.{length_part, drop-next}
@@ -139,7 +139,7 @@ module _ (series : Series) (s : List ℕ) (k : Fields) (n : ℕ) (d : ReadTo Fil
 
   -- what is written is its text
   output : (out : List ℕ) → 10000 ≤ series.scale → 98 ≤ length out
-      → (write_of series (record_of value) out ≡ Verdict.Accepted) × (take 98 (out_of series (record_of value) out) ≡ card_text d.a d.b (record_of value))
+      → (write_of series (record_of value) out ≡ Ok tt) × (take 98 (out_of series (record_of value) out) ≡ card_text d.a d.b (record_of value))
   output out g h =
       let w = writes out g h in (
         is-written series (record_of value) out d.a d.b w,
@@ -154,7 +154,7 @@ pub read-is-text : ReadIsText
 read-is-text series s k n e = (only, same)
   where
     only : card_text k.a k.b (record_of k) ≡ s → n ≡ 0
-    only q = sym (ap (λ (x : Reading). x.blanks) (sym (rw q at (text-is-read series s k n e)) ∙ e))
+    only q = sym (ap blanks_told (sym (rw q at (text-is-read series s k n e)) ∙ e))
 
     same : n ≡ 0 → card_text k.a k.b (record_of k) ≡ s
     same z = strict-text series s k (tolerant-accepts series s k (e ∙ ap (accepted_card k) z))
@@ -163,7 +163,7 @@ pub writes-back : WritesBack
 unfolding card_of
 writes-back series s k n out e g h =
     let d = read-to Fill.Blanks series s k n e in
-    let o : (write_of series (record_of k) out ≡ Verdict.Accepted) × (take 98 (out_of series (record_of k) out) ≡ card_text k.a k.b (record_of k)) =
+    let o : (write_of series (record_of k) out ≡ Ok tt) × (take 98 (out_of series (record_of k) out) ≡ card_text k.a k.b (record_of k)) =
     rw (← d.card) (output series s k n d out g h) in
     let t = read-is-text series s k n e in
     record {

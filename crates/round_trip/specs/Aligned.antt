@@ -3,12 +3,11 @@
 --     Fits a b o r       a record at the origin o, with counts, a name and extents that a card may have
 --     Carried ..         it is written, and read back to the same n and m; LSO and PSO are the texts of o's angles
 --     AlignedBack        the claim
+use Rattle.std.specs.Prelude.{Ok}
 use Rattle.std.specs.Prelude.{◌≡◌, List, true, ℕ, ◌≤◌, ℤ, length, take}
 use Rattle.arc.specs.declared.series.Series.{Series}
-use Rattle.arc.specs.declared.series.Spacing.{Spacing}
 use Rattle.arc.specs.Spacing.{spacing_of}
 use Rattle.origin.specs.declared.Origin.{Origin}
-use Rattle.origin.specs.declared.OriginAnswer.{OriginAnswer}
 use Rattle.origin.specs.Origin.{align_of}
 use Rattle.card_text.specs.declared.Record.{Record}
 use Rattle.text.specs.Text.{name_laid, angle_text}
@@ -30,7 +29,7 @@ pub record Fits (a b : ℕ) (o : Origin) (r : Record) : Type 0 where
 
 -- s being what is written into out
 pub record Carried (series : Series) (o : Origin) (r : Record) (out s : List ℕ) : Type 0 where
-  pub written : write_of series r out ≡ Verdict.Accepted
+  pub written : write_of series r out ≡ Ok tt
   pub back : ReadBack series r s
   pub same_n : back.fields.n ≡ o.n
   pub same_m : back.fields.m ≡ o.m
@@ -40,6 +39,6 @@ pub record Carried (series : Series) (o : Origin) (r : Record) (out s : List ℕ
 -- any upper left point that is aligned, any record at its origin, any output with room
 abbrev pub AlignedBack : Type 0
 AlignedBack =
-    (series : Series) (a b : ℕ) (lat lon : ℤ) (o : Origin) (r : Record) (out : List ℕ) → spacing_of series ≡ SpacingAnswer.Constants a b
-    → align_of series lat lon ≡ OriginAnswer.Aligned o → Fits a b o r → 98 ≤ length out
+    (series : Series) (a b : ℕ) (lat lon : ℤ) (o : Origin) (r : Record) (out : List ℕ) → spacing_of series ≡ Ok (record { a = a; b = b })
+    → align_of series lat lon ≡ Ok o → Fits a b o r → 98 ≤ length out
     → Carried series o r out (take 98 (out_of series r out))

@@ -10,8 +10,13 @@ unfolding read_in
 returns-in_err-values c =
     let a = c.args in
     let p = err_from_is_err_and c.from_residual.result c.from_residual.ensures.1 in
-    rw (p.1, p.2, sym c.is_polar.ensures ∙ c.if-is_polar.false, eq-eqb (length a.bytes.now) 98 c.if-bytes-ne98.false,
-    walk-err a.fill a.bytes.now (sym c.values_in.ensures ∙ c.in_err-values.was))
+    rw (
+      p.1,
+      p.2,
+      sym c.is_polar.ensures ∙ c.if-is_polar.false,
+      eq-eqb (length a.bytes.now) 98 c.if-bytes-ne98.false,
+      walk-err a.fill a.bytes.now (sym c.values_in.ensures ∙ c.in_err-values.was),
+    )
 
 pub read_values-requires : goal.read_values-requires
 read_values-requires c =

@@ -1,5 +1,5 @@
 -- The column from 180° west less the origin's, round the circle: the first modulo changes nothing after the second. Assumes nothing.
-use Rattle.std.proofs.Common.{ℕ, ◌+◌, ◌-◌, ◌*◌, ◌/◌, ◌%◌, ◌<◌, sym, ap, ◌∙◌, arith, pos, ◌-ℤ◌, w64}
+use Rattle.std.proofs.Common.{ℕ, ◌+◌, ◌-◌, ◌*◌, ◌/◌, ◌%◌, sym, ap, ◌∙◌, arith, pos, ◌-ℤ◌, w64}
 use native.Mathlib.Nat.{mod-lt, mul-le-mul}
 use mir.ValLaws.{to_z_pos}
 use Rattle.whole.proofs.Signed.{is-difference}

@@ -1,5 +1,5 @@
 -- The blanks met so far and those of the rest are the blanks of all.
-use Rattle.std.proofs.Common.{◌≡◌, ◌+◌, ◌<◌, length, drop}
+use Rattle.std.proofs.Common.{◌≡◌, ◌+◌, length, drop}
 use Rattle.card_text.specs.StepsFields.{lead}
 use Rattle.card_text.proofs.digits.leading.Given as goal
 

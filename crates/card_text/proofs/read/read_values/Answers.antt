@@ -1,5 +1,5 @@
 -- Each test decides one case of `with_values`, in its order; the counted origin and the record make the fields. Assumes nothing.
-use Rattle.std.proofs.Common.{◌≡◌, ℕ, ◌/◌, ◌*◌, ◌≤◌, refl, sym, ap, ap₂, ◌∙◌, arith, eq-eqb, ne_eqb, true, false, Ok, Some, None, pos, ◌-ℤ◌, ℤ}
+use Rattle.std.proofs.Common.{sym, ap₂, ◌∙◌, arith, eq-eqb, ne_eqb, true, false, ℤ}
 use Rattle.whole.proofs.Machine.{result-is}
 use Rattle.card_text.specs.Read.{accepted_card}
 use Rattle.card_text.specs.StepsRead.{record_with}
@@ -19,8 +19,11 @@ returns-then-stated-b c =
     let a = c.args in
     let gb = rw c.count-b.ensures.value at c.count-b.ensures.on_grid in
     let ga = rw c.count-a.ensures.value at c.count-a.ensures.on_grid in
-    rw (values-are c.requires ga gb a.series, eq-eqb _ _ (rw c.count-a.ensures.value at c.if-stated-a.false),
-    ne_eqb _ _ (rw c.count-b.ensures.value at c.if-stated-b.true))
+    rw (
+      values-are c.requires ga gb a.series,
+      eq-eqb _ _ (rw c.count-a.ensures.value at c.if-stated-a.false),
+      ne_eqb _ _ (rw c.count-b.ensures.value at c.if-stated-b.true),
+    )
 
 pub tile_of-requires : goal.tile_of-requires
 tile_of-requires c = omega (arith, pso-kept c.requires)
@@ -33,17 +36,25 @@ returns-in_default c =
     let a = c.args in
     let gb = rw c.count-b.ensures.value at c.count-b.ensures.on_grid in
     let ga = rw c.count-a.ensures.value at c.count-a.ensures.on_grid in
-    rw (values-are c.requires ga gb a.series, eq-eqb _ _ (rw c.count-a.ensures.value at c.if-stated-a.false),
-    eq-eqb _ _ (rw c.count-b.ensures.value at c.if-stated-b.false), sym c.tile_of.ensures ∙ c.in_default.is)
+    rw (
+      values-are c.requires ga gb a.series,
+      eq-eqb _ _ (rw c.count-a.ensures.value at c.if-stated-a.false),
+      eq-eqb _ _ (rw c.count-b.ensures.value at c.if-stated-b.false),
+      sym c.tile_of.ensures ∙ c.in_default.is,
+    )
 
 pub returns-in_default-tile_of : goal.returns-in_default-tile_of
 returns-in_default-tile_of c =
     let a = c.args in
     let gb = rw c.count-b.ensures.value at c.count-b.ensures.on_grid in
     let ga = rw c.count-a.ensures.value at c.count-a.ensures.on_grid in
-    rw (values-are c.requires ga gb a.series, eq-eqb _ _ (rw c.count-a.ensures.value at c.if-stated-a.false),
-    eq-eqb _ _ (rw c.count-b.ensures.value at c.if-stated-b.false), sym c.tile_of.ensures ∙ c.in-Some.is,
-    sym c.tile_of-2.ensures ∙ c.in_default-tile_of.is)
+    rw (
+      values-are c.requires ga gb a.series,
+      eq-eqb _ _ (rw c.count-a.ensures.value at c.if-stated-a.false),
+      eq-eqb _ _ (rw c.count-b.ensures.value at c.if-stated-b.false),
+      sym c.tile_of.ensures ∙ c.in-Some.is,
+      sym c.tile_of-2.ensures ∙ c.in_default-tile_of.is,
+    )
 
 pub overflow_cast-north : goal.overflow_cast-north
 overflow_cast-north c =
@@ -81,11 +92,15 @@ returns-then-not-extents_hold c =
     let n = result-is c.difference-n.type_inv (rw c.count-b.ensures.value at c.difference-n.ensures) in
     let m = result-is c.difference-m.type_inv (rw c.count-a.ensures.value at c.difference-m.ensures) in
     let r = c.record_of-r.ensures ∙ ap₂ (λ (x y : ℤ). record_with x y a.values) n m in
-    rw (values-are c.requires ga gb a.series, eq-eqb _ _ (rw c.count-a.ensures.value at c.if-stated-a.false),
-    eq-eqb _ _ (rw c.count-b.ensures.value at c.if-stated-b.false), sym c.tile_of.ensures ∙ c.in-Some.is,
-    sym c.tile_of-2.ensures ∙ c.in-Some-tile_of.is,
-    extents-are a.series a.spacing.a a.spacing.b c.in-Some.north c.in-Some-tile_of.east a.s.now c.record_of-r.result false
-        (rw c.requires.kept at r) (sym c.if-not-extents_hold.true ∙ (rw c.count-a.ensures.value at c.extents_hold.ensures)))
+    rw (
+      values-are c.requires ga gb a.series,
+      eq-eqb _ _ (rw c.count-a.ensures.value at c.if-stated-a.false),
+      eq-eqb _ _ (rw c.count-b.ensures.value at c.if-stated-b.false),
+      sym c.tile_of.ensures ∙ c.in-Some.is,
+      sym c.tile_of-2.ensures ∙ c.in-Some-tile_of.is,
+      extents-are a.series a.spacing.a a.spacing.b c.in-Some.north c.in-Some-tile_of.east a.s.now c.record_of-r.result false
+          (rw c.requires.kept at r) (sym c.if-not-extents_hold.true ∙ (rw c.count-a.ensures.value at c.extents_hold.ensures)),
+    )
 
 pub returns : goal.returns
 returns c =
@@ -96,9 +111,13 @@ returns c =
     let n = result-is c.difference-n.type_inv (rw c.count-b.ensures.value at c.difference-n.ensures) in
     let m = result-is c.difference-m.type_inv (rw c.count-a.ensures.value at c.difference-m.ensures) in
     let r = c.record_of-r.ensures ∙ ap₂ (λ (x y : ℤ). record_with x y a.values) n m in
-    rw (values-are c.requires ga gb a.series, eq-eqb _ _ (rw c.count-a.ensures.value at c.if-stated-a.false),
-    eq-eqb _ _ (rw c.count-b.ensures.value at c.if-stated-b.false), sym c.tile_of.ensures ∙ c.in-Some.is,
-    sym c.tile_of-2.ensures ∙ c.in-Some-tile_of.is,
-    extents-are a.series a.spacing.a a.spacing.b c.in-Some.north c.in-Some-tile_of.east a.s.now c.record_of-r.result true
-        (rw c.requires.kept at r) (sym c.if-not-extents_hold.false ∙ (rw c.count-a.ensures.value at c.extents_hold.ensures)))
+    rw (
+      values-are c.requires ga gb a.series,
+      eq-eqb _ _ (rw c.count-a.ensures.value at c.if-stated-a.false),
+      eq-eqb _ _ (rw c.count-b.ensures.value at c.if-stated-b.false),
+      sym c.tile_of.ensures ∙ c.in-Some.is,
+      sym c.tile_of-2.ensures ∙ c.in-Some-tile_of.is,
+      extents-are a.series a.spacing.a a.spacing.b c.in-Some.north c.in-Some-tile_of.east a.s.now c.record_of-r.result true
+          (rw c.requires.kept at r) (sym c.if-not-extents_hold.false ∙ (rw c.count-a.ensures.value at c.extents_hold.ensures)),
+    )
     (ap₂ accepted_card c.fields_of.ensures (c.blanks_in.ensures ∙ lead-total w.fill a.s.now w.long w.walks))

@@ -1,5 +1,5 @@
 -- A tile of the circle is stored within it; the count of hundredths less the limit, in 64 bits. Assumes nothing.
-use Rattle.std.proofs.Common.{◌≡◌, ℕ, ◌*◌, ◌≤◌, ap, ◌∙◌, arith, pos, ◌-ℤ◌}
+use Rattle.std.proofs.Common.{ℕ, ap, ◌∙◌, arith, pos, ◌-ℤ◌}
 use Rattle.whole.proofs.Machine.{result-is}
 use Rattle.card_text.proofs.Axes.{stored-near, stored-few}
 use Rattle.card_text.proofs.stored.angle_at.Goals as goal

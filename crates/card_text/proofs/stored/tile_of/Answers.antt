@@ -1,8 +1,7 @@
 -- The nearest tile is at most one past the circle, so no product is too large; the two bounds decide the case. Assumes nothing.
-use Rattle.std.proofs.Common.{ℕ, ◌+◌, ◌*◌, ◌≤◌, ap, sym, ◌∙◌, arith}
+use Rattle.std.proofs.Common.{sym, ◌∙◌, arith}
 use native.Mathlib.Nat.{mul-le-mul}
 use Rattle.whole.proofs.Machine.{fits-mul}
-use Rattle.card_text.specs.StepsRead.{tile_angle}
 use Rattle.card_text.proofs.Axes.{found-back, found-test}
 use Rattle.card_text.proofs.stored.tile_of.Goals as goal
 

@@ -1,6 +1,6 @@
 -- Each test decides one case of `write_in`, in its order, with the output as it was; past the tests the codes of the record
 -- are its bytes. Assumes nothing.
-use Rattle.std.proofs.Common.{◌≡◌, ℕ, List, ◌/◌, ◌≤◌, true, false, length, refl, sym, ap, ◌∙◌, arith, rules, w64, Ok, Err, le-leb}
+use Rattle.std.proofs.Common.{◌≡◌, ℕ, List, ◌/◌, ◌≤◌, true, false, length, sym, ◌∙◌, arith, rules, w64, Err, le-leb}
 use mir.Val.{SFits}
 use Rattle.std.proofs.lemmas.Result.{err_from_is_err_and}
 use Rattle.whole.proofs.Machine.{told}
