@@ -17,9 +17,8 @@ fn lengths_wrong(card: Card, index: usize, words: usize) -> bool
     ensures is { result ≡ lengths_wrong card index words }
     ensures known { Known card }
 {
-    let fields = card.fields();
-    let tiles = fields.nfl * fields.nfc;
-    if fields.tif {
+    let tiles = tiles::tiles_of(card);
+    if card.fields().tif {
         index as u64 != tiles || words as u64 != (tiles + 63) / 64
     } else {
         index != 0 || words != 0
@@ -119,8 +118,7 @@ pub fn to_list(card: Card, words: &[u64], index: &mut [u32]) -> Result<(), Refus
     if lengths_wrong(card, index.len(), words.len()) {
         return Err(Refusal::Length);
     }
-    let fields = card.fields();
-    if presence::any_set(words, fields.nfl * fields.nfc) {
+    if presence::any_set(words, tiles::tiles_of(card)) {
         return Err(Refusal::StrayBit);
     }
     set_list(words, index);

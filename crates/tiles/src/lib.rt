@@ -74,9 +74,9 @@ pub struct Window {
     pub width: u64,
 }
 
-// How many tiles an image has.
+/// How many tiles an image has, NFL × NFC.
 #[tactic(auto, using(crate::proofs::Entry::tiles_small))]
-fn tiles_of(card: Card) -> u64
+pub fn tiles_of(card: Card) -> u64
     ensures is { result ≡ tiles card }
     ensures known { Known card }
     ensures few { result ≤ 998001 }

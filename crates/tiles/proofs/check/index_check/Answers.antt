@@ -1,5 +1,5 @@
 -- The marks are cleared before the pass. Assumes nothing.
-use Rattle.std.proofs.Common.{rules, ◌≡◌, ℕ, List, ◌++◌, length, drop, replicate, Bool, true, false, sym, ap, ◌∙◌}
+use Rattle.std.proofs.Common.{rules, ◌≡◌, ℕ, List, ◌++◌, length, drop, replicate, true, false, sym, ap, ◌∙◌}
 use Rattle.tiles.proofs.Listed.{listed, filled-listed, filled-rest}
 use borrow.Author.Tests.{le-ltb}
 use Rattle.tiles.specs.Index.{index_wrong}
