@@ -13,7 +13,7 @@ use Rattle.tiles.specs.Bits.{words_length, stray_bit}
 use Rattle.tiles.specs.Corrections.{kept}
 use Rattle.tiles.specs.AsList.{list_of, Forms}
 
--- 6, of the lengths of the list and of the words
+-- Length, of the lengths of the list and of the words
 unfoldable pub lengths_wrong : Fields → ℕ → ℕ → Bool
 lengths_wrong k index_long words_long = not (eqb index_long (index_length k)) || not (eqb words_long (words_length k))
 
@@ -35,7 +35,7 @@ word_from index t (suc n) = bit_of (get_or index t 0) + 2 * word_from index (t +
 abbrev pub bits_of : List ℕ → ℕ → List ℕ
 bits_of index n = each n (λ i. word_from index (i * 64) 64 ∷ [])
 
--- 6, then 20 where the list isn't in reading order
+-- Length, then ReadingOrder where the list isn't in reading order
 unfoldable pub to_bits_of : Fields → List ℕ → List ℕ → Result Unit Refusal
 to_bits_of k index words =
     cond (lengths_wrong k (length index) (length words)) (Err Refusal.Length)
@@ -47,7 +47,7 @@ bits_left k index words = kept (to_bits_of k index words) words (bits_of index (
 
 -- ---- bits to list
 
--- 6, then 21 for a bit set past the last tile
+-- Length, then StrayBit for a bit set past the last tile
 unfoldable pub to_list_of : Fields → List ℕ → List ℕ → Result Unit Refusal
 to_list_of k words index =
     cond (lengths_wrong k (length index) (length words)) (Err Refusal.Length)

@@ -93,7 +93,8 @@ fn set_list(words: &[u64], index: &mut [u32])
     }
 }
 
-/// Writes the presence bits of a list in reading order. Refuses 6, 20 where the list is in another order; in a refusal the words stay.
+/// Writes the presence bits of a list in reading order. Refuses `Length`, then `ReadingOrder` where the list is in another order; in a refusal
+/// the words stay.
 #[tactic(auto, unfolding(crate::specs::Convert::to_bits_of, crate::specs::Convert::bits_left))]
 pub fn to_bits(card: Card, index: &[u32], words: &mut [u64]) -> Result<(), Refusal>
     ensures answer { result ≡ to_bits_of card index.now words.old }
@@ -109,7 +110,7 @@ pub fn to_bits(card: Card, index: &[u32], words: &mut [u64]) -> Result<(), Refus
     Ok(())
 }
 
-/// Writes the list of presence bits. Refuses 6, 21 for a bit past the last tile; in a refusal the list stays.
+/// Writes the list of presence bits. Refuses `Length`, then `StrayBit` for a bit past the last tile; in a refusal the list stays.
 #[tactic(auto, unfolding(crate::specs::Convert::to_list_of, crate::specs::Convert::list_left))]
 pub fn to_list(card: Card, words: &[u64], index: &mut [u32]) -> Result<(), Refusal>
     ensures answer { result ≡ to_list_of card words.now index.old }

@@ -57,7 +57,7 @@ module _ (count : ℕ) (entries m : List ℕ) where
       ∙ listed-set (mark_at entries) (mark_at (entries ++ (e ∷ []))) count (e - 1) (drop count m) (omega arith)
       (λ j r. ap (λ (b : Bool). cond b 1 0) (sym (occurs-other (j + 1) e entries (λ z. r (omega arith)))))
 
--- 15 at a place
+-- Entry at a place
 abbrev refused : ℕ → Result Unit Refusal
 refused n = Err (Refusal.Entry n)
 

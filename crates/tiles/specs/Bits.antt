@@ -22,15 +22,15 @@ use Rattle.tiles.specs.Corrections.{corrected_by}
 abbrev pub words_length : Fields → ℕ
 words_length k = cond k.tif ((tiles k + 63) / 64) 0
 
--- 6 for a wrong number of words; the count is stated as beside a list
+-- Length for a wrong number of words; the count is stated as beside a list
 unfoldable pub words_wrong : Fields → List ℕ → ℕ → Bool
 words_wrong k words count = not (eqb (length words) (words_length k)) || count_wrong k count
 
--- 6, of the words, the count or the store
+-- Length, of the words, the count or the store
 abbrev pub bits_wrong : Fields → List ℕ → ℕ → List ℕ → Bool
 bits_wrong k words count store = words_wrong k words count || not (eqb (length store) (count * tile_bytes))
 
--- 21: from the bit past the last tile's to the end of the words
+-- StrayBit: from the bit past the last tile's to the end of the words
 unfoldable pub stray_bit : Fields → List ℕ → Bool
 stray_bit k words = any_set_from words (tiles k) (length words * 64 - tiles k)
 
@@ -51,7 +51,7 @@ by_bits k words count =
 
 -- ---- without corrections
 
--- 6, 21, then 12, 13, 14, 15
+-- Length, StrayBit, then OutsideTiles, Padding, NotStored, Entry
 abbrev pub bits_number_of : Fields → List ℕ → ℕ → List ℕ → ℤ → ℤ → Result Stored Refusal
 bits_number_of k words count store r c = stored_by k (by_bits k words count) store [] r c
 
@@ -61,13 +61,13 @@ bits_part_of k words count store r c = part_by k (by_bits k words count) store [
 abbrev pub bits_bands_of : Fields → List ℕ → ℕ → List ℕ → ℤ → ℤ → Result Bands Refusal
 bits_bands_of k words count store r c = bands_by k (by_bits k words count) store [] r c
 
--- 6, 21, then 12, 15
+-- Length, StrayBit, then OutsideTiles, Entry
 abbrev pub bits_window_of : Fields → List ℕ → ℕ → ℕ → ℕ → ℕ → ℕ → Result (Option ℕ) Refusal
 bits_window_of k words count top left height width = window_by k (by_bits k words count) top left height width
 
 -- ---- with corrections beside
 
--- 6 of the base or of the corrections, 21, then 12, 13, 15 of a correction, 14, 15
+-- Length of the base or of the corrections, StrayBit, then OutsideTiles, Padding, Entry of a correction, NotStored, Entry
 abbrev pub bits_source_of : Fields → List ℕ → ℕ → List ℕ → List ℕ → ℕ → List ℕ → ℤ → ℤ → Result Stored Refusal
 bits_source_of k words count store corrections corrected second r c =
     stored_by k (corrected_by k (by_bits k words count) corrections corrected) store second r c
@@ -80,7 +80,7 @@ abbrev pub bits_either_bands_of : Fields → List ℕ → ℕ → List ℕ → L
 bits_either_bands_of k words count store corrections corrected second r c =
     bands_by k (corrected_by k (by_bits k words count) corrections corrected) store second r c
 
--- 6 of the base or of the corrections, 21, then 12, 15
+-- Length of the base or of the corrections, StrayBit, then OutsideTiles, Entry
 abbrev pub corrected_bits_window_of : Fields → List ℕ → ℕ → List ℕ → ℕ → ℕ → ℕ → ℕ → ℕ → Result (Option ℕ) Refusal
 corrected_bits_window_of k words count corrections corrected top left height width =
     window_by k (corrected_by k (by_bits k words count) corrections corrected) top left height width

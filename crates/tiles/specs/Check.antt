@@ -1,4 +1,4 @@
--- The index check: 6, then 15 at the first bad entry. Definitions, and what they are held to.
+-- The index check: Length, then Entry at the first bad entry. Definitions, and what they are held to.
 --     bad_at count index i    the entry at i is above the count, or repeats one before it
 --     first_bad count index   the first such entry's place
 --     all_named count index   each number 1 .. count occurs
@@ -27,7 +27,7 @@ abbrev pub all_named : ℕ → List ℕ → Bool
 all_named zero index = true
 all_named (suc n) index = occurs (suc n) index && all_named n index
 
--- 15 at the first bad entry; at the index length where a tile is never named
+-- Entry at the first bad entry; at the index length where a tile is never named
 abbrev pub judged : ℕ → List ℕ → Option ℕ → Result Unit Refusal
 judged count index (some i) = Err (Refusal.Entry i)
 judged count index none = cond (all_named count index) (Ok tt) (Err (Refusal.Entry (length index)))

@@ -40,7 +40,7 @@ pub record AsBase (k : Fields) (index : List ℕ) (count : ℕ) (store correctio
   pub part : either_part_of k index count store corrections corrected second r c ≡ part_of k index count store r c
   pub values : either_bands_of k index count store corrections corrected second r c ≡ bands_of k index count store r c
 
--- past the new 6, an all-zero list gives the base's answers alone
+-- past the new Length, an all-zero list gives the base's answers alone
 abbrev pub ZeroAsBase : Type 0
 ZeroAsBase =
     (k : Fields) (index : List ℕ) (count : ℕ) (store corrections : List ℕ) (corrected : ℕ) (second : List ℕ) (r c : ℤ) → Zero corrections
@@ -116,7 +116,7 @@ OtherWindows =
     → corrected_window_of k index count (set_of k corrections corrected t number) corrected top left height width
     ≡ corrected_window_of k index count corrections corrected top left height width
 
--- past 6, 12 and 13, look-ups in it answer from the new entry: that tile of the corrections store, or the base's answers alone where it is 0
+-- past Length, OutsideTiles and Padding, look-ups in it answer from the new entry: that tile of the corrections store, or the base's answers alone where it is 0
 abbrev pub FromNewEntry : Type 0
 FromNewEntry =
     (k : Fields) (index : List ℕ) (count : ℕ) (store corrections : List ℕ) (corrected : ℕ) (second : List ℕ) (t number : ℕ) (r c : ℤ)

@@ -21,7 +21,7 @@ use Rattle.tiles.specs.Window.{window_by}
 unfoldable pub list_wrong : Fields → List ℕ → ℕ → Bool
 list_wrong k corrections corrected = not (eqb (length corrections) (tiles k)) || ltb (tiles k) corrected
 
--- 6 for this list, count or store
+-- Length for this list, count or store
 unfoldable pub corrections_wrong : Fields → List ℕ → ℕ → List ℕ → Bool
 corrections_wrong k corrections corrected second =
     list_wrong k corrections corrected || not (eqb (length second) (corrected * tile_bytes))
@@ -31,7 +31,7 @@ unfoldable pub said_with : List ℕ → ℕ → (ℕ → Said) → ℕ → Said
 said_with corrections corrected says t =
     cond (eqb (get_or corrections t 0) 0) (says t) (said Source.Corrections corrected (get_or corrections t 0))
 
--- 6 of the corrections and 6 of the base, which are one refusal, then 21; corrected first
+-- Length of the corrections and Length of the base, which are one refusal, then StrayBit; corrected first
 abbrev pub corrected_by : Fields → IndexView → List ℕ → ℕ → IndexView
 corrected_by k v corrections corrected =
     record {
@@ -42,7 +42,7 @@ corrected_by k v corrections corrected =
 
 -- ---- by a list with corrections beside it
 
--- 6 of the base or of the corrections, then 12, 13, 15 of a correction, 14, 15
+-- Length of the base or of the corrections, then OutsideTiles, Padding, Entry of a correction, NotStored, Entry
 abbrev pub source_of : Fields → List ℕ → ℕ → List ℕ → List ℕ → ℕ → List ℕ → ℤ → ℤ → Result Stored Refusal
 source_of k index count store corrections corrected second r c =
     stored_by k (corrected_by k (by_list k index count) corrections corrected) store second r c
@@ -57,12 +57,12 @@ abbrev pub either_bands_of : Fields → List ℕ → ℕ → List ℕ → List �
 either_bands_of k index count store corrections corrected second r c =
     bands_by k (corrected_by k (by_list k index count) corrections corrected) store second r c
 
--- 6 of the base or of the corrections, then 12, 15: a corrected tile isn't missing
+-- Length of the base or of the corrections, then OutsideTiles, Entry: a corrected tile isn't missing
 abbrev pub corrected_window_of : Fields → List ℕ → ℕ → List ℕ → ℕ → ℕ → ℕ → ℕ → ℕ → Result (Option ℕ) Refusal
 corrected_window_of k index count corrections corrected top left height width =
     window_by k (corrected_by k (by_list k index count) corrections corrected) top left height width
 
--- the paper's number, place and values: 0 for the base store or 1 for the corrections store, and the number there
+-- number, place and values: 0 for the base store or 1 for the corrections store, and the number there
 abbrev pub source_number : Source → ℕ
 source_number Source.Base = 0
 source_number Source.Corrections = 1
@@ -73,7 +73,7 @@ source_report (Err e) = refused_with e 2
 
 -- ---- setting the entry of tile t, by its number from 0; 0 takes a correction back
 
--- 6, then 12 for a tile outside, then 15 for a number above the count
+-- Length, then OutsideTiles for a tile outside, then Entry for a number above the count
 unfoldable pub setting_of : Fields → List ℕ → ℕ → ℕ → ℕ → Result Unit Refusal
 setting_of k corrections corrected t number =
     cond (list_wrong k corrections corrected) (Err Refusal.Length)

@@ -28,7 +28,7 @@ pub record IndexView : Type 0 where
   pub check_with : List ℕ → List ℕ → Result Unit Refusal
   pub says : ℕ → Said
 
--- 6 where the lengths are wrong, else what comes after
+-- Length where the lengths are wrong, else what comes after
 abbrev pub unless_wrong : Bool → Result Unit Refusal → Result Unit Refusal
 unless_wrong wrong then = cond wrong (Err Refusal.Length) then
 
@@ -44,11 +44,11 @@ index_length k = cond k.tif (tiles k) 0
 abbrev pub count_wrong : Fields → ℕ → Bool
 count_wrong k count = cond k.tif (ltb (tiles k) count) (not (eqb count (tiles k)))
 
--- 6
+-- Length
 unfoldable pub index_wrong : Fields → List ℕ → ℕ → Bool
 index_wrong k index count = not (eqb (length index) (index_length k)) || count_wrong k count
 
--- 6, beside a store
+-- Length, beside a store
 abbrev pub store_wrong : Fields → List ℕ → ℕ → List ℕ → Bool
 store_wrong k index count store = index_wrong k index count || not (eqb (length store) (count * tile_bytes))
 

@@ -1,4 +1,4 @@
--- Looking up a pixel's tile: 6, 21, 12, 13, 14, 15. Definitions, and what they are held to.
+-- Looking up a pixel's tile: Length, StrayBit, OutsideTiles, Padding, NotStored, Entry. Definitions, and what they are held to.
 --     found_of k says r c         where a pixel's tile is stored, by what `says` has of each tile
 --     stored_by k v base second r c    what `look_up` answers, by an index and beside two stores
 --     part_by ..              the bytes that `tile` hands back, none in a refusal
@@ -20,19 +20,19 @@ use Rattle.tiles.specs.Index.{IndexView, tile_bytes, by_list, tile_of}
 abbrev pub band_bytes : ℕ
 band_bytes = 16384
 
--- 14, 15, the place of 15 being the tile
+-- NotStored, Entry, the place of Entry being the tile
 abbrev pub stored_said : ℕ → Said → Result Stored Refusal
 stored_said t (Said.Stored s) = Ok s
 stored_said t Said.Missing = Err Refusal.NotStored
 stored_said t Said.Above = Err (Refusal.Entry t)
 
--- 12, 13, 14, 15
+-- OutsideTiles, Padding, NotStored, Entry
 unfoldable pub found_of : Fields → (ℕ → Said) → ℤ → ℤ → Result Stored Refusal
 found_of k says r c = do
   _ ← verdict_of k r c
   stored_said (tile_of k (nat_abs r) (nat_abs c)) (says (tile_of k (nat_abs r) (nat_abs c)))
 
--- what the index is refused with, then 12, 13, 14, 15
+-- what the index is refused with, then OutsideTiles, Padding, NotStored, Entry
 unfoldable pub stored_by : Fields → IndexView → List ℕ → List ℕ → ℤ → ℤ → Result Stored Refusal
 stored_by k v base second r c = do
   _ ← v.check_with base second
@@ -78,7 +78,7 @@ part_of k index count store r c = part_by k (by_list k index count) store [] r c
 abbrev pub bands_of : Fields → List ℕ → ℕ → List ℕ → ℤ → ℤ → Result Bands Refusal
 bands_of k index count store r c = bands_by k (by_list k index count) store [] r c
 
--- ---- the paper's number, place and values
+-- ---- number, place and values
 
 abbrev pub number_report : Result Stored Refusal → Report
 number_report (Ok s) = answered (pos s.number ∷ [])

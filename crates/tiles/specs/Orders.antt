@@ -11,14 +11,14 @@ use Rattle.tiles.specs.Bits.{words_wrong, bits_wrong, stray_bit, said_bits, bits
 
 -- ---- look-up
 
--- 6, then 12, 13, 14, 15
+-- Length, then OutsideTiles, Padding, NotStored, Entry
 abbrev pub NumberOrder : Type 0
 NumberOrder =
     (k : Fields) (index : List ℕ) (count : ℕ) (store : List ℕ) (r c : ℤ)
     → number_of k index count store r c
     ≡ cond {A = Result Stored Refusal} (store_wrong k index count store) (Err Refusal.Length) (found_of k (said_of k index count) r c)
 
--- 6, 21, then 12, 13, 14, 15
+-- Length, StrayBit, then OutsideTiles, Padding, NotStored, Entry
 abbrev pub BitsNumberOrder : Type 0
 BitsNumberOrder =
     (k : Fields) (words : List ℕ) (count : ℕ) (store : List ℕ) (r c : ℤ)
@@ -26,7 +26,7 @@ BitsNumberOrder =
     ≡ cond {A = Result Stored Refusal} (bits_wrong k words count store) (Err Refusal.Length)
     (cond (stray_bit k words) (Err Refusal.StrayBit) (found_of k (said_bits k words count) r c))
 
--- 6 of the base, 6 of the corrections, then 12, 13, 15 of a correction, 14, 15
+-- Length of the base, Length of the corrections, then OutsideTiles, Padding, Entry of a correction, NotStored, Entry
 abbrev pub SourceOrder : Type 0
 SourceOrder =
     (k : Fields) (index : List ℕ) (count : ℕ) (store corrections : List ℕ) (corrected : ℕ) (second : List ℕ) (r c : ℤ)
@@ -35,7 +35,7 @@ SourceOrder =
     (cond (corrections_wrong k corrections corrected second) (Err Refusal.Length)
     (found_of k (said_with corrections corrected (said_of k index count)) r c))
 
--- 6 of the base, 6 of the corrections, 21, then 12, 13, 15 of a correction, 14, 15
+-- Length of the base, Length of the corrections, StrayBit, then OutsideTiles, Padding, Entry of a correction, NotStored, Entry
 abbrev pub BitsSourceOrder : Type 0
 BitsSourceOrder =
     (k : Fields) (words : List ℕ) (count : ℕ) (store corrections : List ℕ) (corrected : ℕ) (second : List ℕ) (r c : ℤ)
@@ -47,14 +47,14 @@ BitsSourceOrder =
 
 -- ---- the window
 
--- 6, then 12, 15
+-- Length, then OutsideTiles, Entry
 abbrev pub WindowOrder : Type 0
 WindowOrder =
     (k : Fields) (index : List ℕ) (count top left height width : ℕ)
     → window_of k index count top left height width
     ≡ cond {A = Result (Option ℕ) Refusal} (index_wrong k index count) (Err Refusal.Length) (view_of k (said_of k index count) top left height width)
 
--- 6, 21, then 12, 15
+-- Length, StrayBit, then OutsideTiles, Entry
 abbrev pub BitsWindowOrder : Type 0
 BitsWindowOrder =
     (k : Fields) (words : List ℕ) (count top left height width : ℕ)
@@ -62,7 +62,7 @@ BitsWindowOrder =
     ≡ cond {A = Result (Option ℕ) Refusal} (words_wrong k words count) (Err Refusal.Length)
     (cond (stray_bit k words) (Err Refusal.StrayBit) (view_of k (said_bits k words count) top left height width))
 
--- 6 of the base, 6 of the corrections, then 12, 15
+-- Length of the base, Length of the corrections, then OutsideTiles, Entry
 abbrev pub CorrectedWindowOrder : Type 0
 CorrectedWindowOrder =
     (k : Fields) (index : List ℕ) (count : ℕ) (corrections : List ℕ) (corrected top left height width : ℕ)
@@ -71,7 +71,7 @@ CorrectedWindowOrder =
     (cond (list_wrong k corrections corrected) (Err Refusal.Length)
     (view_of k (said_with corrections corrected (said_of k index count)) top left height width))
 
--- 6 of the base, 6 of the corrections, 21, then 12, 15
+-- Length of the base, Length of the corrections, StrayBit, then OutsideTiles, Entry
 abbrev pub CorrectedBitsWindowOrder : Type 0
 CorrectedBitsWindowOrder =
     (k : Fields) (words : List ℕ) (count : ℕ) (corrections : List ℕ) (corrected top left height width : ℕ)

@@ -1,4 +1,4 @@
--- A window of tiles: 6, 21, 12, then 15 where an entry above the count comes before any missing tile.
+-- A window of tiles: Length, StrayBit, OutsideTiles, then Entry where an entry above the count comes before any missing tile.
 -- Definitions, and what they are held to.
 --     window_tiles k top left height width    its tiles in reading order
 --     scan says ts           the first of them that is not stored, by what `says` has of each tile; none where all are
@@ -31,23 +31,23 @@ abbrev pub scan : (ℕ → Said) → List ℕ → Result (Option ℕ) Refusal
 scan says [] = Ok None
 scan says (t ∷ ts) = scanned t (says t) (scan says ts)
 
--- 12 for top + height above NFL or left + width above NFC
+-- OutsideTiles for top + height above NFL or left + width above NFC
 unfoldable pub view_of : Fields → (ℕ → Said) → ℕ → ℕ → ℕ → ℕ → Result (Option ℕ) Refusal
 view_of k says top left height width =
     cond (ltb k.nfl (top + height) || ltb k.nfc (left + width)) (Err Refusal.OutsideTiles)
     (scan says (window_tiles k top left height width))
 
--- what the index is refused with, then 12, 15
+-- what the index is refused with, then OutsideTiles, Entry
 unfoldable pub window_by : Fields → IndexView → ℕ → ℕ → ℕ → ℕ → Result (Option ℕ) Refusal
 window_by k v top left height width = do
   _ ← v.check
   view_of k v.says top left height width
 
--- 6, then 12, 15
+-- Length, then OutsideTiles, Entry
 abbrev pub window_of : Fields → List ℕ → ℕ → ℕ → ℕ → ℕ → ℕ → Result (Option ℕ) Refusal
 window_of k index count top left height width = window_by k (by_list k index count) top left height width
 
--- the paper's number, place and values: 1 and the tile where one is missing, 0 and 0 where none is
+-- number, place and values: 1 and the tile where one is missing, 0 and 0 where none is
 abbrev pub window_report : Result (Option ℕ) Refusal → Report
 window_report (Ok (Some t)) = answered (pos 1 ∷ pos t ∷ [])
 window_report (Ok None) = answered (pos 0 ∷ pos 0 ∷ [])

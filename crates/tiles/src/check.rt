@@ -6,7 +6,7 @@ use crate::ByList;
 use arc::Refusal;
 use card::Card;
 
-// Marks the numbers named, up to the first bad entry; the first `count` marks are 0 before. Refuses 15.
+// Marks the numbers named, up to the first bad entry; the first `count` marks are 0 before. Refuses a bad entry.
 fn mark_entries(index: &[u32], count: usize, marks: &mut [u8]) -> Result<(), Refusal>
     requires room { count ≤ length marks.old }
     requires cleared { marks.old ≡ marked count [] marks.old }
@@ -35,7 +35,9 @@ fn mark_entries(index: &[u32], count: usize, marks: &mut [u8]) -> Result<(), Ref
     Ok(())
 }
 
-// Whether each number 1 to count occurs exactly once, and which occur. Refuses 6, 15.
+/// Whether each number from 1 to the count occurs exactly once in a list; mark k − 1 is 1 where number k does, else 0. Refuses `Length`, also of marks that are
+/// fewer than the count; `Entry` at the first entry that is above the count or repeats one, and at the list's length where a number is missing; the marks then are
+/// those of the entries before, and on `Length` they stay.
 #[tactic(auto, unfolding(crate::specs::Check::check_of, crate::specs::Check::marks_of))]
 pub fn index_check(card: Card, index: &[u32], count: u64, marks: &mut [u8]) -> Result<(), Refusal>
     ensures answer { result ≡ check_of card index.now count marks.old }

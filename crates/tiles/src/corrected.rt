@@ -46,7 +46,7 @@ impl<I: TileIndex> TileIndex for Corrected<'_, I> {
 
     ghost glances = { λ i k. corrected-glance k (I.glance i.base k (I.end i.base k)) ((I.view i.base k).says) i.entries.now i.count (I.glances i.base k) };
 
-    // Its own 6 and the base's are one refusal, so that 21 comes after both.
+    // `Length` of its own or of the base is one refusal, so that `StrayBit` comes after both.
     fn check(&self, card: Card) -> Result<(), Refusal> {
         if list_wrong(card, self.entries, self.count) {
             return Err(Refusal::Length);
@@ -82,7 +82,8 @@ impl<I: TileIndex> TileIndex for Corrected<'_, I> {
     }
 }
 
-/// Sets a tile's entry in the corrections, 0 to take one back; no other is touched. Refuses 6, 12, 15; in a refusal the list stays.
+/// Sets a tile's entry in the corrections, 0 to take one back; no other is touched. Refuses `Length`, `OutsideTiles`, then `Entry` of a
+/// number above the count; in a refusal the list stays.
 #[tactic(auto, unfolding(crate::specs::Corrections::setting_of, crate::specs::Corrections::set_of))]
 pub fn set_correction(
     card: Card,

@@ -19,11 +19,11 @@ pub trait TileIndex {
     /// What a glance tells of a tile.
     ghost glance: { Self → Fields → ℕ → ℕ → Said };
 
-    /// Whether its lengths are the card's. Refuses 6, 21.
+    /// Whether its lengths are the card's. Refuses `Length`, then `StrayBit`.
     fn check(&self, card: Card) -> Result<(), Refusal>
         ensures { result ≡ (view self.now card).check };
 
-    /// The same beside the stores. Refuses 6, 21.
+    /// The same, and whether the stores are as long as its counts. Refuses `Length`, then `StrayBit`.
     fn check_with(&self, card: Card, stores: Stores<'_>) -> Result<(), Refusal>
         ensures { result ≡ (view self.now card).check_with stores.entry.base.now stores.entry.corrections.now };
 
@@ -39,7 +39,9 @@ pub trait TileIndex {
     fn glance(&self, card: Card, before: u64, tile: u32) -> Said
         ensures { result ≡ glance self.now card before tile };
 
+    /// What it says is stored lies in the store that it names.
     ghost held: { (i : Self) (k : Fields) → IsHeld k (view i k) };
 
+    /// A glance tells what it says.
     ghost glances: { (i : Self) (k : Fields) → IsGlance k (glance i k (end i k)) ((view i k).says) };
 }

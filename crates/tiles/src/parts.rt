@@ -49,7 +49,7 @@ pub struct WindowParts {
 }
 
 impl NumberParts {
-    // The paper's number, place and value.
+    /// Number, place and value of an answer, 0 where it has none.
     pub fn of(answer: Result<Stored, Refusal>) -> Self
         ensures { number_told result ≡ number_report answer }
     {
@@ -69,7 +69,7 @@ impl NumberParts {
 }
 
 impl SourceParts {
-    // The paper's number, place and values.
+    /// Number, place and values of an answer, 0 where it has none.
     pub fn of(answer: Result<Stored, Refusal>) -> Self
         ensures { source_told result ≡ source_report answer }
     {
@@ -94,7 +94,7 @@ impl SourceParts {
 }
 
 impl BandsParts {
-    // The paper's number, place and values.
+    /// Number, place and values of an answer, 0 where it has none.
     pub fn of(answer: Result<Bands, Refusal>) -> Self
         ensures { bands_told result ≡ bands_report answer }
     {
@@ -118,7 +118,7 @@ impl BandsParts {
 }
 
 impl WindowParts {
-    // The paper's number, place and values.
+    /// Number, place and values of an answer, 0 where it has none.
     pub fn of(answer: Result<Option<u64>, Refusal>) -> Self
         ensures { window_told result ≡ window_report answer }
     {

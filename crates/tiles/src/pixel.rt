@@ -21,7 +21,7 @@ fn pixel_tile(card: Card, row: i64, column: i64) -> u32
     (whole::size(row) / Tile::SIDE * card.fields().nfc + whole::size(column) / Tile::SIDE) as u32
 }
 
-// Where a pixel's tile is stored, the lengths being right. Refuses 12, 13, 15 of a correction, 14, 15.
+// Where a pixel's tile is stored, the lengths being right. Refuses `OutsideTiles`, `Padding`, `NotStored`, `Entry` at the tile.
 #[tactic(auto, unfolding(crate::specs::LookUp::found_of))]
 fn found<I: TileIndex>(card: Card, index: &I, row: i64, column: i64) -> Result<Stored, Refusal>
     ensures { result ≡ found_of card (I.view index.now card).says row column }
@@ -37,7 +37,8 @@ fn found<I: TileIndex>(card: Card, index: &I, row: i64, column: i64) -> Result<S
     }
 }
 
-/// Where a pixel's tile is stored. Refuses 6, 21 by bits, then 12, 13, 15 of a correction, 14, 15.
+/// Where a pixel's tile is stored, corrected first. Refuses `Length`, by bits `StrayBit`, then `OutsideTiles`, `Padding`, `Entry` at the tile for a correction above
+/// its count, `NotStored`, and `Entry` at the tile for a number above the count. The number lies in its store.
 #[tactic(auto, unfolding(crate::specs::LookUp::stored_by))]
 pub fn look_up<I: TileIndex>(
     card: Card,

@@ -14,7 +14,7 @@ fn reaches_past(most: u64, from: u64, length: u64) -> bool
     most < from || most - from < length
 }
 
-// The first tile of a window of the image that is not stored. Refuses 15.
+// The first tile of a window of the image that is not stored. Refuses `Entry`.
 fn missing_in<I: TileIndex>(card: Card, index: &I, window: Window) -> Result<Option<u64>, Refusal>
     requires { WindowRows card window.top window.left window.height window.width }
     ensures { result ≡ scan (I.view index.now card).says (window_tiles card window.top window.left window.height window.width) }
@@ -39,8 +39,8 @@ fn missing_in<I: TileIndex>(card: Card, index: &I, window: Window) -> Result<Opt
     Ok(missing)
 }
 
-/// The first tile of a window, in reading order, that is not stored, by its number from 0 in the image; `None` where all are, or the window is empty. Refuses 6,
-/// 21 by bits, then 12, and 15 where an entry above the count comes before any missing tile.
+/// The first tile of a window, in reading order, that is not stored, by its number from 0 in the image; `None` where all are, or the window is empty. Refuses
+/// `Length`, by bits `StrayBit`, then `OutsideTiles`, and `Entry` at a tile whose number is above the count and comes before any missing tile.
 #[tactic(auto, unfolding(crate::specs::Window::window_by, crate::specs::Window::view_of))]
 pub fn first_missing<I: TileIndex>(
     card: Card,
