@@ -1,13 +1,15 @@
 -- A list in reading order: each stored entry is how many of the entries up to it are stored. Assumes nothing.
 use Prim.Native.Nat.{ℕ, zero, suc, ◌+◌, ◌<◌}
 use native.Mathlib.Omega.{arith}
+use native.Mathlib.Numerals.{add-one}
 use native.Mathlib.Decide.{ℕ_discrete}
 use mathlib.Core.Path.{◌≡◌, refl, sym, ap, ap₂, ◌∙◌}
-use mathlib.Core.Bool.{Bool, true, false, cond, not, ◌&&◌, true≢false, and-eq-true_iff}
+use mathlib.Core.Bool.{Bool, true, false, cond, ◌&&◌, and-eq-true_iff}
 use mathlib.Core.List.{List, [], ◌∷◌}
-use borrow.Author.Tests.{eqb-true, eqb-false, eq-eqb, not-false, not-true}
+use borrow.Author.Tests.{eqb-true, eq-eqb, ne_eqb}
 use lib.Dec.{eqb}
-use lib.ListN.{length, get_or}
+use lib.ListN.{length, get_or, drop}
+use lib.Seq.{drop-cons}
 use Rattle.presence.specs.Presence.{present, counted}
 use Rattle.convert.specs.Convert.{in_order, bit_of}
 use Rattle.convert.proofs.Words.{bit-none, bit-some}
@@ -48,20 +50,17 @@ module _ (n e : ℕ) (es : List ℕ) where
       go true f = absurd (d (eqb-true e 0 f))
       go false f = refl
 
-  -- by the test that the loop makes
-  pub order-pass : not (eqb e 0) && not (eqb e (n + bit_of e)) ≡ false → in_order n (e ∷ es) ≡ in_order (n + bit_of e) es
-  order-pass = go (eqb e 0) refl
-    where
-      go : (b : Bool) → eqb e 0 ≡ b → not b && not (eqb e (n + cond b 0 1)) ≡ false → in_order n (e ∷ es) ≡ in_order (n + cond b 0 1) es
-      go true f h = let z : n ≡ n + 0 = omega arith in order-none (eqb-true e 0 f) ∙ ap (λ (m : ℕ). in_order m es) z
-      go false f h = order-some (eqb-false e 0 f) ∙ ap (λ (b : Bool). b && in_order (n + 1) es) (not-false (eqb e (n + 1)) h)
+  -- in its place, or not
+  pub order-right : (e ≡ 0 → ⊥) → e ≡ n + 1 → in_order n (e ∷ es) ≡ in_order (n + 1) es
+  order-right d s = order-some d ∙ ap (λ (b : Bool). b && in_order (n + 1) es) (eq-eqb e (n + 1) s)
 
-  pub order-stop : not (eqb e 0) && not (eqb e (n + bit_of e)) ≡ true → in_order n (e ∷ es) ≡ false
-  order-stop = go (eqb e 0) refl
-    where
-      go : (b : Bool) → eqb e 0 ≡ b → not b && not (eqb e (n + cond b 0 1)) ≡ true → in_order n (e ∷ es) ≡ false
-      go true f h = absurd (true≢false (sym h))
-      go false f h = order-some (eqb-false e 0 f) ∙ ap (λ (b : Bool). b && in_order (n + 1) es) (not-true (eqb e (n + 1)) h)
+  pub order-stop : (e ≡ 0 → ⊥) → (e ≡ n + 1 → ⊥) → in_order n (e ∷ es) ≡ false
+  order-stop d s = order-some d ∙ ap (λ (b : Bool). b && in_order (n + 1) es) (ne_eqb e (n + 1) s)
+
+-- the first of what is left
+pub order-next : (n i : ℕ) (list : List ℕ) → i < length list → in_order n (drop i list) ≡ in_order n (get_or list i 0 ∷ drop (i + 1) list)
+order-next n i list h =
+    ap (in_order n) (drop-cons list i 0 h) ∙ ap (λ (x : ℕ). in_order n (get_or list i 0 ∷ drop x list)) (sym (add-one i))
 
 -- ---- the whole list
 pub order-ordered : (n : ℕ) (list : List ℕ) → in_order n list ≡ true → Ordered n list

@@ -10,17 +10,19 @@ use native.Mathlib.Decide.{ℕ_discrete, dec_le}
 use borrow.Author.Tests.{eqb-true, eq-eqb, not-false}
 use lib.Dec.{eqb}
 use lib.ListN.{length, get_or, get_or-eq_default}
-use Rattle.arc.specs.declared.Verdict.{Verdict}
-use Rattle.arc.specs.Refusals.{refusal}
-use Rattle.presence.specs.Presence.{present, counted, number_at}
+use Rattle.std.specs.Prelude.{Result, Ok, Err}
+use Rattle.arc.specs.declared.refusal.Refusal.{Refusal}
+use Rattle.presence.specs.Presence.{present, counted, number_at, any_set_from}
 use Rattle.presence.proofs.Counted.{present-past, number-none, number-some, some_number}
 use Rattle.presence.proofs.Set.{set-none}
-use Rattle.card.specs.declared.Card.{Card}
-use Rattle.card.specs.Read.{Known}
+use Rattle.card_text.specs.declared.Fields.{Fields}
+use Rattle.card_text.specs.Read.{Known}
 use Rattle.tiles.specs.Index.{tiles, index_length}
 use Rattle.tiles.specs.Bits.{words_length, stray_bit}
 use Rattle.tiles.specs.AsList.{list_of, Forms}
-use Rattle.tiles.proofs.Entry.{neither, tiles-small}
+use Rattle.tiles.specs.Entries.{neither}
+use Rattle.tiles.proofs.Entry.{tiles_small}
+use Rattle.tiles.proofs.Forms.{stray_is}
 use Rattle.tiles.proofs.Listed.{listed-length, is-listed}
 use Rattle.tiles.proofs.AsList.{bits-have-list}
 use Rattle.convert.specs.Convert.{lengths_wrong, in_order, bit_of, word_from, bits_of, to_bits_of, bits_left, to_list_of, list_left}
@@ -29,25 +31,30 @@ use Rattle.convert.proofs.Words.{bit-none, bit-some, present-of, word-is}
 use Rattle.convert.proofs.Order.{same_count, order-ordered, ordered-order}
 
 -- ---- lengths
-pub lengths-right : (k : Card) (m n : ℕ) → lengths_wrong k m n ≡ false → (m ≡ index_length k) × (n ≡ words_length k)
+pub lengths-right : (k : Fields) (m n : ℕ) → lengths_wrong k m n ≡ false → (m ≡ index_length k) × (n ≡ words_length k)
 unfolding lengths_wrong
 lengths-right k m n e =
     let w = neither (not (eqb m (index_length k))) (not (eqb n (words_length k))) e in
     (eqb-true m (index_length k) (not-false _ w.0), eqb-true n (words_length k) (not-false _ w.1))
 
-right-lengths : (k : Card) (m n : ℕ) → m ≡ index_length k → n ≡ words_length k → lengths_wrong k m n ≡ false
+-- whether a bit is set past the last tile, as its word tells
+pub stray-told : (k : Fields) (words : List ℕ) (m : ℕ) (b : Bool) → lengths_wrong k m (length words) ≡ false
+    → b ≡ any_set_from words (tiles k) (64 - tiles k % 64) → stray_bit k words ≡ b
+stray-told k words m b r e = stray_is k words (lengths-right k m (length words) r).1 ∙ sym e
+
+right-lengths : (k : Fields) (m n : ℕ) → m ≡ index_length k → n ≡ words_length k → lengths_wrong k m n ≡ false
 unfolding lengths_wrong
 right-lengths k m n p q = rw (eq-eqb m (index_length k) p, eq-eqb n (words_length k) q)
 
 -- the list is short, and its tiles are in the words
-pub index-few : (k : Card) → Known k → index_length k ≤ 998001
+pub index-few : (k : Fields) → Known k → index_length k ≤ 998001
 index-few k w = go k.tif
   where
     go : (b : Bool) → cond b (tiles k) 0 ≤ 998001
-    go true = tiles-small k w
+    go true = tiles_small k w
     go false = omega arith
 
-enough : (k : Card) → (index_length k ≤ words_length k * 64) × (index_length k ≤ tiles k)
+enough : (k : Fields) → (index_length k ≤ words_length k * 64) × (index_length k ≤ tiles k)
 enough k = go k.tif
   where
     go : (b : Bool) → (cond b (tiles k) 0 ≤ cond b ((tiles k + 63) / 64) 0 * 64) × (cond b (tiles k) 0 ≤ tiles k)
@@ -55,18 +62,18 @@ enough k = go k.tif
     go false = (omega arith, omega arith)
 
 -- ---- what was accepted
-pub record ListTaken (k : Card) (index words : List ℕ) : Type 0 where
+pub record ListTaken (k : Fields) (index words : List ℕ) : Type 0 where
   pub index_long : length index ≡ index_length k
   pub words_long : length words ≡ words_length k
   pub order : in_order 0 index ≡ true
   pub left : bits_left k index words ≡ bits_of index (length words)
 
-to_bits : (k : Card) (index words : List ℕ) → to_bits_of k index words ≡ Verdict.Accepted → ListTaken k index words
+to_bits : (k : Fields) (index words : List ℕ) → to_bits_of k index words ≡ Ok tt → ListTaken k index words
 unfolding to_bits_of bits_left
 to_bits k index words = go (lengths_wrong k (length index) (length words)) (in_order 0 index) refl refl
   where
     go : (a b : Bool) → lengths_wrong k (length index) (length words) ≡ a → in_order 0 index ≡ b
-        → cond a (Verdict.Refused (refusal 6)) (cond b Verdict.Accepted (Verdict.Refused (refusal 20))) ≡ Verdict.Accepted
+        → cond {A = Result Unit Refusal} a (Err Refusal.Length) (cond b (Ok tt) (Err Refusal.ReadingOrder)) ≡ Ok tt
         → ListTaken k index words
     go true b p q h = let z : ◌≡◌ {A = ℕ} 0 1 = cc in absurd (omega arith)
     go false false p q h = let z : ◌≡◌ {A = ℕ} 0 1 = cc in absurd (omega arith)
@@ -74,18 +81,18 @@ to_bits k index words = go (lengths_wrong k (length index) (length words)) (in_o
         let w = lengths-right k (length index) (length words) p in
         record { index_long = w.0; words_long = w.1; order = q; left = rw (p, q) }
 
-pub record WordsTaken (k : Card) (words index : List ℕ) : Type 0 where
+pub record WordsTaken (k : Fields) (words index : List ℕ) : Type 0 where
   pub index_long : length index ≡ index_length k
   pub words_long : length words ≡ words_length k
   pub none_stray : stray_bit k words ≡ false
   pub left : list_left k words index ≡ list_of k words
 
-to-list : (k : Card) (words index : List ℕ) → to_list_of k words index ≡ Verdict.Accepted → WordsTaken k words index
+to-list : (k : Fields) (words index : List ℕ) → to_list_of k words index ≡ Ok tt → WordsTaken k words index
 unfolding to_list_of list_left
 to-list k words index = go (lengths_wrong k (length index) (length words)) (stray_bit k words) refl refl
   where
     go : (a b : Bool) → lengths_wrong k (length index) (length words) ≡ a → stray_bit k words ≡ b
-        → cond a (Verdict.Refused (refusal 6)) (cond b (Verdict.Refused (refusal 21)) Verdict.Accepted) ≡ Verdict.Accepted
+        → cond {A = Result Unit Refusal} a (Err Refusal.Length) (cond b (Err Refusal.StrayBit) (Ok tt)) ≡ Ok tt
         → WordsTaken k words index
     go true b p q h = let z : ◌≡◌ {A = ℕ} 0 1 = cc in absurd (omega arith)
     go false true p q h = let z : ◌≡◌ {A = ℕ} 0 1 = cc in absurd (omega arith)
@@ -94,7 +101,7 @@ to-list k words index = go (lengths_wrong k (length index) (length words)) (stra
         record { index_long = w.0; words_long = w.1; none_stray = q; left = rw (p, q) }
 
 -- ---- the bits of a list
-module _ (k : Card) (index : List ℕ) (n : ℕ) (l : length index ≡ index_length k) (m : n ≡ words_length k) where
+module _ (k : Fields) (index : List ℕ) (n : ℕ) (l : length index ≡ index_length k) (m : n ≡ words_length k) where
   abbrev bits : List ℕ
   bits = bits_of index n
 
@@ -162,7 +169,7 @@ number_bit words t = go (ℕ_discrete (present words t) 0)
     go (yes z) = z ∙ sym (bit-none (number_at words t) (number-none words t z))
     go (no d) = let one : present words t ≡ 1 = omega (arith, d) in one ∙ sym (bit-some (number_at words t) (some_number words t d))
 
-module _ (k : Card) (index words : List ℕ) (f : Forms k index words) where
+module _ (k : Fields) (index words : List ℕ) (f : Forms k index words) where
   forms-agree : (t : ℕ) → present words t ≡ bit_of (get_or index t 0)
   forms-agree t = number_bit words t ∙ ap bit_of (f.entries t)
 

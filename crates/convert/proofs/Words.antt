@@ -1,5 +1,5 @@
 -- Words of bits made from a list. Assumes nothing.
-use Prim.Native.Nat.{ℕ, zero, suc, ◌+◌, ◌-◌, ◌*◌, ◌/◌, ◌%◌, ◌^◌, ◌<◌}
+use Prim.Native.Nat.{ℕ, zero, suc, ◌+◌, ◌-◌, ◌*◌, ◌/◌, ◌%◌, ◌^◌, ◌<◌, ◌≤◌}
 use native.Mathlib.Omega.{arith}
 use native.Mathlib.Nat.{div-one, pow-succ', div-div-eq-div-mul}
 use mathlib.Core.Path.{◌≡◌, refl, sym, ap, ap₂, ◌∙◌}
@@ -8,6 +8,7 @@ use mathlib.Core.List.{List}
 use borrow.Author.Tests.{eq-eqb, ne_eqb}
 use lib.Dec.{eqb}
 use lib.ListN.{get_or}
+use lib.Pow.{pow_mono}
 use Rattle.presence.specs.Presence.{present}
 use Rattle.tiles.proofs.Listed.{listed_at}
 use Rattle.convert.specs.Convert.{bit_of, word_from, bits_of}
@@ -36,6 +37,11 @@ module _ (list : List ℕ) where
   unfolding word_from
   word_lt t zero = omega arith
   word_lt t (suc n) = omega (arith, pow-succ' 2 n, bit-lt (get_or list t 0), word_lt (t + 1) n)
+
+  pub word-low : (t n : ℕ) → n < 64 → word_from list t n < 2 ^ 63
+  word-low t n h =
+      let p : 2 ^ n ≤ 2 ^ 63 = pow_mono {i = n} {j = 63} (omega arith) in
+      omega (arith, p, word_lt t n)
 
   -- j bits on
   word-skip : (t j n : ℕ) → word_from list t (j + n) / 2 ^ j ≡ word_from list (t + j) n

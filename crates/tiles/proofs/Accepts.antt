@@ -9,19 +9,21 @@ use native.Mathlib.Decide.{ℕ_discrete, dec_lt}
 use borrow.Author.Tests.{le-ltb}
 use lib.ListN.{length, get_or, take}
 use lib.Seq.{get_or-take, length-take-le}
-use Rattle.arc.specs.declared.Verdict.{Verdict}
-use Rattle.card.specs.declared.Card.{Card}
+use Rattle.std.specs.Prelude.{Ok}
+use Rattle.card_text.specs.declared.Fields.{Fields}
 use Rattle.tiles.specs.declared.Said.{Said}
-use Rattle.tiles.specs.Index.{tiles, index_wrong, said_of}
+use Rattle.tiles.specs.Index.{tiles, in_base, index_wrong, said_of}
 use Rattle.whole.specs.Lists.{occurs}
 use Rattle.tiles.specs.Check.{bad_at, first_bad, judged, check_of, EachPlaced, NoneAbove, OnceAccepted}
-use Rattle.tiles.proofs.Entry.{index_long, said-above, said_in, entry_in, stored-in}
+use Rattle.tiles.specs.declared.Source.{Source}
+use Rattle.tiles.specs.Entries.{said-above}
+use Rattle.tiles.proofs.Entry.{index_long, said_in, entry_in, stored-in}
 use Rattle.tiles.proofs.First.{none_from}
 use Rattle.tiles.proofs.Counted.{occurs-at, place, each-named}
 use Rattle.tiles.proofs.Pass.{good_none, good_new}
 
 -- ---- with TIF Y
-module _ (k : Card) (index : List ℕ) (count : ℕ) (w : index_wrong k index count ≡ false) (y : k.tif ≡ true)
+module _ (k : Fields) (index : List ℕ) (count : ℕ) (w : index_wrong k index count ≡ false) (y : k.tif ≡ true)
     (a : NoneAbove k (said_of k index count)) (e : EachPlaced k (said_of k index count) count) where
   long : length index ≡ tiles k
   long = index_long k index count w y
@@ -32,7 +34,7 @@ module _ (k : Card) (index : List ℕ) (count : ℕ) (w : index_wrong k index co
       go : Dec (get_or index i 0 ≡ 0) → Dec (count < get_or index i 0) → get_or index i 0 ≤ count
       go (yes z) q = omega arith
       go (no d) (yes q) =
-          absurd (a i (omega (arith, long)) (said_in k index count i y ∙ said-above count (get_or index i 0) d q))
+          absurd (a i (omega (arith, long)) (said_in k index count i y ∙ said-above Source.Base count (get_or index i 0) d q))
       go (no d) (no q) = omega (arith, lt_of_not-le q)
 
   -- the number at i is not met before it
@@ -62,9 +64,9 @@ module _ (k : Card) (index : List ℕ) (count : ℕ) (w : index_wrong k index co
   named : (n : ℕ) → 1 ≤ n → n ≤ count → occurs n index ≡ true
   named n p q =
       let u = e n p q in
-      occurs-at index u.at n (omega (arith, u.inside, long)) (entry_in k index count u.at (Said.Stored n) y u.stores).0
+      occurs-at index u.at n (omega (arith, u.inside, long)) (entry_in k index count u.at (Said.Stored (in_base n)) y u.stores).1
 
-  pub passes : judged count index (first_bad count index) ≡ Verdict.Accepted
+  pub passes : judged count index (first_bad count index) ≡ Ok tt
   passes =
       rw (
         none_from (bad_at count index) 0 (length index) (λ j p q. good j (omega arith)),
@@ -76,6 +78,6 @@ unfolding check_of
 once-accepted k index marks count w l a e = rw (w, le-ltb (length marks) count l) (go k.tif refl)
   where
     go : (b : Bool) → k.tif ≡ b
-        → cond b (judged count index (first_bad count index)) Verdict.Accepted ≡ Verdict.Accepted
+        → cond b (judged count index (first_bad count index)) (Ok tt) ≡ Ok tt
     go true y = passes k index count w y a e
     go false y = refl

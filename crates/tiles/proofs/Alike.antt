@@ -1,11 +1,11 @@
 -- The number asks what is said of one tile, and the index for its length and one entry. Assumes nothing.
 use Rattle.tiles.specs.Index.{index_wrong, said_of}
-use Rattle.tiles.specs.LookUp.{found_of, number_of, OneTile, OneEntry}
+use Rattle.tiles.specs.LookUp.{found_of, stored_by, OneTile, OneEntry}
 
 pub one-tile : OneTile
 unfolding found_of
 one-tile k says other r c e = rw e
 
 pub one_entry : OneEntry
-unfolding number_of found_of index_wrong said_of
+unfolding stored_by found_of index_wrong said_of
 one_entry k index other count store r c e f = rw (e, f)

@@ -1,7 +1,7 @@
 -- Each tile's number by the bits is its entry, so every answer is the list's. Assumes nothing.
-use mathlib.Core.Path.{◌≡◌, sym, ap, ap₂, fun_ext, ◌∙◌}
+use mathlib.Core.Path.{◌≡◌, sym, ap, fun_ext, ◌∙◌}
 use mathlib.Core.Bool.{Bool, true, false, cond}
-use mathlib.Core.List.{List}
+use mathlib.Core.List.{List, []}
 use Prim.Native.Nat.{ℕ, ◌+◌, ◌-◌, ◌*◌, ◌/◌, ◌≤◌}
 use native.Mathlib.Omega.{arith}
 use native.Mathlib.Nat.{lt_of_not-le}
@@ -11,22 +11,20 @@ use lib.ListN.{length, get_or, get_or-eq_default}
 use Rattle.presence.specs.Presence.{present, number_at}
 use Rattle.presence.proofs.Counted.{present-past, number-none}
 use Rattle.presence.proofs.Set.{none-set}
-use Rattle.card.specs.declared.Card.{Card}
+use Rattle.card_text.specs.declared.Fields.{Fields}
 use Rattle.tiles.specs.declared.Said.{Said}
-use Rattle.tiles.specs.declared.NumberAnswer.{NumberAnswer}
-use Rattle.tiles.specs.declared.SourceAnswer.{SourceAnswer}
-use Rattle.tiles.specs.Index.{tiles, index_length, index_wrong, said, said_of}
-use Rattle.tiles.specs.LookUp.{number_of, part_in, part_of, in_band, bands_in, bands_of}
-use Rattle.tiles.specs.Window.{window_of}
-use Rattle.tiles.specs.Corrections.{number_alone, source_of, either_part, either_part_of, either_bands_of, corrected_window_of}
-use Rattle.tiles.specs.Bits.{words_length, words_wrong, stray_bit, said_bits, bits_number_of, bits_part_of, bits_bands_of, bits_window_of}
-use Rattle.tiles.specs.Bits.{bits_source_of, bits_either_part_of, bits_either_bands_of, corrected_bits_window_of}
+use Rattle.tiles.specs.declared.Source.{Source}
+use Rattle.tiles.specs.Index.{IndexView, tiles, in_base, index_length, index_wrong, said, said_of, by_list}
+use Rattle.tiles.specs.LookUp.{stored_by, part_by, bands_by}
+use Rattle.tiles.specs.Window.{window_by}
+use Rattle.tiles.specs.Corrections.{corrected_by}
+use Rattle.tiles.specs.Bits.{words_length, words_wrong, stray_bit, said_bits, by_bits}
 use Rattle.tiles.specs.AsList.{list_of, Forms, BitsHaveList, NumberAsList, PartAsList, BandsAsList, WindowAsList}
 use Rattle.tiles.specs.AsList.{SourceAsList, EitherPartAsList, EitherBandsAsList, CorrectedWindowAsList}
 use Rattle.tiles.proofs.Listed.{listed-length, listed_at}
 
 -- no bit is set past the last tile, nor past the words
-none-past : (k : Card) (words : List ℕ) → length words ≡ words_length k → stray_bit k words ≡ false → (t : ℕ) → index_length k ≤ t → present words t ≡ 0
+none-past : (k : Fields) (words : List ℕ) → length words ≡ words_length k → stray_bit k words ≡ false → (t : ℕ) → index_length k ≤ t → present words t ≡ 0
 unfolding stray_bit
 none-past k words e o t h = go k.tif e h (dec_le (length words) (t / 64))
   where
@@ -51,51 +49,43 @@ bits-have-list k words e o =
     go t (no h) = sym (listed_at (number_at words) (index_length k) t (lt_of_not-le h))
 
 -- ---- two forms of one index
-module _ (k : Card) (index words : List ℕ) (f : Forms k index words) where
+module _ (k : Fields) (index words : List ℕ) (f : Forms k index words) where
   says_same : (count : ℕ) → said_bits k words count ≡ said_of k index count
   unfolding said_bits said_of
-  says_same count = fun_ext (λ t. ap (λ (e : ℕ). cond k.tif (said count e) (Said.Stored (t + 1))) (f.entries t))
+  says_same count = fun_ext (λ t. ap (λ (e : ℕ). cond k.tif (said Source.Base count e) (Said.Stored (in_base (t + 1)))) (f.entries t))
 
   wrong-same : (count : ℕ) → words_wrong k words count ≡ index_wrong k index count
   unfolding words_wrong index_wrong
   wrong-same count = rw (eq-eqb (length words) (words_length k) f.words_long, eq-eqb (length index) (index_length k) f.index_long)
 
+  -- so they are one index
+  view-same : (count : ℕ) → by_bits k words count ≡ by_list k index count
+  view-same count = rw (wrong-same count, f.none_stray, says_same count)
+
 pub number-as-list : NumberAsList
-unfolding bits_number_of number_of
-number-as-list k index words f count store r c = rw (wrong-same k index words f count, f.none_stray, says_same k index words f count)
+number-as-list k index words f count store r c = ap (λ (v : IndexView). stored_by k v store [] r c) (view-same k index words f count)
 
 pub part-as-list : PartAsList
-unfolding bits_part_of part_of
-part-as-list k index words f count store r c = ap (λ (a : NumberAnswer). part_in a store) (number-as-list k index words f count store r c)
+part-as-list k index words f count store r c = ap (λ (v : IndexView). part_by k v store [] r c) (view-same k index words f count)
 
 pub bands-as-list : BandsAsList
-unfolding bits_bands_of bands_of
-bands-as-list k index words f count store r c =
-    ap₂ (λ (a : NumberAnswer) (p : List ℕ). bands_in a p (in_band r c)) (number-as-list k index words f count store r c)
-    (part-as-list k index words f count store r c)
+bands-as-list k index words f count store r c = ap (λ (v : IndexView). bands_by k v store [] r c) (view-same k index words f count)
 
 pub window-as-list : WindowAsList
-unfolding bits_window_of window_of
-window-as-list k index words f count top left height width = rw (wrong-same k index words f count, f.none_stray, says_same k index words f count)
+window-as-list k index words f count top left height width = ap (λ (v : IndexView). window_by k v top left height width) (view-same k index words f count)
 
 pub source-as-list : SourceAsList
-unfolding bits_source_of source_of
 source-as-list k index words f count store corrections corrected second r c =
-    rw (wrong-same k index words f count, f.none_stray, says_same k index words f count)
+    ap (λ (v : IndexView). stored_by k (corrected_by k v corrections corrected) store second r c) (view-same k index words f count)
 
 pub either-part-as-list : EitherPartAsList
-unfolding bits_either_part_of either_part_of
 either-part-as-list k index words f count store corrections corrected second r c =
-    ap (λ (a : SourceAnswer). either_part a store second) (source-as-list k index words f count store corrections corrected second r c)
+    ap (λ (v : IndexView). part_by k (corrected_by k v corrections corrected) store second r c) (view-same k index words f count)
 
 pub either-bands-as-list : EitherBandsAsList
-unfolding bits_either_bands_of either_bands_of
 either-bands-as-list k index words f count store corrections corrected second r c =
-    ap₂ (λ (a : SourceAnswer) (p : List ℕ). bands_in (number_alone a) p (in_band r c))
-    (source-as-list k index words f count store corrections corrected second r c)
-    (either-part-as-list k index words f count store corrections corrected second r c)
+    ap (λ (v : IndexView). bands_by k (corrected_by k v corrections corrected) store second r c) (view-same k index words f count)
 
 pub corrected-window-as-list : CorrectedWindowAsList
-unfolding corrected_bits_window_of corrected_window_of
 corrected-window-as-list k index words f count corrections corrected top left height width =
-    rw (wrong-same k index words f count, f.none_stray, says_same k index words f count)
+    ap (λ (v : IndexView). window_by k (corrected_by k v corrections corrected) top left height width) (view-same k index words f count)

@@ -7,12 +7,13 @@ use native.Mathlib.Nat.{add-mul, one-mul}
 use native.Mathlib.Numerals.{add-one}
 use native.Mathlib.Decide.{ℕ_discrete}
 use borrow.Author.Tests.{le-ltb}
-use Rattle.card.specs.declared.Card.{Card}
+use Rattle.card_text.specs.declared.Fields.{Fields}
 use Rattle.tiles.specs.declared.Said.{Said}
-use Rattle.tiles.specs.declared.WindowAnswer.{WindowAnswer}
+use Rattle.tiles.specs.declared.Stored.{Stored}
+use Rattle.std.specs.Prelude.{None, Ok}
 use Rattle.tiles.specs.Index.{tiles, said_of}
 use Rattle.whole.specs.Lists.{up_from}
-use Rattle.tiles.specs.Window.{window_tiles, scanned, scan, view_of, window_of, WholeView, WholeImage}
+use Rattle.tiles.specs.Window.{window_tiles, scanned, scan, view_of, window_by, WholeView, WholeImage}
 
 row-join : (t a n : ℕ) → up_from t a ++ up_from (t + a) n ≡ up_from t (a + n)
 row-join t zero n =
@@ -24,7 +25,7 @@ row-join t (suc a) n =
     let f : t + suc a ≡ t + 1 + a = omega arith in
     rw (e, f, row-join (t + 1) a n)
 
-whole-rows : (k : Card) (top height : ℕ)
+whole-rows : (k : Fields) (top height : ℕ)
     → window_tiles k top 0 height k.nfc ≡ up_from (top * k.nfc) (height * k.nfc)
 whole-rows k top zero = let e : 0 * k.nfc ≡ 0 = omega arith in rw e
 whole-rows k top (suc height) =
@@ -35,27 +36,27 @@ whole-rows k top (suc height) =
     rw (e, whole-rows k (top + 1) height, f, g, row-join (top * k.nfc) k.nfc (height * k.nfc))
 
 module _ (says : ℕ → Said) where
-  abbrev Stored : ℕ → Type 0
-  Stored t = (n : ℕ) × (says t ≡ Said.Stored n)
+  abbrev IsStored : ℕ → Type 0
+  IsStored t = (s : Stored) × (says t ≡ Said.Stored s)
 
-  scan-stored : (t n : ℕ) → scan says (up_from t n) ≡ WindowAnswer.AllStored → (j : ℕ) → t ≤ j → j < t + n → Stored j
+  scan-stored : (t n : ℕ) → scan says (up_from t n) ≡ Ok None → (j : ℕ) → t ≤ j → j < t + n → IsStored j
   scan-stored t zero e j p q = absurd (omega arith)
   scan-stored t (suc n) e j p q = go (says t) refl e (scan-stored (t + 1) n) (ℕ_discrete j t)
     where
-      go : (v : Said) → says t ≡ v → scanned t v (scan says (up_from (t + 1) n)) ≡ WindowAnswer.AllStored
-          → (scan says (up_from (t + 1) n) ≡ WindowAnswer.AllStored → (x : ℕ) → t + 1 ≤ x → x < t + 1 + n → Stored x)
-          → Dec (j ≡ t) → Stored j
+      go : (v : Said) → says t ≡ v → scanned t v (scan says (up_from (t + 1) n)) ≡ Ok None
+          → (scan says (up_from (t + 1) n) ≡ Ok None → (x : ℕ) → t + 1 ≤ x → x < t + 1 + n → IsStored x)
+          → Dec (j ≡ t) → IsStored j
       go (Said.Stored m) o w f (yes d) = (m, ap says d ∙ o)
       go (Said.Stored m) o w f (no d) = f w j (omega arith) (omega arith)
       go Said.Missing o w f d = let z : ◌≡◌ {A = ℕ} 0 1 = cc in absurd (omega arith)
       go Said.Above o w f d = let z : ◌≡◌ {A = ℕ} 0 1 = cc in absurd (omega arith)
 
-  stored-scan : (t n : ℕ) → ((j : ℕ) → t ≤ j → j < t + n → Stored j) → scan says (up_from t n) ≡ WindowAnswer.AllStored
+  stored-scan : (t n : ℕ) → ((j : ℕ) → t ≤ j → j < t + n → IsStored j) → scan says (up_from t n) ≡ Ok None
   stored-scan t zero f = refl
   stored-scan t (suc n) f =
       rw (f t (omega arith) (omega arith)).1 (stored-scan (t + 1) n (λ j p q. f j (omega arith) (omega arith)))
 
-  view-is : (k : Card) → view_of k says 0 0 k.nfl k.nfc ≡ scan says (up_from 0 (tiles k))
+  view-is : (k : Fields) → view_of k says 0 0 k.nfl k.nfc ≡ scan says (up_from 0 (tiles k))
   unfolding view_of
   view-is k =
       let z : 0 * k.nfc ≡ 0 = omega arith in
@@ -73,5 +74,5 @@ whole-view k says = (
 )
 
 pub whole-image : WholeImage
-unfolding window_of
+unfolding window_by
 whole-image k index count e = rw e (whole-view k (said_of k index count))

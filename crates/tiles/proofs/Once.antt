@@ -11,14 +11,15 @@ use borrow.Author.Tests.{ltb-false}
 use lib.Dec.{ltb, eqb}
 use lib.ListN.{length, get_or, take}
 use lib.Seq.{get_or-take, length-take-le}
-use Rattle.arc.specs.declared.Verdict.{Verdict}
-use Rattle.arc.specs.Refusals.{refusal}
-use Rattle.card.specs.declared.Card.{Card}
+use Rattle.arc.specs.declared.refusal.Refusal.{Refusal}
+use Rattle.std.specs.Prelude.{Ok, Err}
+use Rattle.card_text.specs.declared.Fields.{Fields}
 use Rattle.tiles.specs.declared.Said.{Said}
-use Rattle.tiles.specs.Index.{tiles, index_wrong, said_of}
+use Rattle.tiles.specs.Index.{tiles, in_base, index_wrong, said_of}
 use Rattle.whole.specs.Lists.{occurs}
 use Rattle.tiles.specs.Check.{bad_at, first_bad, all_named, judged, check_of, EachPlaced, NoneAbove, EachOnce, UpToCount}
-use Rattle.tiles.proofs.Entry.{neither, index_long, count-all, said_all, entry_in, stored-in}
+use Rattle.tiles.specs.Entries.{neither}
+use Rattle.tiles.proofs.Entry.{index_long, count-all, said_all, entry_in, stored-in}
 use Rattle.tiles.proofs.First.{none_of}
 use Rattle.tiles.proofs.Counted.{occurs-at, place, named-each}
 use Rattle.tiles.proofs.Pass.{bad-again}
@@ -46,27 +47,27 @@ module _ (index : List ℕ) (count : ℕ) (b : first_bad count index ≡ none) w
       go (no p) (no q) = omega (arith, lt_of_not-le p, lt_of_not-le q)
 
 -- ---- what an accepted check says
-record Checked (k : Card) (index : List ℕ) (count : ℕ) : Type 0 where
+record Checked (k : Fields) (index : List ℕ) (count : ℕ) : Type 0 where
   right : index_wrong k index count ≡ false
   passes : k.tif ≡ true → (first_bad count index ≡ none) × (all_named count index ≡ true)
 
-passed : (index : List ℕ) (count : ℕ) → judged count index (first_bad count index) ≡ Verdict.Accepted
+passed : (index : List ℕ) (count : ℕ) → judged count index (first_bad count index) ≡ Ok tt
     → (first_bad count index ≡ none) × (all_named count index ≡ true)
 passed index count = go (first_bad count index) (all_named count index) refl refl
   where
     go : (o : Option ℕ) (b : Bool) → first_bad count index ≡ o → all_named count index ≡ b
-        → judged count index o ≡ Verdict.Accepted → (first_bad count index ≡ none) × (all_named count index ≡ true)
+        → judged count index o ≡ Ok tt → (first_bad count index ≡ none) × (all_named count index ≡ true)
     go (some i) b e f h = let z : ◌≡◌ {A = ℕ} 0 1 = cc in absurd (omega arith)
     go none false e f h = let g = rw f at h in let z : ◌≡◌ {A = ℕ} 0 1 = cc in absurd (omega arith)
     go none true e f h = (e, f)
 
-checked : (k : Card) (index marks : List ℕ) (count : ℕ) → check_of k index count marks ≡ Verdict.Accepted → Checked k index count
+checked : (k : Fields) (index marks : List ℕ) (count : ℕ) → check_of k index count marks ≡ Ok tt → Checked k index count
 unfolding check_of
 checked k index marks count = go (index_wrong k index count || ltb (length marks) count) refl
   where
     go : (x : Bool) → index_wrong k index count || ltb (length marks) count ≡ x
-        → cond x (Verdict.Refused (refusal 6)) (cond k.tif (judged count index (first_bad count index)) Verdict.Accepted)
-        ≡ Verdict.Accepted → Checked k index count
+        → cond x (Err Refusal.Length) (cond k.tif (judged count index (first_bad count index)) (Ok tt))
+        ≡ Ok tt → Checked k index count
     go true e h = let z : ◌≡◌ {A = ℕ} 0 1 = cc in absurd (omega arith)
     go false e h =
         record {
@@ -74,9 +75,15 @@ checked k index marks count = go (index_wrong k index count || ltb (length marks
           passes = λ y. passed index count (rw y at h);
         }
 
+number_in : Said → ℕ
+number_in (Said.Stored s) = s.number
+number_in Said.Missing = 0
+number_in Said.Above = 0
+
 -- ---- by TIF
-module _ (k : Card) (index : List ℕ) (count : ℕ) (w : Checked k index count) where
+module _ (k : Fields) (index : List ℕ) (count : ℕ) (w : Checked k index count) where
   one_place : (y : Bool) → k.tif ≡ y → EachPlaced k (said_of k index count) count
+  unfolding number_in
   one_place true y n p q =
       let g = w.passes y in
       let r = place index n (named-each index count n g.1 p q) in
@@ -86,15 +93,15 @@ module _ (k : Card) (index : List ℕ) (count : ℕ) (w : Checked k index count)
         inside = omega (arith, r.inside);
         stores = stored-in k index count r.at n y r.holds p q;
         only = λ t h e. only-place index count g.0 t r.at n (λ z. omega arith) (omega arith) r.inside
-            (entry_in k index count t (Said.Stored n) y e).0 r.holds;
+            (entry_in k index count t (Said.Stored (in_base n)) y e).1 r.holds;
       }
   one_place false y n p q =
       record {
         at = n - 1;
         inside = omega (arith, count-all k index count w.right y);
-        stores = let s : n - 1 + 1 ≡ n = omega arith in said_all k index count (n - 1) y ∙ ap Said.Stored s;
-        only = λ t h e. let m : Said.Stored (t + 1) ≡ Said.Stored n = sym (said_all k index count t y) ∙ e in
-            let s : t + 1 ≡ n = cc in omega arith;
+        stores = let s : n - 1 + 1 ≡ n = omega arith in said_all k index count (n - 1) y ∙ ap (λ (x : ℕ). Said.Stored (in_base x)) s;
+        only = λ t h e. let m : Said.Stored (in_base (t + 1)) ≡ Said.Stored (in_base n) = sym (said_all k index count t y) ∙ e in
+            let s : t + 1 ≡ n = ap number_in m in omega arith;
       }
 
   none_above : (y : Bool) → k.tif ≡ y → NoneAbove k (said_of k index count)
@@ -106,7 +113,7 @@ module _ (k : Card) (index : List ℕ) (count : ℕ) (w : Checked k index count)
       let c = entry_in k index count t Said.Above y a in
       omega arith
   none_above false y t h a =
-      let m : Said.Stored (t + 1) ≡ Said.Above = sym (said_all k index count t y) ∙ a in
+      let m : Said.Stored (in_base (t + 1)) ≡ Said.Above = sym (said_all k index count t y) ∙ a in
       let z : ◌≡◌ {A = ℕ} 0 1 = cc in omega arith
 
 pub each-once : EachOnce

@@ -10,8 +10,8 @@ use borrow.Author.Tests.{lt-ltb, le-ltb, le-leb, lt-leb, ne_eqb}
 use lib.Dec.{ltb}
 use lib.ListN.{length, get_or, take, drop, set, length-drop, length-append, get_or-append}
 use lib.Seq.{take-suc, take-length}
-use Rattle.arc.specs.declared.Verdict.{Verdict}
-use Rattle.arc.specs.Refusals.{refusal_at}
+use Rattle.std.specs.Prelude.{Result, Ok, Err}
+use Rattle.arc.specs.declared.refusal.Refusal.{Refusal}
 use Rattle.whole.specs.Lists.{occurs, first_from, one_more}
 use Rattle.tiles.specs.Check.{bad_at, first_bad, judged, before, mark_at, marked, marks_passed}
 use Rattle.tiles.proofs.First.{first-hit, first_next, first-none}
@@ -57,6 +57,10 @@ module _ (count : ℕ) (entries m : List ℕ) where
       ∙ listed-set (mark_at entries) (mark_at (entries ++ (e ∷ []))) count (e - 1) (drop count m) (omega arith)
       (λ j r. ap (λ (b : Bool). cond b 1 0) (sym (occurs-other (j + 1) e entries (λ z. r (omega arith)))))
 
+-- Entry at a place
+abbrev refused : ℕ → Result Unit Refusal
+refused n = Err (Refusal.Entry n)
+
 -- a mark and what it marks
 mark-none : (b : Bool) → ◌≡◌ {A = ℕ} (cond b 1 0) 0 → b ≡ false
 mark-none true e = absurd (omega arith)
@@ -74,7 +78,7 @@ pub record Sofar (count : ℕ) (index m marks : List ℕ) (number i : ℕ) : Typ
   pub number_is : number ≡ counted (take i index) count
 
 -- what is answered, and what the marks then hold
-abbrev pub Ended : ℕ → List ℕ → List ℕ → List ℕ → Verdict → Type 0
+abbrev pub Ended : ℕ → List ℕ → List ℕ → List ℕ → Result Unit Refusal → Type 0
 Ended count index m marks answer =
     (answer ≡ judged count index (first_bad count index)) × (marks ≡ marks_passed count index m)
 
@@ -98,7 +102,7 @@ module _ (count : ℕ) (index m marks : List ℕ) (number i : ℕ) (w : Sofar co
     next : take (i + 1) index ≡ take i index ++ (get_or index i 0 ∷ [])
     next = ap (λ (n : ℕ). take n index) (add-one i) ∙ take-suc index i 0 h
 
-    stopped : (a : Verdict) → a ≡ Verdict.Refused (refusal_at 15 i) → bad_at count index i ≡ true
+    stopped : (a : Result Unit Refusal) → a ≡ refused i → bad_at count index i ≡ true
         → Ended count index m marks a
     stopped a e t =
         let f : first_bad count index ≡ some i = w.ahead ∙ first-hit (bad_at count index) i (length index) h t in (
@@ -117,11 +121,11 @@ module _ (count : ℕ) (index m marks : List ℕ) (number i : ℕ) (w : Sofar co
           number_is = q ∙ ap (λ (s : List ℕ). counted s count) (sym next);
         }
 
-    pub stop-above : (a : Verdict) → a ≡ Verdict.Refused (refusal_at 15 i) → count < get_or index i 0
+    pub stop-above : (a : Result Unit Refusal) → a ≡ refused i → count < get_or index i 0
         → Ended count index m marks a
     stop-above a e p = stopped a e (bad-above count index i p)
 
-    pub stop-again : (a : Verdict) → a ≡ Verdict.Refused (refusal_at 15 i) → get_or index i 0 ≤ count
+    pub stop-again : (a : Result Unit Refusal) → a ≡ refused i → get_or index i 0 ≤ count
         → (get_or index i 0 ≡ 0 → ⊥) → (get_or marks (get_or index i 0 - 1) 0 ≡ 0 → ⊥) → Ended count index m marks a
     stop-again a e p d n = stopped a e (bad-again count index i d (mark-some _ (λ z. n (seen (get_or index i 0) d p ∙ z))))
 
@@ -148,7 +152,7 @@ module _ (count : ℕ) (index m marks : List ℕ) (number i : ℕ) (w : Sofar co
     whole : take i index ≡ index
     whole = let e : i ≡ length index = omega (arith, w.inside) in ap (λ (n : ℕ). take n index) e ∙ take-length index
 
-    done : (a : Verdict) → a ≡ judged count index none → Ended count index m marks a
+    done : (a : Result Unit Refusal) → a ≡ judged count index none → Ended count index m marks a
     done a e =
         let f : first_bad count index ≡ none = w.ahead ∙ first-none (bad_at count index) i (length index) h in (
           e ∙ ap (judged count index) (sym f),
@@ -159,14 +163,12 @@ module _ (count : ℕ) (index m marks : List ℕ) (number i : ℕ) (w : Sofar co
     told : number ≡ counted index count
     told = w.number_is ∙ ap (λ (l : List ℕ). counted l count) whole
 
-    pub done-short : (a : Verdict) → a ≡ Verdict.Refused (refusal_at 15 i) → number < count → Ended count index m marks a
+    pub done-short : (a : Result Unit Refusal) → a ≡ refused (length index) → number < count → Ended count index m marks a
     done-short a e p =
-        let s : i ≡ length index = omega (arith, w.inside) in
-        done a (e ∙ ap (λ (n : ℕ). Verdict.Refused (refusal_at 15 n)) s
-        ∙ ap (λ (b : Bool). cond b Verdict.Accepted (Verdict.Refused (refusal_at 15 (length index))))
+        done a (e ∙ ap (λ (b : Bool). cond {A = Result Unit Refusal} b (Ok tt) (refused (length index)))
         (sym (named-told index count ∙ lt-leb count (counted index count) (omega (arith, told)))))
 
-    pub done_all : count ≤ number → Ended count index m marks Verdict.Accepted
-    done_all p = done Verdict.Accepted
-        (ap (λ (b : Bool). cond b Verdict.Accepted (Verdict.Refused (refusal_at 15 (length index))))
+    pub done_all : count ≤ number → Ended count index m marks (Ok tt)
+    done_all p = done (Ok tt)
+        (ap (λ (b : Bool). cond {A = Result Unit Refusal} b (Ok tt) (refused (length index)))
         (sym (named-told index count ∙ le-leb count (counted index count) (omega (arith, told)))))

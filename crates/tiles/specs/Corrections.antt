@@ -1,109 +1,90 @@
--- Corrections beside the base charts (02, E1): `corrections` is the second list, `corrected` its count, `second` the corrections store. Definitions only.
+-- Corrections beside the base charts: `corrections` is the second list, `corrected` its count, `second` the corrections store. Definitions only.
 --     list_wrong ..           the second list or its count is of the wrong length
 --     corrections_wrong ..    the second list, its count or its store is of the wrong length
 --     said_with corrections corrected says t    what is said of tile t, corrected first; `says` has it of the base
---     source_at corrections t    which of the two stores a tile is looked for in
---     sourced_of k corrections corrected says r c    the source and the number there of a pixel's tile, past the lengths
---     source_of ..            what `corrected_number` answers
---     either_part_of ..       the bytes that `corrected_tile` hands back, none in a refusal
---     either_bands_of ..      what `corrected_bands` answers: red, green, blue
---     corrected_window_of ..  what `corrected_window` answers
+--     corrected_by k v corrections corrected    an index with corrections beside it
+--     source_of, either_part_of, either_bands_of, corrected_window_of    look-up and window by a list with corrections beside it
 --     setting_of, set_of ..   what `set_correction` answers, and what the list then holds
-use Rattle.std.specs.Prelude.{ℕ, ◌*◌, List, [], ◌∷◌, Bool, cond, not, ◌||◌, ltb, leb, eqb, length, get_or, set, ℤ, pos, nat_abs}
-use Rattle.arc.specs.declared.Verdict.{Verdict}
-use Rattle.arc.specs.Refusals.{refusal, refusal_at, on_verdict, Report, answered, refused_with}
-use Rattle.card.specs.declared.Card.{Card}
+use Rattle.std.specs.Prelude.{ℕ, ◌*◌, List, [], ◌∷◌, Bool, cond, not, ◌||◌, ltb, leb, eqb, length, get_or, set, ℤ, pos, Option, Result, Ok, Err}
+use Rattle.arc.specs.declared.refusal.Refusal.{Refusal}
+use Rattle.arc.specs.Refusals.{Report, answered, refused_with}
+use Rattle.card_text.specs.declared.Fields.{Fields}
 use Rattle.tiles.specs.declared.Said.{Said}
 use Rattle.tiles.specs.declared.Source.{Source}
-use Rattle.tiles.specs.declared.NumberAnswer.{NumberAnswer}
-use Rattle.tiles.specs.declared.SourceAnswer.{SourceAnswer}
-use Rattle.tiles.specs.declared.BandsAnswer.{BandsAnswer}
-use Rattle.tiles.specs.declared.WindowAnswer.{WindowAnswer}
-use Rattle.tiles.specs.Index.{tiles, index_wrong, said, said_of, tile_of}
-use Rattle.tiles.specs.LookUp.{tile_bytes, store_wrong, found_of, part_at, in_band, bands_in}
-use Rattle.tiles.specs.Window.{view_of}
+use Rattle.tiles.specs.declared.Stored.{Stored}
+use Rattle.tiles.specs.declared.Bands.{Bands}
+use Rattle.tiles.specs.Index.{tiles, IndexView, unless_wrong, tile_bytes, said, by_list}
+use Rattle.tiles.specs.LookUp.{stored_by, part_by, bands_by}
+use Rattle.tiles.specs.Window.{window_by}
 
 -- the second list is as long as the image's tile grid, with N too; the corrected count is at most the tiles
-unfoldable pub list_wrong : Card → List ℕ → ℕ → Bool
+unfoldable pub list_wrong : Fields → List ℕ → ℕ → Bool
 list_wrong k corrections corrected = not (eqb (length corrections) (tiles k)) || ltb (tiles k) corrected
 
--- 6 for this list, count or store
-unfoldable pub corrections_wrong : Card → List ℕ → ℕ → List ℕ → Bool
+-- Length for this list, count or store
+unfoldable pub corrections_wrong : Fields → List ℕ → ℕ → List ℕ → Bool
 corrections_wrong k corrections corrected second =
     list_wrong k corrections corrected || not (eqb (length second) (corrected * tile_bytes))
 
 -- 0 means not corrected; where a correction stands, the base entry isn't consulted
 unfoldable pub said_with : List ℕ → ℕ → (ℕ → Said) → ℕ → Said
 said_with corrections corrected says t =
-    cond (eqb (get_or corrections t 0) 0) (says t) (said corrected (get_or corrections t 0))
+    cond (eqb (get_or corrections t 0) 0) (says t) (said Source.Corrections corrected (get_or corrections t 0))
 
--- from whichever of the two stores holds it, corrected first
-unfoldable pub source_at : List ℕ → ℕ → Source
-source_at corrections t = cond (eqb (get_or corrections t 0) 0) Source.Base Source.Corrections
+-- Length of the corrections and Length of the base, which are one refusal, then StrayBit; corrected first
+abbrev pub corrected_by : Fields → IndexView → List ℕ → ℕ → IndexView
+corrected_by k v corrections corrected =
+    record {
+      check = unless_wrong (list_wrong k corrections corrected) v.check;
+      check_with = λ base second. unless_wrong (corrections_wrong k corrections corrected second) (v.check_with base second);
+      says = said_with corrections corrected v.says;
+    }
 
--- a stored number, and which store it is in
-abbrev pub sourced : Source → NumberAnswer → SourceAnswer
-sourced Source.Base (NumberAnswer.Stored n) = SourceAnswer.Base n
-sourced Source.Corrections (NumberAnswer.Stored n) = SourceAnswer.Corrections n
-sourced source (NumberAnswer.Refused e) = SourceAnswer.Refused e
+-- ---- by a list with corrections beside it
 
--- the number alone
-abbrev pub number_alone : SourceAnswer → NumberAnswer
-number_alone (SourceAnswer.Base n) = NumberAnswer.Stored n
-number_alone (SourceAnswer.Corrections n) = NumberAnswer.Stored n
-number_alone (SourceAnswer.Refused e) = NumberAnswer.Refused e
-
--- 12, 13, 15 of a correction, 14, 15
-unfoldable pub sourced_of : Card → List ℕ → ℕ → (ℕ → Said) → ℤ → ℤ → SourceAnswer
-sourced_of k corrections corrected says r c =
-    sourced (source_at corrections (tile_of k (nat_abs r) (nat_abs c))) (found_of k (said_with corrections corrected says) r c)
-
--- 6 of the base, 6 of the corrections, then 12, 13, 15 of a correction, 14, 15
-unfoldable pub source_of : Card → List ℕ → ℕ → List ℕ → List ℕ → ℕ → List ℕ → ℤ → ℤ → SourceAnswer
+-- Length of the base or of the corrections, then OutsideTiles, Padding, Entry of a correction, NotStored, Entry
+abbrev pub source_of : Fields → List ℕ → ℕ → List ℕ → List ℕ → ℕ → List ℕ → ℤ → ℤ → Result Stored Refusal
 source_of k index count store corrections corrected second r c =
-    cond (store_wrong k index count store) (SourceAnswer.Refused (refusal 6))
-    (cond (corrections_wrong k corrections corrected second) (SourceAnswer.Refused (refusal 6))
-    (sourced_of k corrections corrected (said_of k index count) r c))
+    stored_by k (corrected_by k (by_list k index count) corrections corrected) store second r c
 
 -- a part of the base store or of the corrections store
-abbrev pub either_part : SourceAnswer → List ℕ → List ℕ → List ℕ
-either_part (SourceAnswer.Base n) store second = part_at n store
-either_part (SourceAnswer.Corrections n) store second = part_at n second
-either_part (SourceAnswer.Refused e) store second = []
-
-unfoldable pub either_part_of : Card → List ℕ → ℕ → List ℕ → List ℕ → ℕ → List ℕ → ℤ → ℤ → List ℕ
+abbrev pub either_part_of : Fields → List ℕ → ℕ → List ℕ → List ℕ → ℕ → List ℕ → ℤ → ℤ → List ℕ
 either_part_of k index count store corrections corrected second r c =
-    either_part (source_of k index count store corrections corrected second r c) store second
+    part_by k (corrected_by k (by_list k index count) corrections corrected) store second r c
 
 -- the three band values of that part
-unfoldable pub either_bands_of : Card → List ℕ → ℕ → List ℕ → List ℕ → ℕ → List ℕ → ℤ → ℤ → BandsAnswer
+abbrev pub either_bands_of : Fields → List ℕ → ℕ → List ℕ → List ℕ → ℕ → List ℕ → ℤ → ℤ → Result Bands Refusal
 either_bands_of k index count store corrections corrected second r c =
-    bands_in (number_alone (source_of k index count store corrections corrected second r c))
-    (either_part_of k index count store corrections corrected second r c) (in_band r c)
+    bands_by k (corrected_by k (by_list k index count) corrections corrected) store second r c
 
--- 6 of the base, 6 of the corrections, then 12, 15: a corrected tile isn't missing
-unfoldable pub corrected_window_of : Card → List ℕ → ℕ → List ℕ → ℕ → ℕ → ℕ → ℕ → ℕ → WindowAnswer
+-- Length of the base or of the corrections, then OutsideTiles, Entry: a corrected tile isn't missing
+abbrev pub corrected_window_of : Fields → List ℕ → ℕ → List ℕ → ℕ → ℕ → ℕ → ℕ → ℕ → Result (Option ℕ) Refusal
 corrected_window_of k index count corrections corrected top left height width =
-    cond (index_wrong k index count) (WindowAnswer.Refused (refusal 6))
-    (cond (list_wrong k corrections corrected) (WindowAnswer.Refused (refusal 6))
-    (view_of k (said_with corrections corrected (said_of k index count)) top left height width))
+    window_by k (corrected_by k (by_list k index count) corrections corrected) top left height width
 
--- the paper's number, place and values: 0 for the base store or 1 for the corrections store, and the number there
-abbrev pub source_report : SourceAnswer → Report
-source_report (SourceAnswer.Base n) = answered (pos 0 ∷ pos n ∷ [])
-source_report (SourceAnswer.Corrections n) = answered (pos 1 ∷ pos n ∷ [])
-source_report (SourceAnswer.Refused e) = refused_with e 2
+-- number, place and values: 0 for the base store or 1 for the corrections store, and the number there
+abbrev pub source_number : Source → ℕ
+source_number Source.Base = 0
+source_number Source.Corrections = 1
+
+abbrev pub source_report : Result Stored Refusal → Report
+source_report (Ok s) = answered (pos (source_number s.source) ∷ pos s.number ∷ [])
+source_report (Err e) = refused_with e 2
 
 -- ---- setting the entry of tile t, by its number from 0; 0 takes a correction back
 
--- 6, then 12 for a tile outside, then 15 for a number above the count
-unfoldable pub setting_of : Card → List ℕ → ℕ → ℕ → ℕ → Verdict
+-- Length, then OutsideTiles for a tile outside, then Entry for a number above the count
+unfoldable pub setting_of : Fields → List ℕ → ℕ → ℕ → ℕ → Result Unit Refusal
 setting_of k corrections corrected t number =
-    cond (list_wrong k corrections corrected) (Verdict.Refused (refusal 6))
-    (cond (leb (tiles k) t) (Verdict.Refused (refusal 12))
-    (cond (ltb corrected number) (Verdict.Refused (refusal_at 15 t)) Verdict.Accepted))
+    cond (list_wrong k corrections corrected) (Err Refusal.Length)
+    (cond (leb (tiles k) t) (Err Refusal.OutsideTiles)
+    (cond (ltb corrected number) (Err (Refusal.Entry t)) (Ok tt)))
 
--- that entry only; in a refusal the list stays
-unfoldable pub set_of : Card → List ℕ → ℕ → ℕ → ℕ → List ℕ
-set_of k corrections corrected t number =
-    on_verdict (setting_of k corrections corrected t number) (λ e. corrections) (set corrections t number)
+-- `after` where it is answered; in a refusal the list stays
+abbrev pub kept : Result Unit Refusal → List ℕ → List ℕ → List ℕ
+kept (Ok x) before after = after
+kept (Err e) before after = before
+
+-- that entry only
+unfoldable pub set_of : Fields → List ℕ → ℕ → ℕ → ℕ → List ℕ
+set_of k corrections corrected t number = kept (setting_of k corrections corrected t number) corrections (set corrections t number)

@@ -6,5 +6,8 @@ pub mod Corrections
 pub mod Corrected
 pub mod Bits
 pub mod AsList
+pub mod Orders
 pub mod Steps
+pub mod Entries
+pub mod Laws
 pub mod Parts

@@ -1,4 +1,4 @@
--- What the parts of an answer tell: the paper's number, place and values (01, "Numbers given in refusal"). Definitions only.
+-- What the parts of an answer tell: number, place and values. Definitions only.
 use Rattle.std.specs.Prelude.{[], ◌∷◌, pos}
 use Rattle.arc.specs.Refusals.{Report}
 use Rattle.tiles.specs.declared.parts.NumberParts.{NumberParts}

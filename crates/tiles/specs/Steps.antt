@@ -1,50 +1,46 @@
 -- What only the code needs: what it is held to on the way. Definitions only.
---     Window ..              what a window is bounded by, past the length checks of a list
---     WindowRows ..          what a window is bounded by
---     said_before end words t    what tile t's bit says, the stored tiles being those before `end`
---     Beside beside corrections    where there are no corrections, their list is empty
---     HeldIn answer store, Held answer store second    a number that is answered lies in its store
-use Rattle.std.specs.Prelude.{◌≡◌, ℕ, ◌+◌, ◌*◌, ◌≤◌, List, [], Bool, true, false, cond, leb, eqb, length}
-use Rattle.presence.specs.Presence.{present}
-use Rattle.card.specs.declared.Card.{Card}
-use Rattle.card.specs.Read.{Known}
+--     Lies n store           the n-th tile's bytes are in the store
+--     IsHeld k v             what an index says is stored lies in the store that is named: a law of an index
+--     kind v                 what is said of a tile, its place in a store aside
+--     IsGlance k glance says    a glance tells of each tile what is said of it, that place aside: a law of an index
+--     glance_list, glance_bits    a glance by a list; by bits, the stored tiles being those before `end`
+--     WindowRows k ..        what a window of an image is bounded by
+use Rattle.std.specs.Prelude.{◌≡◌, ℕ, ◌+◌, ◌*◌, ◌≤◌, ◌<◌, List, cond, leb, eqb, length, Ok}
+use Rattle.presence.specs.Presence.{present, within}
+use Rattle.card_text.specs.declared.Fields.{Fields}
+use Rattle.tiles.specs.declared.Stored.{Stored}
 use Rattle.tiles.specs.declared.Said.{Said}
-use Rattle.tiles.specs.declared.NumberAnswer.{NumberAnswer}
-use Rattle.tiles.specs.declared.SourceAnswer.{SourceAnswer}
-use Rattle.tiles.specs.Index.{index_wrong}
-use Rattle.tiles.specs.LookUp.{tile_bytes}
+use Rattle.tiles.specs.Index.{tiles, tile_bytes, in_base, IndexView}
+use Rattle.tiles.specs.LookUp.{store_at}
 
--- a window of an image, the lengths of the list being right
-pub record Window (k : Card) (index : List ℕ) (count top left height width : ℕ) : Type 0 where
-  pub known : Known k
-  pub right : index_wrong k index count ≡ false
-  pub down : top + height ≤ k.nfl
-  pub across : left + width ≤ k.nfc
-
--- a window of an image
-pub record WindowRows (k : Card) (top left height width : ℕ) : Type 0 where
-  pub known : Known k
-  pub down : top + height ≤ k.nfl
-  pub across : left + width ≤ k.nfc
-
--- the number is not told
-abbrev pub said_before : ℕ → List ℕ → ℕ → Said
-said_before end words t = cond (eqb (present words t) 0) Said.Missing (cond (leb end t) Said.Above (Said.Stored 0))
-
-abbrev pub Beside : Bool → List ℕ → Type 0
-Beside true corrections = Unit
-Beside false corrections = corrections ≡ []
-
--- the n-th tile's bytes are in the store
 abbrev pub Lies : ℕ → List ℕ → Type 0
 Lies n store = (1 ≤ n) × (n * tile_bytes ≤ length store)
 
-abbrev pub HeldIn : NumberAnswer → List ℕ → Type 0
-HeldIn (NumberAnswer.Stored n) store = Lies n store
-HeldIn (NumberAnswer.Refused e) store = Unit
+abbrev pub IsHeld : Fields → IndexView → Type 0
+IsHeld k v =
+    (base second : List ℕ) → v.check_with base second ≡ Ok tt → (t : ℕ) → t < tiles k → (s : Stored) → v.says t ≡ Said.Stored s
+    → Lies s.number (store_at s.source base second)
 
--- of whichever of the two stores is named
-abbrev pub Held : SourceAnswer → List ℕ → List ℕ → Type 0
-Held (SourceAnswer.Base n) store second = Lies n store
-Held (SourceAnswer.Corrections n) store second = Lies n second
-Held (SourceAnswer.Refused e) store second = Unit
+abbrev pub kind : Said → Said
+kind (Said.Stored s) = Said.Stored (in_base 0)
+kind Said.Missing = Said.Missing
+kind Said.Above = Said.Above
+
+abbrev pub IsGlance : Fields → (ℕ → Said) → (ℕ → Said) → Type 0
+IsGlance k glance says = (t : ℕ) → t < tiles k → kind (glance t) ≡ kind (says t)
+
+-- the number is not told
+abbrev pub said_before : ℕ → List ℕ → ℕ → Said
+said_before end words t = cond (eqb (present words t) 0) Said.Missing (cond (leb end t) Said.Above (Said.Stored (in_base 0)))
+
+unfoldable pub glance_bits : Fields → List ℕ → ℕ → ℕ → Said
+glance_bits k words end t = cond k.tif (said_before end words t) (Said.Stored (in_base 0))
+
+-- how far the bits are not above the count
+abbrev pub end_of : Fields → List ℕ → ℕ → ℕ
+end_of k words count = within words count (tiles k)
+
+-- a window of an image
+pub record WindowRows (k : Fields) (top left height width : ℕ) : Type 0 where
+  pub down : top + height ≤ k.nfl
+  pub across : left + width ≤ k.nfc

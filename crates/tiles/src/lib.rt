@@ -1,131 +1,120 @@
-// The tile index (002, 3.8.5; 01, "Tiles"): its check; look-up and window by the list or by presence bits (02, E7); corrections beside it (02, E1).
+//! The tile index of an image: its check; where a pixel's tile is stored, its bytes and band values, and the first missing tile of a window, by a list or by
+//! presence bits, with or without corrections beside it.
 #![tactic(auto)]
 
-ghost use Rattle.std.specs.Prelude.{◌≡◌, false, ◌<◌, length, get_or};
-ghost use Rattle.arc.specs.Refusals.{refusal_at};
-ghost use Rattle.card.specs.Read.{Known};
-ghost use Rattle.tiles.specs.Index.{tiles, index_wrong, said, said_of};
+ghost use Rattle.std.specs.Prelude.{◌≡◌, ◌≤◌, get_or};
+ghost use Rattle.card_text.specs.Read.{Known};
+ghost use Rattle.tiles.specs.declared.Source.{Source};
+ghost use Rattle.tiles.specs.Index.{tiles, count_wrong, said};
 
-use arc::Refusal;
 use card::Card;
 
-mod bit_rows;
 mod bits;
 mod check;
-mod corrected_bits;
-mod corrections;
-mod either;
-mod look_up;
+mod corrected;
+mod index;
+pub mod laws;
+mod list;
 mod parts;
+mod pixel;
 mod scan;
 
-pub use bits::{bits_bands, bits_number, bits_tile, bits_window};
+pub use bits::ByBits;
 pub use check::index_check;
-pub use corrected_bits::{
-    corrected_bits_bands, corrected_bits_number, corrected_bits_tile, corrected_bits_window,
-};
-pub use corrections::{
-    corrected_bands, corrected_number, corrected_tile, corrected_window, set_correction,
-};
-pub use look_up::{bands, stored_number, tile};
+pub use corrected::{Corrected, set_correction};
+pub use index::TileIndex;
+pub use list::ByList;
 pub use parts::{BandsParts, NumberParts, SourceParts, WindowParts};
-pub use scan::window;
+pub use pixel::{band_values, look_up, tile};
+pub use scan::first_missing;
 
-// What is said of a tile: its stored number, that it is not stored, or that its entry is above the count.
-#[derive(Clone, Copy)]
-enum Said {
-    Stored(u64),
-    Missing,
-    Above,
-}
-
-// The stored number of a tile, from 1.
-#[derive(Clone, Copy)]
-pub enum NumberAnswer {
-    Stored(u64),
-    Refused(Refusal),
-}
-
-// Which of the two stores a tile is looked for in (02, E1).
-#[derive(Clone, Copy)]
-enum Source {
+/// Which of the two stores holds a tile.
+#[derive(Clone, Copy, Debug, PartialEq, Eq, Hash)]
+pub enum Source {
     Base,
     Corrections,
 }
 
-// The stored number of a tile, from 1, in the base store or in the corrections store (02, E1).
-#[derive(Clone, Copy)]
-pub enum SourceAnswer {
-    Base(u64),
-    Corrections(u64),
-    Refused(Refusal),
+/// A stored tile: the store that holds it, and its number there, from 1.
+#[derive(Clone, Copy, Debug, PartialEq, Eq, Hash)]
+pub struct Stored {
+    pub source: Source,
+    pub number: u64,
 }
 
-// The three band values of a pixel.
+/// What an index says of a tile: where it is stored, that it is not stored, or that its entry is above the count.
 #[derive(Clone, Copy)]
-pub enum BandsAnswer {
-    Bands { red: u8, green: u8, blue: u8 },
-    Refused(Refusal),
+pub enum Said {
+    Stored(Stored),
+    Missing,
+    Above,
 }
 
-// The first tile of a window that is not stored, by its number from 0 in the image.
+/// The two stores, 49,152 bytes a tile: the base's, and the corrections', which is not looked at where no corrections are asked.
 #[derive(Clone, Copy)]
-pub enum WindowAnswer {
-    Missing(u64),
-    AllStored,
-    Refused(Refusal),
+pub struct Stores<'a> {
+    pub base: &'a [u8],
+    pub corrections: &'a [u8],
 }
 
-// Refusal 15 at an entry (01, "Numbers given in refusal").
-fn bad_entry(at: u64) -> Refusal
-    ensures { result ≡ refusal_at 15 at }
+/// The band values of a pixel.
+#[derive(Clone, Copy, Debug, PartialEq, Eq, Hash)]
+pub struct Bands {
+    pub red: u8,
+    pub green: u8,
+    pub blue: u8,
+}
+
+/// A window of tiles: its upper left tile's row and column in the image, from 0, and how many tiles it has down and across.
+#[derive(Clone, Copy, Debug, PartialEq, Eq, Hash)]
+pub struct Window {
+    pub top: u64,
+    pub left: u64,
+    pub height: u64,
+    pub width: u64,
+}
+
+/// How many tiles an image has, NFL × NFC.
+#[tactic(auto, using(crate::proofs::Entry::tiles_small))]
+pub fn tiles_of(card: Card) -> u64
+    ensures is { result ≡ tiles card }
+    ensures known { Known card }
+    ensures few { result ≤ 998001 }
 {
-    Refusal { number: 15, at }
+    let fields = card.fields();
+    fields.nfl * fields.nfc
 }
 
-// Whether the index or the count is of the wrong length (01, "Tiles").
-fn index_wrong(k: Card, index: &[u32], count: u64) -> bool
-    requires { Known k }
-    ensures { result ≡ index_wrong k index.now count }
+// Whether the count of stored tiles is not one that the image may have.
+fn count_wrong(card: Card, count: u64) -> bool
+    ensures { result ≡ count_wrong card count }
 {
-    let tiles = k.nfl * k.nfc;
-    let length = index.len() as u64;
-    if k.tif {
-        return (length != tiles) | (tiles < count);
+    if card.fields().tif {
+        tiles_of(card) < count
+    } else {
+        count != tiles_of(card)
     }
-    (length != 0) | (count != tiles)
 }
 
-// What a stored number says, 0 for a tile not stored (01, "Tiles").
-fn number_says(count: u64, n: u64) -> Said
-    ensures { result ≡ said count n }
+// What a number says, of a store of so many tiles; 0 for a tile not stored.
+fn number_says(source: Source, count: u64, number: u64) -> Said
+    ensures { result ≡ said source count number }
 {
-    if n == 0 {
+    if number == 0 {
         return Said::Missing;
     }
-    if count < n {
+    if count < number {
         return Said::Above;
     }
-    Said::Stored(n)
+    Said::Stored(Stored { source, number })
 }
 
-// What a tile's entry says, with TIF Y (01, "Tiles").
-fn entry_says(index: &[u32], count: u64, tile: u64) -> Said
-    requires { tile < length index.now }
-    ensures { result ≡ said count (get_or index.now tile 0) }
+// A tile's entry, 0 past the end of the list.
+fn entry_at(entries: &[u32], tile: u32) -> u64
+    ensures { result ≡ get_or entries.now tile 0 }
 {
-    number_says(count, index[tile as usize] as u64)
-}
-
-// What the index says of a tile, the lengths being right (01, "Tiles").
-fn index_says(k: Card, index: &[u32], count: u64, tile: u64) -> Said
-    requires known { Known k }
-    requires index_fits { index_wrong k index.now count ≡ false }
-    requires in_image { tile < tiles k }
-    ensures { result ≡ said_of k index.now count tile }
-{
-    if !k.tif {
-        return Said::Stored(tile + 1);
+    match entries.get(tile as usize) {
+        Some(&entry) => u64::from(entry),
+        None => 0,
     }
-    entry_says(index, count, tile)
 }

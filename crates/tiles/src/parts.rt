@@ -1,11 +1,12 @@
-// The answers' numbers, for callers that hand them out (01, "Numbers given in refusal").
+// The answers' numbers, for callers that hand them out.
 ghost use Rattle.std.specs.Prelude.{◌≡◌};
 ghost use Rattle.tiles.specs.LookUp.{number_report, bands_report};
 ghost use Rattle.tiles.specs.Window.{window_report};
 ghost use Rattle.tiles.specs.Corrections.{source_report};
 ghost use Rattle.tiles.specs.Parts.{number_told, source_told, bands_told, window_told};
 
-use crate::{BandsAnswer, NumberAnswer, SourceAnswer, WindowAnswer};
+use crate::{Bands, Source, Stored};
+use arc::Refusal;
 
 // Number, place and the stored number.
 #[repr(C)]
@@ -47,47 +48,44 @@ pub struct WindowParts {
     pub tile: u64,
 }
 
-impl NumberAnswer {
-    // The paper's number, place and value (01, "Numbers given in refusal").
-    pub fn into_parts(self) -> NumberParts
-        ensures { number_told result ≡ number_report self }
+impl NumberParts {
+    /// Number, place and value of an answer, 0 where it has none.
+    pub fn of(answer: Result<Stored, Refusal>) -> Self
+        ensures { number_told result ≡ number_report answer }
     {
-        match self {
-            NumberAnswer::Stored(n) => NumberParts {
+        match answer {
+            Ok(at) => NumberParts {
                 number: 0,
                 at: 0,
-                stored: n,
+                stored: at.number,
             },
-            NumberAnswer::Refused(r) => NumberParts {
-                number: r.number,
-                at: r.at,
+            Err(e) => NumberParts {
+                number: e.number(),
+                at: e.place(),
                 stored: 0,
             },
         }
     }
 }
 
-impl SourceAnswer {
-    // The paper's number, place and values (01, "Numbers given in refusal").
-    pub fn into_parts(self) -> SourceParts
-        ensures { source_told result ≡ source_report self }
+impl SourceParts {
+    /// Number, place and values of an answer, 0 where it has none.
+    pub fn of(answer: Result<Stored, Refusal>) -> Self
+        ensures { source_told result ≡ source_report answer }
     {
-        match self {
-            SourceAnswer::Base(n) => SourceParts {
+        match answer {
+            Ok(at) => SourceParts {
                 number: 0,
                 at: 0,
-                source: 0,
-                stored: n,
+                source: match at.source {
+                    Source::Base => 0,
+                    Source::Corrections => 1,
+                },
+                stored: at.number,
             },
-            SourceAnswer::Corrections(n) => SourceParts {
-                number: 0,
-                at: 0,
-                source: 1,
-                stored: n,
-            },
-            SourceAnswer::Refused(r) => SourceParts {
-                number: r.number,
-                at: r.at,
+            Err(e) => SourceParts {
+                number: e.number(),
+                at: e.place(),
                 source: 0,
                 stored: 0,
             },
@@ -95,22 +93,22 @@ impl SourceAnswer {
     }
 }
 
-impl BandsAnswer {
-    // The paper's number, place and values (01, "Numbers given in refusal").
-    pub fn into_parts(self) -> BandsParts
-        ensures { bands_told result ≡ bands_report self }
+impl BandsParts {
+    /// Number, place and values of an answer, 0 where it has none.
+    pub fn of(answer: Result<Bands, Refusal>) -> Self
+        ensures { bands_told result ≡ bands_report answer }
     {
-        match self {
-            BandsAnswer::Bands { red, green, blue } => BandsParts {
+        match answer {
+            Ok(bands) => BandsParts {
                 number: 0,
                 at: 0,
-                red,
-                green,
-                blue,
+                red: bands.red,
+                green: bands.green,
+                blue: bands.blue,
             },
-            BandsAnswer::Refused(r) => BandsParts {
-                number: r.number,
-                at: r.at,
+            Err(e) => BandsParts {
+                number: e.number(),
+                at: e.place(),
                 red: 0,
                 green: 0,
                 blue: 0,
@@ -119,27 +117,27 @@ impl BandsAnswer {
     }
 }
 
-impl WindowAnswer {
-    // The paper's number, place and values (01, "Numbers given in refusal").
-    pub fn into_parts(self) -> WindowParts
-        ensures { window_told result ≡ window_report self }
+impl WindowParts {
+    /// Number, place and values of an answer, 0 where it has none.
+    pub fn of(answer: Result<Option<u64>, Refusal>) -> Self
+        ensures { window_told result ≡ window_report answer }
     {
-        match self {
-            WindowAnswer::Missing(t) => WindowParts {
+        match answer {
+            Ok(Some(tile)) => WindowParts {
                 number: 0,
                 at: 0,
                 missing: 1,
-                tile: t,
+                tile,
             },
-            WindowAnswer::AllStored => WindowParts {
+            Ok(None) => WindowParts {
                 number: 0,
                 at: 0,
                 missing: 0,
                 tile: 0,
             },
-            WindowAnswer::Refused(r) => WindowParts {
-                number: r.number,
-                at: r.at,
+            Err(e) => WindowParts {
+                number: e.number(),
+                at: e.place(),
                 missing: 0,
                 tile: 0,
             },

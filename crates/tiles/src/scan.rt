@@ -1,108 +1,60 @@
-// The window of tiles (01, "Tiles").
-ghost use Rattle.std.specs.Prelude.{◌≡◌, false, ◌+◌, ltb};
-ghost use Rattle.card.specs.Read.{Known};
-ghost use Rattle.tiles.specs.Index.{index_wrong, said_of};
-ghost use Rattle.tiles.specs.Window.{window_tiles, scan, view_of, window_of};
-ghost use Rattle.tiles.specs.Corrections.{said_with};
-ghost use Rattle.tiles.specs.Steps.{Window};
+// The window of tiles.
+ghost use Rattle.std.specs.Prelude.{◌≡◌, ◌+◌, ltb};
+ghost use Rattle.tiles.specs.Window.{window_tiles, scan, window_by};
+ghost use Rattle.tiles.specs.Steps.{WindowRows};
 
-use crate::either::tile_says;
-use crate::{Said, WindowAnswer, bad_entry, index_wrong};
+use crate::{Said, TileIndex, Window};
+use arc::Refusal;
 use card::Card;
 
-// Whether from + length is above most (01, "Numbers given in refusal").
-pub fn reaches_past(most: u64, from: u64, length: u64) -> bool
+// Whether from + length is above most.
+fn reaches_past(most: u64, from: u64, length: u64) -> bool
     ensures { result ≡ ltb most (from + length) }
 {
-    if most < from {
-        return true;
-    }
-    most - from < length
+    most < from || most - from < length
 }
 
-// The first tile of a window that is not stored, corrected tiles passed (01, "Tiles"; 02, E1). Refuses 15.
-fn first_missing(
-    k: Card,
-    index: &[u32],
-    count: u64,
-    corrections: &[u32],
-    corrected: u64,
-    top: u64,
-    left: u64,
-    height: u64,
-    width: u64,
-) -> WindowAnswer
-    requires { Window k index.now count top left height width }
-    ensures { result ≡ scan (said_with corrections.now corrected (said_of k index.now count)) (window_tiles k top left height width) }
+// The first tile of a window of the image that is not stored. Refuses `Entry`.
+fn missing_in<I: TileIndex>(card: Card, index: &I, window: Window) -> Result<Option<u64>, Refusal>
+    requires { WindowRows card window.top window.left window.height window.width }
+    ensures { result ≡ scan (I.view index.now card).says (window_tiles card window.top window.left window.height window.width) }
 {
-    let mut answer = WindowAnswer::AllStored;
-    'rows: for r in 0..height {
-        let start = (top + r) * k.nfc + left;
-        for c in 0..width {
+    let across = card.fields().nfc;
+    let end = index.end(card);
+    let mut missing = None;
+    'rows: for r in 0..window.height {
+        let start = (window.top + r) * across + window.left;
+        for c in 0..window.width {
             let tile = start + c;
-            match tile_says(k, index, count, corrections, corrected, tile) {
+            match index.glance(card, end, tile as u32) {
                 Said::Stored(_) => {}
                 Said::Missing => {
-                    answer = WindowAnswer::Missing(tile);
+                    missing = Some(tile);
                     break 'rows;
                 }
-                Said::Above => {
-                    answer = WindowAnswer::Refused(bad_entry(tile));
-                    break 'rows;
-                }
+                Said::Above => return Err(Refusal::Entry { at: tile }),
             }
         }
     }
-    answer
+    Ok(missing)
 }
 
-// The window, the lengths of the base being right (01, "Tiles"; 02, E1). Refuses 12, 15.
-pub fn view(
-    k: Card,
-    index: &[u32],
-    count: u64,
-    corrections: &[u32],
-    corrected: u64,
-    top: u64,
-    left: u64,
-    height: u64,
-    width: u64,
-) -> WindowAnswer
-    requires known { Known k }
-    requires index_fits { index_wrong k index.now count ≡ false }
-    ensures { result ≡ view_of k (said_with corrections.now corrected (said_of k index.now count)) top left height width }
+/// The first tile of a window, in reading order, that is not stored, by its number from 0 in the image; `None` where all are, or the window is empty. Refuses
+/// `Length`, by bits `StrayBit`, then `OutsideTiles`, and `Entry` at a tile whose number is above the count and comes before any missing tile.
+#[tactic(auto, unfolding(crate::specs::Window::window_by, crate::specs::Window::view_of))]
+pub fn first_missing<I: TileIndex>(
+    card: Card,
+    index: &I,
+    window: Window,
+) -> Result<Option<u64>, Refusal>
+    ensures { result ≡ window_by card (I.view index.now card) window.top window.left window.height window.width }
 {
-    if reaches_past(k.nfl, top, height) | reaches_past(k.nfc, left, width) {
-        return WindowAnswer::Refused(arc::refused(12));
+    index.check(card)?;
+    let fields = card.fields();
+    if reaches_past(fields.nfl, window.top, window.height)
+        || reaches_past(fields.nfc, window.left, window.width)
+    {
+        return Err(Refusal::OutsideTiles);
     }
-    first_missing(
-        k,
-        index,
-        count,
-        corrections,
-        corrected,
-        top,
-        left,
-        height,
-        width,
-    )
-}
-
-// The first tile of a window, in reading order, that is not stored (01, "Tiles"). Refuses 6, 12, 15.
-pub fn window(
-    k: Card,
-    index: &[u32],
-    count: u64,
-    top: u64,
-    left: u64,
-    height: u64,
-    width: u64,
-) -> WindowAnswer
-    requires { Known k }
-    ensures { result ≡ window_of k index.now count top left height width }
-{
-    if index_wrong(k, index, count) {
-        return WindowAnswer::Refused(arc::refused(6));
-    }
-    view(k, index, count, &index[0..0], 0, top, left, height, width)
+    missing_in(card, index, window)
 }
