@@ -1,3 +1,2 @@
 pub mod Questions
 pub mod FactorOne
-pub mod KnownCards

@@ -3,7 +3,6 @@ ghost use Rattle.fordcask.specs.FactorOne.{FactorOne};
 ghost use Rattle.fordcask.specs.InStore.{TileIsPart, BitsTileIsPart, CorrectedTileIsPart, CorrectedBitsTileIsPart};
 
 /// The bytes that a tile's block names are the part of the store that look-up hands back.
-#[tactic(auto, using(crate::proofs::Questions::claims))]
 pub fn blocks_name_parts()
     ensures list { TileIsPart }
     ensures bits { BitsTileIsPart }

@@ -1,18 +1,18 @@
--- A stored number's tile lies in the store that is named. Assumes nothing.
-use Rattle.std.proofs.Common.{◌^◌, ◌<◌, length, sym, subst, ◌∙◌, arith}
-use Rattle.card.proofs.Answers.{pair-asked}
-use Rattle.tiles.specs.declared.SourceAnswer.{SourceAnswer}
+-- A stored tile lies in its store, whose length is below 2^64. Assumes nothing.
+use Rattle.std.proofs.Common.{rules, ◌≡◌, ◌^◌, ◌<◌, length, [], sym, subst, arith}
+use Rattle.card.specs.Read.{card_read}
 use Rattle.tiles.specs.Bits.{bits_source_of}
-use Rattle.tiles.specs.Steps.{Held}
-use Rattle.tiles.proofs.Held.{bits-source-in-store}
-use Rattle.fordcask.proofs.Questions.{from-source}
+use Rattle.tiles.specs.Bits.{by_bits}
+use Rattle.tiles.specs.Corrections.{corrected_by}
+use Rattle.tiles.specs.Laws.{corrected-held, bits-held}
+use Rattle.fordcask.specs.Entry.{asked}
+use Rattle.fordcask.specs.Steps.{Numbered}
+use Rattle.fordcask.proofs.Questions.{numbered}
 use Rattle.fordcask.proofs.corrected_bits.fordcask_corrected_bits_tile.Goals as goal
 
-pub source_tile-requires : goal.source_tile-requires
-source_tile-requires c =
+pub corrected_tile_block-requires : goal.corrected_tile_block-requires
+corrected_tile_block-requires c =
     let a = c.args in
     let b : length a.store.now < 2 ^ 64 = omega (arith, c.well_formed) in
-    let d : length a.second.now < 2 ^ 64 = omega (arith, c.well_formed) in
-    let e = c.corrected_bits_number.ensures ∙ pair-asked (bits_source_of _ _ _ _ _ _ _) c.ranges.row c.ranges.column in
-    from-source c.corrected_bits_number.result a.store.now a.second.now b d
-    (subst (λ (x : SourceAnswer). Held x a.store.now a.second.now) (sym e) (bits-source-in-store _ _ _ _ _ _ _ _ _))
+    let e : c.on_card.result ≡ asked (card_read a.series a.card.now) (λ k. bits_source_of k a.words.now a.count a.store.now a.corrections.now a.corrected a.second.now a.row a.column) = search rules in
+    subst Numbered (sym e) (numbered (card_read a.series a.card.now) (λ k. corrected_by k (by_bits k a.words.now a.count) a.corrections.now a.corrected) a.store.now a.second.now a.row a.column b (omega (arith, c.well_formed)) (λ k. corrected-held k (by_bits k a.words.now a.count) a.corrections.now a.corrected (bits-held k a.words.now a.count)))

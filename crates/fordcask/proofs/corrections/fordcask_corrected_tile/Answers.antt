@@ -1,18 +1,18 @@
--- A stored number's tile lies in the store that is named. Assumes nothing.
-use Rattle.std.proofs.Common.{◌^◌, ◌<◌, length, sym, subst, ◌∙◌, arith}
-use Rattle.card.proofs.Answers.{pair-asked}
-use Rattle.tiles.specs.declared.SourceAnswer.{SourceAnswer}
+-- A stored tile lies in its store, whose length is below 2^64. Assumes nothing.
+use Rattle.std.proofs.Common.{rules, ◌≡◌, ◌^◌, ◌<◌, length, [], sym, subst, arith}
+use Rattle.card.specs.Read.{card_read}
 use Rattle.tiles.specs.Corrections.{source_of}
-use Rattle.tiles.specs.Steps.{Held}
-use Rattle.tiles.proofs.Held.{source-in-store}
-use Rattle.fordcask.proofs.Questions.{from-source}
+use Rattle.tiles.specs.Index.{by_list}
+use Rattle.tiles.specs.Corrections.{corrected_by}
+use Rattle.tiles.specs.Laws.{corrected-held, list-held}
+use Rattle.fordcask.specs.Entry.{asked}
+use Rattle.fordcask.specs.Steps.{Numbered}
+use Rattle.fordcask.proofs.Questions.{numbered}
 use Rattle.fordcask.proofs.corrections.fordcask_corrected_tile.Goals as goal
 
-pub source_tile-requires : goal.source_tile-requires
-source_tile-requires c =
+pub corrected_tile_block-requires : goal.corrected_tile_block-requires
+corrected_tile_block-requires c =
     let a = c.args in
     let b : length a.store.now < 2 ^ 64 = omega (arith, c.well_formed) in
-    let d : length a.second.now < 2 ^ 64 = omega (arith, c.well_formed) in
-    let e = c.corrected_number.ensures ∙ pair-asked (source_of _ _ _ _ _ _ _) c.ranges.row c.ranges.column in
-    from-source c.corrected_number.result a.store.now a.second.now b d
-    (subst (λ (x : SourceAnswer). Held x a.store.now a.second.now) (sym e) (source-in-store _ _ _ _ _ _ _ _ _))
+    let e : c.on_card.result ≡ asked (card_read a.series a.card.now) (λ k. source_of k a.index.now a.count a.store.now a.corrections.now a.corrected a.second.now a.row a.column) = search rules in
+    subst Numbered (sym e) (numbered (card_read a.series a.card.now) (λ k. corrected_by k (by_list k a.index.now a.count) a.corrections.now a.corrected) a.store.now a.second.now a.row a.column b (omega (arith, c.well_formed)) (λ k. corrected-held k (by_list k a.index.now a.count) a.corrections.now a.corrected (list-held k a.index.now a.count)))
