@@ -13,7 +13,8 @@ use Rattle.std.specs.Prelude.{Some, None, Ok}
 use Rattle.whole.specs.Whole.{near, outside, raise}
 use Rattle.whole.proofs.Signed.{is-unique, is-difference, is-raise, is-size, equal_is, raise-high, inside-size}
 use Rattle.arc.specs.Zones.{circle, half, quarter}
-use Rattle.card.specs.Grid.{in_tiles, in_chart, verdict_of, at_position, at_pixel, position_of, latitude_of, longitude_of, pixel_of, pixel_at, row_of, column_of}
+use Rattle.card.specs.Grid.{in_tiles, in_chart, verdict_of, at_position, at_pixel, position_of}
+use Rattle.card.specs.Grid.{latitude_of, longitude_of, pixel_of, pixel_at, row_of, column_of}
 use Rattle.card.specs.Steps.{inward}
 use Rattle.card.proofs.Answers.{accepted-in, pair-asked, cast_fits, cast-below, cast_same}
 use Rattle.card.proofs.Axes.{down-high, latitude-is, longitude-is}

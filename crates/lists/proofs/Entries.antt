@@ -33,7 +33,8 @@ module _ (f : ℕ → Report) (n : ℕ) (num : List ℕ) (room : n ≤ length nu
   skip-one b h z =
       let xs : List ℕ = report_numbers b f in
       let long : b ≡ length xs = omega (arith, numbers-length f b) in
-      let none : get_or clean b 0 ≡ 0 = get_or-append (replicate n 0) (drop n num) 0 b (omega (arith, length-replicate {A = ℕ} n 0)) ∙ get_or-replicate n b 0 0 h in
+      let none : get_or clean b 0 ≡ 0 =
+      get_or-append (replicate n 0) (drop n num) 0 b (omega (arith, length-replicate {A = ℕ} n 0)) ∙ get_or-replicate n b 0 0 h in
       let next : report_numbers (b + 1) f ≡ xs ++ 0 ∷ [] = ap (λ (k : ℕ). report_numbers k f) (add-one b) ∙ ap (λ (k : ℕ). xs ++ k ∷ []) z in
       let longer : length (xs ++ 0 ∷ []) ≡ suc b = length-append xs (0 ∷ []) ∙ omega (arith, long) in
       ap (λ (s : List ℕ). over s clean) next

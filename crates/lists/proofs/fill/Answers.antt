@@ -9,7 +9,8 @@ pub loop-i-init : goal.loop-i-init
 loop-i-init c =
     let n : ℕ = length c.args.list.now / 2 in
     let nums : List ℕ = c.args.numbers.now in
-    let long : length (take n nums) ≡ n = length-take n nums ∙ omega (arith, room (length c.args.list.now) (length c.args.values.now) (length nums) c.requires) in
+    let long : length (take n nums) ≡ n =
+    length-take n nums ∙ omega (arith, room (length c.args.list.now) (length c.args.values.now) (length nums) c.requires) in
     let cleared : c.fill.new.self ≡ replicate n 0 = c.fill.ensures.after (λ y e. e) ∙ ap (λ (k : ℕ). replicate k 0) long in
     filled_first _ _ _ _ c.requires c.fill_charted-i.ensures (ap (λ (s : List ℕ). s ++ drop n nums) cleared)
 

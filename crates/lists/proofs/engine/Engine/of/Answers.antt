@@ -38,5 +38,6 @@ pub invariant_of-result : goal.invariant_of-result
 unfolding engine_of
 invariant_of-result c = record {
   known = rw c.fields-fields.ensures.value at c.fields-fields.ensures.known;
-  same = rw (c.across_of-across.ensures, c.down_of-down.ensures, c.of-columns.ensures, c.of-rows.ensures, c.fields-fields.ensures.value, c.inward-shift.ensures);
+  same =
+      rw (c.across_of-across.ensures, c.down_of-down.ensures, c.of-columns.ensures, c.of-rows.ensures, c.fields-fields.ensures.value, c.inward-shift.ensures);
 }
