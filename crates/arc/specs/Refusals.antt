@@ -1,15 +1,10 @@
 -- What a refusal is called where numbers are handed out, and what is handed out of any answer. Definitions, and what they are held to.
 --     number_of r        the refusal's number
 --     place_of r         the subfield or the entry that is refused, and else 0
---     number_in v        the number of a verdict's refusal, 0 where accepted
---     place_in v         its place, 0 where accepted
---     on_verdict v f x   f of the refusal, else x
 --     answered vs        a report that refuses nothing, with the value parts vs
 --     refused_with r k   the report of a refusal, its k value parts 0
---     report_in v n l    the report of a verdict with a length and slots
-use Rattle.std.specs.Prelude.{◌≡◌, ◌≢◌, ℕ, List, ◌∷◌, map, replicate, ℤ, pos}
+use Rattle.std.specs.Prelude.{◌≡◌, ◌≢◌, ℕ, List, replicate, ℤ, pos}
 use Rattle.arc.specs.declared.refusal.Refusal.{Refusal}
-use Rattle.arc.specs.declared.refusal.Verdict.{Verdict}
 
 abbrev pub number_of : Refusal → ℕ
 number_of Refusal.Scale = 1
@@ -39,19 +34,6 @@ place_of (Refusal.Value at) = at
 place_of (Refusal.Entry at) = at
 place_of _ = 0
 
-abbrev pub number_in : Verdict → ℕ
-number_in Verdict.Accepted = 0
-number_in (Verdict.Refused r) = number_of r
-
-abbrev pub place_in : Verdict → ℕ
-place_in Verdict.Accepted = 0
-place_in (Verdict.Refused r) = place_of r
-
--- what was refused before comes first
-abbrev pub on_verdict : {A : Type 0} → Verdict → (Refusal → A) → A → A
-on_verdict Verdict.Accepted f x = x
-on_verdict (Verdict.Refused r) f x = f r
-
 -- number of the refusal (0 where there is none), place and value parts
 pub record Report : Type 0 where
   pub number : ℕ
@@ -64,10 +46,6 @@ answered vs = record { number = 0; place = 0; values = vs }
 -- value parts are 0 in a refusal
 abbrev pub refused_with : Refusal → ℕ → Report
 refused_with r k = record { number = number_of r; place = place_of r; values = replicate k (pos 0) }
-
--- a length and the slots are the values
-abbrev pub report_in : Verdict → ℕ → List ℕ → Report
-report_in v n l = record { number = number_in v; place = place_in v; values = map pos (n ∷ l) }
 
 -- ---- what the numbers are held to: proved in proofs/Refused.antt
 

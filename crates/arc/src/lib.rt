@@ -9,7 +9,7 @@ mod units;
 mod zone;
 mod zone_table;
 
-pub use refusal::{Refusal, Verdict};
+pub use refusal::Refusal;
 pub use scale::{Pixels, Scale};
 pub use series::{Series, Spacing, b_constant};
 pub use units::{Circle, Overlap, Scales, Tile, is_polar, is_scale};

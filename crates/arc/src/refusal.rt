@@ -1,4 +1,4 @@
-// Why a question is not answered, and an answer that is no more than yes or a refusal.
+// Why a question is not answered.
 ghost use Rattle.std.specs.Prelude.{◌≡◌};
 
 use std::error::Error;
@@ -119,34 +119,3 @@ impl fmt::Display for Refusal {
 }
 
 impl Error for Refusal {}
-
-/// An answer with no value, or whose value holds an array and so stands beside it.
-#[derive(Clone, Copy, Debug, PartialEq, Eq)]
-pub enum Verdict {
-    Accepted,
-    Refused(Refusal),
-}
-
-impl Verdict {
-    ghost use Rattle.arc.specs.Refusals.{number_in, place_in};
-
-    /// The number of the refusal, 0 where accepted.
-    pub fn number(self) -> u32
-        ensures { result ≡ number_in self }
-    {
-        match self {
-            Verdict::Accepted => 0,
-            Verdict::Refused(refusal) => refusal.number(),
-        }
-    }
-
-    /// The place of the refusal, 0 where accepted.
-    pub fn place(self) -> u64
-        ensures { result ≡ place_in self }
-    {
-        match self {
-            Verdict::Accepted => 0,
-            Verdict::Refused(refusal) => refusal.place(),
-        }
-    }
-}

@@ -4,11 +4,11 @@
 //! Lent bytes are `*`, lent numbers 7. In the store's k-th tile each red byte is k, each green byte its row, each blue byte 128 + its column.
 #![tactic(auto)]
 
-ghost use Rattle.std.specs.Prelude.{◌≡◌, ◌≤◌, length, IfOk};
+ghost use Rattle.std.specs.Prelude.{◌≡◌, length};
 
 use fault::Fault;
 use std::io;
-use std::io::{Read, Write};
+use std::io::Write;
 
 mod cards;
 mod corrected;
@@ -65,31 +65,15 @@ fn sized(bytes: [u8; 1_048_577]) -> [u8; 1_048_577]
     bytes
 }
 
-/// Reads until the buffer is full or the input ends, and returns how many bytes it put at the buffer's start.
-fn read_full<R: Read>(reader: &mut R, buffer: &mut [u8]) -> io::Result<usize>
-    ensures { IfOk result (λ n. n ≤ length buffer.new) }
-{
-    let mut done = 0;
-    // no heap for `read_to_end`, and std has no method that fills a slice as far as the input goes
-    while done < buffer.len() {
-        let n = reader.read(&mut buffer[done..])?;
-        if n == 0 {
-            break;
-        }
-        done += n;
-    }
-    Ok(done)
-}
-
 fn main(rt: HostRuntime) -> io::Result<()> {
-    let mut input = sized([0; MEBIBYTE + 1]);
-    let n = read_full(&mut rt.stdin(), &mut input)?;
+    let mut bytes = sized([0; MEBIBYTE + 1]);
+    let n = input::fill(&mut rt.stdin(), &mut bytes)?;
     if MEBIBYTE < n {
         return println!(rt; "input too long");
     }
     let mut store = sized([0; MEBIBYTE + 1]);
     fill(&mut store);
-    for line in input[..n].split_inclusive(|byte| *byte == b'\n') {
+    for line in bytes[..n].split_inclusive(|byte| *byte == b'\n') {
         answer(&rt, line.strip_suffix(b"\n").unwrap_or(line), &store)?;
     }
     Ok(())

@@ -122,10 +122,6 @@ pixel_of p k lat lon =
 
 -- ---- a refusal's number and place, and the values, as callers that hand out numbers tell them
 
-abbrev pub place_report : Result Place Refusal → Report
-place_report (Ok x) = answered (x.row ∷ x.column ∷ [])
-place_report (Err r) = refused_with r 2
-
 abbrev pub position_report : Result Position Refusal → Report
 position_report (Ok x) = answered (x.lat ∷ x.lon ∷ [])
 position_report (Err r) = refused_with r 2

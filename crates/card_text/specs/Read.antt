@@ -7,7 +7,6 @@
 --     read_strict series s    what reading answers where none may: 01 as it stands
 --     Accepted, Known         some bytes are read to this card
 --     blanks_told x           the total of blanks that reading met, 0 where it refuses
---     told_on_card t x g      what is told of the question g on a card as it was read: its report and the total of blanks (02, E2)
 use Rattle.std.specs.Prelude.{◌≡◌, ℕ, ◌+◌, ◌*◌, ◌/◌, List, Bool, false, if◌then◌else◌, not, ◌&&◌, eqb, length, get_or, ℤ, pos, negsuc, neg_ℤ, Result, Ok, Err}
 use Rattle.std.proofs.Math.Option.{Option, some, none}
 use Rattle.std.proofs.Math.IntN.{suc_ℤ}
@@ -119,6 +118,3 @@ pub record Known (k : Fields) : Type 0 where
 abbrev pub blanks_told : Result Reading Refusal → ℕ
 blanks_told (Ok x) = x.blanks
 blanks_told (Err r) = 0
-
-abbrev pub told_on_card : {A : Type 0} → (Result A Refusal → Report) → Result Reading Refusal → (Fields → Result A Refusal) → Report
-told_on_card {A} report x g = with_total (blanks_told x) (report (x >>= (λ y. g y.fields)))

@@ -1,4 +1,5 @@
 //! The library for C: numbers and slices in, a block of numbers out. The crate fordcask_c exports these functions (bindings/c/fordcask.h).
+//! C has no generics and no lists with their length: so there is a function for each form of an index, and each takes its numbers one by one.
 #![tactic(auto)]
 
 mod bits;

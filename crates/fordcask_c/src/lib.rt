@@ -1,4 +1,5 @@
-//! The static library for C: each function of the library fordcask under its own name (bindings/c/fordcask.h).
+//! The static library for C: each function of the library fordcask under its own name (bindings/c/fordcask.h). No crate can stand on a static library, and
+//! `ask` asks what C asks: so an export calls the library's function of its name, and states its clauses again.
 #![tactic(auto)]
 
 mod bits;

@@ -159,6 +159,7 @@ fn fill(engine: Engine, asked: Asked, list: &[i64], values: &mut [i64], numbers:
     let n = list.len() / 2;
     numbers[..n].fill(0);
     let mut i = fill_charted(engine, asked, list, values, 0);
+    // not a `for`: engine and card take turns, and each goes on by as many entries as it answers
     while i < n {
         i = fill_asked(engine, asked, list, values, numbers, i);
         i = fill_charted(engine, asked, list, values, i);

@@ -118,6 +118,7 @@ pub fn print<W: Write>(input: &[u8], out: &mut W) -> io::Result<()>
     let mut buffer = [0u8; ROOM];
     let first = opening(input, &mut buffer);
     out.write_all(&buffer[..first.length])?;
+    // by a name of its own: the borrow checker reads no part of a value that holds a card
     let read = first.read;
     match read {
         Some(reading) => print_lines(reading.card, input, first.next, out),

@@ -62,14 +62,10 @@ abbrev pub corrected_window_of : Fields → List ℕ → ℕ → List ℕ → �
 corrected_window_of k index count corrections corrected top left height width =
     window_by k (corrected_by k (by_list k index count) corrections corrected) top left height width
 
--- number, place and values: 0 for the base store or 1 for the corrections store, and the number there
+-- 0 for the base store or 1 for the corrections store, where numbers are handed out
 abbrev pub source_number : Source → ℕ
 source_number Source.Base = 0
 source_number Source.Corrections = 1
-
-abbrev pub source_report : Result Stored Refusal → Report
-source_report (Ok s) = answered (pos (source_number s.source) ∷ pos s.number ∷ [])
-source_report (Err e) = refused_with e 2
 
 -- ---- setting the entry of tile t, by its number from 0; 0 takes a correction back
 

@@ -10,4 +10,3 @@ pub mod Orders
 pub mod Steps
 pub mod Entries
 pub mod Laws
-pub mod Parts

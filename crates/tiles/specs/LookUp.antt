@@ -78,16 +78,6 @@ part_of k index count store r c = part_by k (by_list k index count) store [] r c
 abbrev pub bands_of : Fields → List ℕ → ℕ → List ℕ → ℤ → ℤ → Result Bands Refusal
 bands_of k index count store r c = bands_by k (by_list k index count) store [] r c
 
--- ---- number, place and values
-
-abbrev pub number_report : Result Stored Refusal → Report
-number_report (Ok s) = answered (pos s.number ∷ [])
-number_report (Err e) = refused_with e 1
-
-abbrev pub bands_report : Result Bands Refusal → Report
-bands_report (Ok b) = answered (pos b.red ∷ pos b.green ∷ pos b.blue ∷ [])
-bands_report (Err e) = refused_with e 3
-
 -- ---- what look-up is held to: proved in proofs/Alike.antt, proofs/PartOf.antt and proofs/Apart.antt
 
 -- of what is said, only that of the pixel's own tile matters

@@ -47,12 +47,6 @@ window_by k v top left height width = do
 abbrev pub window_of : Fields → List ℕ → ℕ → ℕ → ℕ → ℕ → ℕ → Result (Option ℕ) Refusal
 window_of k index count top left height width = window_by k (by_list k index count) top left height width
 
--- number, place and values: 1 and the tile where one is missing, 0 and 0 where none is
-abbrev pub window_report : Result (Option ℕ) Refusal → Report
-window_report (Ok (Some t)) = answered (pos 1 ∷ pos t ∷ [])
-window_report (Ok None) = answered (pos 0 ∷ pos 0 ∷ [])
-window_report (Err e) = refused_with e 2
-
 -- ---- what the window over the whole image is held to: proved in proofs/Image.antt
 
 -- every tile is stored

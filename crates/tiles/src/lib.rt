@@ -15,7 +15,6 @@ mod corrected;
 mod index;
 pub mod laws;
 mod list;
-mod parts;
 mod pixel;
 mod scan;
 
@@ -24,7 +23,6 @@ pub use check::index_check;
 pub use corrected::{Corrected, set_correction};
 pub use index::TileIndex;
 pub use list::ByList;
-pub use parts::{BandsParts, NumberParts, SourceParts, WindowParts};
 pub use pixel::{band_values, look_up, tile};
 pub use scan::first_missing;
 
