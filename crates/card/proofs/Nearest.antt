@@ -202,7 +202,8 @@ verdict-refuses : {A : Type 0} (x : A) (k : Fields) (r c : ℤ) (e : Refusal) �
     → (e ≡ Refusal.OutsideTiles) ⊎ (e ≡ Refusal.Padding)
 verdict-refuses {A} x k r c e f = go (in_tiles k r c) (in_chart k r c) f
   where
-    go : (i j : Bool) → ◌>>=◌ {A = Unit {0}} {B = A} (if not i then Err Refusal.OutsideTiles else (if not j then Err Refusal.Padding else Ok (tt {0}))) (λ _. Ok x) ≡ Err e
+    go : (i j : Bool) → ◌>>=◌ {A = Unit {0}} {B = A} (if not i then Err Refusal.OutsideTiles else (if not j then Err Refusal.Padding else
+        Ok (tt {0}))) (λ _. Ok x) ≡ Err e
         → (e ≡ Refusal.OutsideTiles) ⊎ (e ≡ Refusal.Padding)
     go true true f = let z : ◌≡◌ {A = ℕ} 0 1 = cc in absurd (omega arith)
     go true false f = inr (cc)

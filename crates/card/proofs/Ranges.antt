@@ -46,7 +46,8 @@ abbrev east_in : Result Ranged Refusal → ℕ
 east_in (Ok x) = x.east
 east_in (Err e) = 0
 
-module _ (lat lon : ℤ) (f : SFits w64 lat) (g : SFits w64 lon) {r : Result Ranged Refusal} (e : r ≡ ranged_of (to_z w64 (of_z w64 lat)) (to_z w64 (of_z w64 lon))) where
+module _ (lat lon : ℤ) (f : SFits w64 lat) (g : SFits w64 lon) {r : Result Ranged Refusal} (e : r ≡ ranged_of (to_z w64 (of_z w64 lat))
+    (to_z w64 (of_z w64 lon))) where
   plain : ranged_of lat lon ≡ r
   plain = sym (e ∙ ap₂ ranged_of (to_z-of_z w64 lat f) (to_z-of_z w64 lon g))
 
@@ -56,7 +57,11 @@ module _ (lat lon : ℤ) (f : SFits w64 lat) (g : SFits w64 lon) {r : Result Ran
   ranged-refused {A} y {n} o = go (outside quarter lat) (outside half lon) (plain ∙ o)
     where
       go : (s t : Bool)
-          → ◌≡◌ {A = Result Ranged Refusal} (if s then Err Refusal.Latitude else (if t then Err Refusal.Longitude else Ok (record { north = raise quarter lat; east = raise half lon }))) (Err n)
+          → ◌≡◌ {A = Result Ranged Refusal} (if s then Err Refusal.Latitude else (if t then Err Refusal.Longitude else Ok (record {
+            north =
+                raise quarter lat;
+            east = raise half lon;
+          }))) (Err n)
           → ◌≡◌ {A = Result A Refusal} (Err n) (if s then Err Refusal.Latitude else (if t then Err Refusal.Longitude else y))
       go true t p = let q : n ≡ Refusal.Latitude = cc in ap Err q
       go false true p = let q : n ≡ Refusal.Longitude = cc in ap Err q
@@ -66,7 +71,11 @@ module _ (lat lon : ℤ) (f : SFits w64 lat) (g : SFits w64 lon) {r : Result Ran
   ranged-at {x} o = go (outside quarter lat) (outside half lon) refl refl (plain ∙ o)
     where
       go : (s t : Bool) → outside quarter lat ≡ s → outside half lon ≡ t
-          → ◌≡◌ {A = Result Ranged Refusal} (if s then Err Refusal.Latitude else (if t then Err Refusal.Longitude else Ok (record { north = raise quarter lat; east = raise half lon }))) (Ok x)
+          → ◌≡◌ {A = Result Ranged Refusal} (if s then Err Refusal.Latitude else (if t then Err Refusal.Longitude else Ok (record {
+            north =
+                raise quarter lat;
+            east = raise half lon;
+          }))) (Ok x)
           → Counts lat lon x.north x.east
       go true t es et p = let y : ◌≡◌ {A = ℕ} 0 1 = cc in absurd (omega arith)
       go false true es et p = let y : ◌≡◌ {A = ℕ} 0 1 = cc in absurd (omega arith)

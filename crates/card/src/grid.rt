@@ -62,7 +62,7 @@ impl Card {
     {
         let rows = (Tile::SIDE * self.fields.nfl) as i64;
         let columns = (Tile::SIDE * self.fields.nfc) as i64;
-        // `&`, not `&&`: tried, and the proof did not close
+        // `&`, not `&&` over ranges: tried, and the proof did not close
         ((0 <= row) & (row < rows)) & ((0 <= column) & (column < columns))
     }
 
@@ -75,7 +75,7 @@ impl Card {
         let bottom = self.fields.nll as i64;
         let left = self.fields.nls as i64;
         let right = self.fields.nus as i64;
-        // `&`, not `&&`: tried, and the proof did not close
+        // `&`, not `&&` over ranges: tried, and the proof did not close
         ((top <= row) & (row <= bottom)) & ((left <= column) & (column <= right))
     }
 

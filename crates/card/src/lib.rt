@@ -10,6 +10,7 @@ use card_text::Fields;
 use std::marker::Model;
 
 mod grid;
+pub mod laws;
 mod offsets;
 mod overview;
 mod range;

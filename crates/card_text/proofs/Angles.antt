@@ -86,7 +86,8 @@ module _ (d : ℕ) (p : List ℕ) where
   no_sign e = none_laid (rw e)
 
   pub no_dot : (get_or p (d + 5) 0 ≡ 46 → ⊥) → parts_of d p ≡ None
-  no_dot e = none_laid (rw (ne_eqb (get_or p (d + 5) 0) 46 e) (go (is_sign (get_or p 0 0)) ((all is_digit (part 1 d p) && all is_digit (part (d + 1) 2 p)) && all is_digit (part (d + 3) 2 p))))
+  no_dot e = none_laid (rw (ne_eqb (get_or p (d + 5) 0) 46 e) (go (is_sign (get_or p 0 0)) ((all is_digit (part 1 d p) && all is_digit
+      (part (d + 1) 2 p)) && all is_digit (part (d + 3) 2 p))))
     where
       go : (x y : Bool) → (x && y && false && all is_digit (part (d + 6) 2 p)) ≡ false
       go true true = refl

@@ -24,7 +24,8 @@ use Rattle.text.proofs.Blanks.{number-after, digits-none, none_filled, blanks-be
 use Rattle.card_text.specs.declared.Fields.{Fields}
 use Rattle.card_text.specs.declared.Fill.{Fill}
 use Rattle.card_text.specs.declared.Reading.{Reading}
-use Rattle.card_text.specs.Layout.{Kind, Subfield, STR, ARV, BRV, PNC, PNL, layout, bytes_of, right_kind, right_value, Judged, judge, judge_field, or_else, walk}
+use Rattle.card_text.specs.Layout.{Kind, Subfield, STR, ARV, BRV, PNC, PNL, layout}
+use Rattle.card_text.specs.Layout.{bytes_of, right_kind, right_value, Judged, judge, judge_field, or_else, walk}
 use Rattle.card_text.specs.Blanks.{blanks_of, blanks_in, total_blanks}
 use Rattle.card_text.specs.Read.{number_in, card_of, accepted_card, blanks_told, with_origin, with_values, read_in, read_as}
 use Rattle.card_text.specs.Strict.{OneDigit, DigitsAlone, SameWithout, StrictAccepts, TolerantAccepts, RefusedNone, AtMost37}

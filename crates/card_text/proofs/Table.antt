@@ -66,7 +66,11 @@ module _ (fill : Fill) (s : List ℕ) where
   pub all-walk : read_all fill s ≡ walk fill layout s >>= (λ _. Ok (values_of s))
   unfolding layout
   all-walk =
-      rw (← byte-in 97 0 1 s (omega arith), walk_append fill (STR ∷ ARV ∷ BRV ∷ LSO ∷ PSO ∷ []) (NUL ∷ NUS ∷ NLL ∷ NLS ∷ NFL ∷ NFC ∷ PNC ∷ PNL ∷ COD ∷ ROD ∷ POR ∷ PCB ∷ PVB ∷ BAD ∷ TIF ∷ []) s)
+      rw (
+        ← byte-in 97 0 1 s (omega arith),
+        walk_append fill (STR ∷ ARV ∷ BRV ∷ LSO ∷ PSO ∷ []) (NUL ∷ NUS ∷ NLL ∷ NLS ∷ NFL ∷ NFC ∷ PNC ∷
+            PNL ∷ COD ∷ ROD ∷ POR ∷ PCB ∷ PVB ∷ BAD ∷ TIF ∷ []) s,
+      )
       (some (walk fill (STR ∷ ARV ∷ BRV ∷ LSO ∷ PSO ∷ []) s) (stated_of s) _ _ _ stated-walk
       (rw (walk_append fill (NUL ∷ NUS ∷ NLL ∷ NLS ∷ NFL ∷ NFC ∷ []) (PNC ∷ PNL ∷ COD ∷ ROD ∷ POR ∷ PCB ∷ PVB ∷ BAD ∷ TIF ∷ []) s)
       (some (walk fill (NUL ∷ NUS ∷ NLL ∷ NLS ∷ NFL ∷ NFC ∷ []) s) (extents_in s) _ _ _ extents-walk

@@ -8,6 +8,7 @@ ghost use Rattle.card_text.specs.Write.{write_of, out_of};
 use arc::{Refusal, Series, Spacing};
 
 mod digits;
+pub mod laws;
 mod read;
 mod stored;
 mod subfields;

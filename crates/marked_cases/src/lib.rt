@@ -1,2 +1,4 @@
-// The twelve cases marked P (01, "Figures on both sides of each edge"): a theorem, no code.
+//! Twelve figures on both sides of an edge: a theorem, no code.
 #![tactic(auto)]
+
+pub mod laws;

@@ -1,2 +1,4 @@
-// Both round trips of the image card (01, "The image card, 98 bytes"): theorems, no code.
+//! Both round trips of the image card: theorems, no code.
 #![tactic(auto)]
+
+pub mod laws;

@@ -16,7 +16,13 @@ pub overflow_mul-exact : goal.overflow_mul-exact
 overflow_mul-exact c = rw c.self.view_is (omega (arith, laid-as c.self.view_is c.self.invariant))
 
 pub overflow_sub-exact-2 : goal.overflow_sub-exact-2
-overflow_sub-exact-2 c = rw c.self.view_is (omega (arith, laid-as c.self.view_is c.self.invariant, c.requires.in_tiles, c.inward.ensures, inward-high c.args.pair))
+overflow_sub-exact-2 c = rw c.self.view_is (omega (
+  arith,
+  laid-as c.self.view_is c.self.invariant,
+  c.requires.in_tiles,
+  c.inward.ensures,
+  inward-high c.args.pair,
+))
 
 pub overflow_cast-nearest : goal.overflow_cast-nearest
 overflow_cast-nearest c =

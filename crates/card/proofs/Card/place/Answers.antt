@@ -16,25 +16,29 @@ returns-then-not-in_tiles c =
 pub overflow_cast-row : goal.overflow_cast-row
 overflow_cast-row c =
     let a = c.args in
-    let i = tiles-inside a.self a.row a.column (tested (in_tiles a.self) a.row a.column c.ranges.row c.ranges.column c.in_tiles.ensures.value c.if-not-in_tiles.false) in
+    let i = tiles-inside a.self a.row a.column (tested (in_tiles a.self) a.row a.column c.ranges.row c.ranges.column
+    c.in_tiles.ensures.value c.if-not-in_tiles.false) in
     cast_fits _ a.row c.ranges.row i.row (omega (arith, known-laid a.self c.in_tiles.ensures.known))
 
 pub place_row-requires : goal.place_row-requires
 place_row-requires c =
     let a = c.args in
-    let i = tiles-inside a.self a.row a.column (tested (in_tiles a.self) a.row a.column c.ranges.row c.ranges.column c.in_tiles.ensures.value c.if-not-in_tiles.false) in
+    let i = tiles-inside a.self a.row a.column (tested (in_tiles a.self) a.row a.column c.ranges.row c.ranges.column
+    c.in_tiles.ensures.value c.if-not-in_tiles.false) in
     record { in_tiles = cast-below _ a.row c.ranges.row i.row }
 
 pub overflow_cast-column : goal.overflow_cast-column
 overflow_cast-column c =
     let a = c.args in
-    let i = tiles-inside a.self a.row a.column (tested (in_tiles a.self) a.row a.column c.ranges.row c.ranges.column c.in_tiles.ensures.value c.if-not-in_tiles.false) in
+    let i = tiles-inside a.self a.row a.column (tested (in_tiles a.self) a.row a.column c.ranges.row c.ranges.column
+    c.in_tiles.ensures.value c.if-not-in_tiles.false) in
     cast_fits _ a.column c.ranges.column i.column (omega (arith, known-laid a.self c.in_tiles.ensures.known))
 
 pub place_column-requires : goal.place_column-requires
 place_column-requires c =
     let a = c.args in
-    let i = tiles-inside a.self a.row a.column (tested (in_tiles a.self) a.row a.column c.ranges.row c.ranges.column c.in_tiles.ensures.value c.if-not-in_tiles.false) in
+    let i = tiles-inside a.self a.row a.column (tested (in_tiles a.self) a.row a.column c.ranges.row c.ranges.column
+    c.in_tiles.ensures.value c.if-not-in_tiles.false) in
     record { in_tiles = cast-below _ a.column c.ranges.column i.column }
 
 pub returns : goal.returns

@@ -15,7 +15,11 @@ pub is_nearest-requires-clause-asked_few : goal.is_nearest-requires-clause-asked
 is_nearest-requires-clause-asked_few c = omega (arith, mul-le-mul c.requires c.count-spacing.ensures.on_grid.most)
 
 pub is_nearest-requires-clause-found_few : goal.is_nearest-requires-clause-found_few
-is_nearest-requires-clause-found_few c = omega (arith, found-back c.count-spacing.ensures.on_grid c.args.angle c.nearest-k.result c.requires c.nearest-k.ensures)
+is_nearest-requires-clause-found_few c = omega (
+  arith,
+  found-back c.count-spacing.ensures.on_grid c.args.angle c.nearest-k.result
+      c.requires c.nearest-k.ensures,
+)
 
 pub is_nearest-requires-clause-spacing_few : goal.is_nearest-requires-clause-spacing_few
 is_nearest-requires-clause-spacing_few c = c.count-spacing.ensures.on_grid.most

@@ -122,14 +122,16 @@ put_card-requires-clause-lat_stored c =
     let a = c.args in
     let n : SFits w64 a.r.n = search rules in
     let row = counted-from (c.count-b.result / 512) a.r.n n c.count_from.ensures c.in-Some.is in
-    told _ 32400000 c.angle_at-lat.type_inv (rw (← c.count-b.ensures.value) at c.angle_at-lat.ensures) (stored_is (latitudes c.count-b.result c.count-b.ensures.on_grid) a.r.n _ (inside_is row))
+    told _ 32400000 c.angle_at-lat.type_inv (rw (← c.count-b.ensures.value) at c.angle_at-lat.ensures) (stored_is (latitudes
+    c.count-b.result c.count-b.ensures.on_grid) a.r.n _ (inside_is row))
 
 pub put_card-requires-clause-lon_stored : goal.put_card-requires-clause-lon_stored
 put_card-requires-clause-lon_stored c =
     let a = c.args in
     let m : SFits w64 a.r.m = search rules in
     let column = counted-from (c.count-a.result / 256) a.r.m m c.count_from-2.ensures c.in-Some-count_from.is in
-    told _ 64800000 c.angle_at-lon.type_inv (rw (← c.count-a.ensures.value) at c.angle_at-lon.ensures) (stored_is (longitudes c.count-a.result c.count-a.ensures.on_grid) a.r.m _ (inside_is column))
+    told _ 64800000 c.angle_at-lon.type_inv (rw (← c.count-a.ensures.value) at c.angle_at-lon.ensures) (stored_is (longitudes
+    c.count-a.result c.count-a.ensures.on_grid) a.r.m _ (inside_is column))
 
 pub returns-clause-answer : goal.returns-clause-answer
 returns-clause-answer c =
