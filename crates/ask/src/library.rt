@@ -1,6 +1,6 @@
 //! What is asked of the crates below `fordcask`, for which it has no function.
-use crate::stated::{Corrections, Index, Pixel, Stated};
 use crate::stated;
+use crate::stated::{Corrections, Index, Pixel, Stated};
 use arc::Refusal;
 use card::Card;
 use card_text::Extents;

@@ -1,9 +1,9 @@
 -- Where a tile's bytes stand, and that they end within 64 bits. Assumes nothing.
-use mathlib.Core.Path.{◌≡◌, refl, sym, subst}
+use mathlib.Core.Path.{◌≡◌, refl, subst}
 use mathlib.Core.List.{List, []}
 use mathlib.Core.Bool.{Bool, true, false, cond}
 use native.Mathlib.Omega.{arith}
-use Prim.Native.Nat.{ℕ, ◌+◌, ◌*◌, ◌^◌, ◌<◌}
+use Prim.Native.Nat.{ℕ, ◌+◌, ◌^◌, ◌<◌}
 use lib.Dec.{eqb}
 use lib.ListN.{length, take, drop}
 use lib.IntN.{ℤ}
@@ -18,7 +18,7 @@ use Rattle.tiles.specs.Index.{IndexView, in_base, said, said_of, by_list}
 use Rattle.tiles.specs.LookUp.{stored_by, store_at, part_in, part_by, number_of}
 use Rattle.tiles.specs.Corrections.{source_number, source_of}
 use Rattle.tiles.specs.Bits.{said_bits, by_bits, bits_number_of, bits_source_of}
-use Rattle.tiles.specs.Steps.{Lies, IsHeld}
+use Rattle.tiles.specs.Steps.{IsHeld}
 use Rattle.tiles.specs.Entries.{EntryIs, entry-is}
 use Rattle.tiles.proofs.PixelTile.{found, past, lies_stored}
 use Rattle.presence.specs.Presence.{number_at}

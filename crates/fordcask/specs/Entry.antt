@@ -10,7 +10,7 @@
 --     place_block .. window_block    the block of each question
 --     tile_block              the stored number, and where its bytes stand in the store
 --     corrected_tile_block    the same with the store that holds the tile, 0 for the base store or 1 for the corrections store
-use Rattle.std.specs.Prelude.{◌≡◌, ℕ, ◌-◌, ◌*◌, List, cond, not, eqb, take, drop, replicate, ℤ, pos, Result, Ok, Err, Option, Some, None}
+use Rattle.std.specs.Prelude.{ℕ, cond, not, eqb, replicate, ℤ, pos, Result, Ok, Err}
 use Rattle.whole.specs.Results.{◌>>=◌}
 use Rattle.arc.specs.declared.refusal.Refusal.{Refusal}
 use Rattle.arc.specs.Refusals.{number_of, place_of}

@@ -7,8 +7,7 @@ ghost use Rattle.card.specs.Grid.{place_of, position_of, pixel_of};
 ghost use Rattle.fordcask.specs.Entry.{asked, asked_over, card_block, record_from, refusal_block, place_block, position_block, pixel_block, overview_block};
 
 use crate::parts::{
-    CardParts, OverviewOnCards, PixelOnCard, PlaceOnCard, PositionOnCard, RecordParts,
-    RefusalParts,
+    CardParts, OverviewOnCards, PixelOnCard, PlaceOnCard, PositionOnCard, RecordParts, RefusalParts,
 };
 use crate::read::{OnCards, on_card};
 use arc::{Refusal, Series};

@@ -5,7 +5,7 @@
 --     corrected_by k v corrections corrected    an index with corrections beside it
 --     source_of, either_part_of, either_bands_of, corrected_window_of    look-up and window by a list with corrections beside it
 --     setting_of, set_of ..   what `set_correction` answers, and what the list then holds
-use Rattle.std.specs.Prelude.{ℕ, ◌*◌, List, [], ◌∷◌, Bool, cond, not, ◌||◌, ltb, leb, eqb, length, get_or, set, ℤ, pos, Option, Result, Ok, Err}
+use Rattle.std.specs.Prelude.{ℕ, ◌*◌, List, Bool, cond, not, ◌||◌, ltb, leb, eqb, length, get_or, set, ℤ, Option, Result, Ok, Err}
 use Rattle.arc.specs.declared.refusal.Refusal.{Refusal}
 use Rattle.card_text.specs.declared.Fields.{Fields}
 use Rattle.tiles.specs.declared.Said.{Said}

@@ -4,8 +4,8 @@
 --     part_by ..              the bytes that `tile` hands back, none in a refusal
 --     bands_by ..             what `band_values` answers: red, green, blue
 --     number_of, part_of, bands_of    the same by a list
-use Rattle.std.specs.Prelude.{◌≡◌, ℕ, ◌+◌, ◌*◌, ◌-◌, ◌%◌, ◌≤◌, ◌<◌, List, [], ◌∷◌, ◌++◌, length, get_or, take, drop, ℤ, Result, Ok, Err}
-use Rattle.std.specs.Prelude.{pos, nat_abs}
+use Rattle.std.specs.Prelude.{◌≡◌, ℕ, ◌+◌, ◌*◌, ◌-◌, ◌%◌, ◌≤◌, ◌<◌, List, [], ◌++◌, length, get_or, take, drop, ℤ, Result, Ok, Err}
+use Rattle.std.specs.Prelude.{nat_abs}
 use Rattle.whole.specs.Results.{◌>>=◌}
 use Rattle.arc.specs.declared.refusal.Refusal.{Refusal}
 use Rattle.card_text.specs.declared.Fields.{Fields}

@@ -5,7 +5,7 @@
 --     view_of k says ..      the window by what `says` has of each tile
 --     window_by k v ..       what `first_missing` answers, by an index
 --     window_of ..           the same by a list
-use Rattle.std.specs.Prelude.{◌≡◌, ℕ, zero, suc, ◌+◌, ◌*◌, ◌<◌, List, [], ◌∷◌, ◌++◌, false, cond, ◌||◌, ltb, pos, Option, Some, None, Result, Ok, Err}
+use Rattle.std.specs.Prelude.{◌≡◌, ℕ, zero, suc, ◌+◌, ◌*◌, ◌<◌, List, [], ◌∷◌, ◌++◌, false, cond, ◌||◌, ltb, Option, Some, None, Result, Ok, Err}
 use Rattle.whole.specs.Lists.{up_from}
 use Rattle.whole.specs.Results.{◌>>=◌}
 use Rattle.arc.specs.declared.refusal.Refusal.{Refusal}

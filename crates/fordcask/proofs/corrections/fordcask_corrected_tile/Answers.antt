@@ -1,5 +1,5 @@
 -- A stored tile lies in its store, whose length is below 2^64. Assumes nothing.
-use Rattle.std.proofs.Common.{rules, ◌≡◌, ◌^◌, ◌<◌, length, [], sym, subst, arith}
+use Rattle.std.proofs.Common.{rules, ◌≡◌, ◌^◌, ◌<◌, length, sym, subst, arith}
 use Rattle.card.specs.Read.{card_read}
 use Rattle.tiles.specs.Corrections.{source_of}
 use Rattle.tiles.specs.Index.{by_list}

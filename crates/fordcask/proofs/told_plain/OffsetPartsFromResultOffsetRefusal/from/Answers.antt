@@ -1,6 +1,5 @@
 -- The literal 0.0 is the double nearest to 0. Assumes nothing.
 use lib.Ieee.{of_int, of_bits}
-use Rattle.std.proofs.Common.{rules}
 use Rattle.fordcask.proofs.told_plain.OffsetPartsFromResultOffsetRefusal.from.Goals as goal
 
 pub returns-in-Err : goal.returns-in-Err
