@@ -16,7 +16,6 @@ use Rattle.arc.specs.declared.series.Series.{Series}
 use Rattle.arc.specs.declared.refusal.Refusal.{Refusal}
 use Rattle.arc.specs.declared.series.Spacing.{Spacing}
 use Rattle.whole.specs.Results.{◌>>=◌}
-use Rattle.arc.specs.Refusals.{Report}
 use Rattle.arc.specs.Zones.{is_polar}
 use Rattle.arc.specs.Spacing.{spacing_of}
 use Rattle.origin.specs.Origin.{stored_angle}
@@ -25,7 +24,7 @@ use Rattle.card_text.specs.declared.Reading.{Reading}
 use Rattle.card_text.specs.declared.Fill.{Fill}
 use Rattle.text.specs.Text.{number, angle_of}
 use Rattle.card_text.specs.Layout.{Subfield, ARV, BRV, LSO, PSO, NUL, NUS, NLL, NLS, NFL, NFC, BAD, TIF, layout, bytes_of, walk}
-use Rattle.card_text.specs.Blanks.{total_blanks, with_total}
+use Rattle.card_text.specs.Blanks.{total_blanks}
 use Rattle.card_text.specs.Extents.{extents_hold}
 
 abbrev pub equal_ℤ : ℤ → ℤ → Bool

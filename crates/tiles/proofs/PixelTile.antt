@@ -1,5 +1,5 @@
 -- A pixel's tile is one of the image, and what is stored lies in its store. Assumes nothing.
-use mathlib.Core.Path.{◌≡◌, refl, sym}
+use mathlib.Core.Path.{◌≡◌, refl, sym, subst}
 use mathlib.Core.Bool.{false, not}
 use mathlib.Core.List.{List}
 use Prim.Native.Nat.{ℕ, ◌-◌, ◌*◌, ◌/◌, ◌≤◌, ◌<◌}
@@ -20,7 +20,10 @@ use Rattle.card.proofs.Regions.{PixelInside, tiles-inside}
 use Rattle.tiles.specs.declared.Source.{Source}
 use Rattle.tiles.specs.declared.Stored.{Stored}
 use Rattle.tiles.specs.declared.Said.{Said}
-use Rattle.tiles.specs.Index.{IndexView, tiles, tile_bytes, index_wrong, said_of, tile_of}
+use Rattle.presence.specs.Presence.{number_at}
+use Rattle.tiles.specs.Bits.{words_length, words_wrong, said_bits, bits_number_of}
+use Rattle.tiles.specs.Laws.{BaseIs, base-most}
+use Rattle.tiles.specs.Index.{count_wrong, IndexView, tiles, tile_bytes, index_wrong, said_of, tile_of}
 use Rattle.tiles.specs.LookUp.{stored_said, found_of, stored_by, store_at, number_of, part_at}
 use Rattle.tiles.specs.Steps.{Lies, IsHeld}
 use Rattle.tiles.specs.Entries.{neither, not-wrong}
@@ -107,6 +110,18 @@ number-held k index count store r c s e =
     let f = found k (said_of k index count) r c s p.1 in
     let m = stored-most k index count _ s w.0 f.inside f.said-is in
     (m.0, in-store s.number count store m.1 m.2 w.1)
+
+-- by bits: of the base store too
+pub bits-base : (k : Fields) (words : List ℕ) (count : ℕ) (store : List ℕ) (r c : ℤ) (s : Stored) → bits_number_of k words count store r c ≡ Ok s
+    → s.source ≡ Source.Base
+unfolding said_bits words_wrong
+bits-base k words count store r c s e =
+    let p = past k _ store _ r c s e in
+    let w = neither (words_wrong k words count) (not (eqb (length store) (count * tile_bytes))) (not-wrong _ _ p.0).0 in
+    let x = neither (not (eqb (length words) (words_length k))) (count_wrong k count) w.0 in
+    let f = found k (said_bits k words count) r c s p.1 in
+    let t = tile_of k (nat_abs r) (nat_abs c) in
+    (subst (BaseIs count) f.said-is (base-most k count (number_at words t) t x.1 f.inside)).0
 
 -- its bytes are a tile's
 pub lies : (n count : ℕ) (store : List ℕ) → InStore n count store → Lies n store

@@ -113,7 +113,7 @@ corrected-found k corrections corrected number says r c v e d h =
     let g : get_or corrections t 0 ≡ 0 → ⊥ = λ z. d (sym e ∙ z) in
     rw (v, with-some corrections t corrected says g, e, said-stored Source.Corrections corrected number d h)
 
--- past both 6
+-- past the lengths
 past-lengths : (k : Fields) (index : List ℕ) (count : ℕ) (store corrections : List ℕ) (corrected : ℕ) (second : List ℕ) (r c : ℤ)
     → store_wrong k index count store ≡ false → corrections_wrong k corrections corrected second ≡ false
     → source_of k index count store corrections corrected second r c ≡ found_of k (said_with corrections corrected (said_of k index count)) r c

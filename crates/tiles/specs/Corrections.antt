@@ -7,7 +7,6 @@
 --     setting_of, set_of ..   what `set_correction` answers, and what the list then holds
 use Rattle.std.specs.Prelude.{ℕ, ◌*◌, List, [], ◌∷◌, Bool, cond, not, ◌||◌, ltb, leb, eqb, length, get_or, set, ℤ, pos, Option, Result, Ok, Err}
 use Rattle.arc.specs.declared.refusal.Refusal.{Refusal}
-use Rattle.arc.specs.Refusals.{Report, answered, refused_with}
 use Rattle.card_text.specs.declared.Fields.{Fields}
 use Rattle.tiles.specs.declared.Said.{Said}
 use Rattle.tiles.specs.declared.Source.{Source}

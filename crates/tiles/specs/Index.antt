@@ -1,10 +1,9 @@
 -- The tile index (MIL-A-89007, 3.8.5), and what is asked of it in either form. Definitions only.
 --     tiles k                how many tiles an image has
---     Said                   what is said of a tile: where it is stored, that it is not stored, or that its entry is above the count
 --     IndexView              an index by what it answers: its lengths alone, its lengths and the stores', and what it says of each tile
 --     index_wrong k index count     the index or the count is of the wrong length
 --     said_of k index count t       what the index says of tile t, by its number from 0 in reading order
---     by_list k index count store   the list, as an index
+--     by_list k index count  the list, as an index
 --     tile_of k r c          the tile of a pixel
 use Rattle.std.specs.Prelude.{ℕ, ◌+◌, ◌*◌, ◌/◌, List, Bool, cond, not, ◌||◌, ltb, eqb, length, get_or, Result, Ok, Err}
 use Rattle.arc.specs.declared.refusal.Refusal.{Refusal}

@@ -8,7 +8,6 @@ use Rattle.std.specs.Prelude.{◌≡◌, ℕ, ◌+◌, ◌*◌, ◌-◌, ◌%◌
 use Rattle.std.specs.Prelude.{pos, nat_abs}
 use Rattle.whole.specs.Results.{◌>>=◌}
 use Rattle.arc.specs.declared.refusal.Refusal.{Refusal}
-use Rattle.arc.specs.Refusals.{Report, answered, refused_with}
 use Rattle.card_text.specs.declared.Fields.{Fields}
 use Rattle.card.specs.Grid.{verdict_of}
 use Rattle.tiles.specs.declared.Source.{Source}

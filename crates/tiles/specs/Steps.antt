@@ -3,7 +3,7 @@
 --     IsHeld k v             what an index says is stored lies in the store that is named: a law of an index
 --     kind v                 what is said of a tile, its place in a store aside
 --     IsGlance k glance says    a glance tells of each tile what is said of it, that place aside: a law of an index
---     glance_list, glance_bits    a glance by a list; by bits, the stored tiles being those before `end`
+--     glance_bits            a glance by bits, the stored tiles being those before `end`
 --     WindowRows k ..        what a window of an image is bounded by
 use Rattle.std.specs.Prelude.{◌≡◌, ℕ, ◌+◌, ◌*◌, ◌≤◌, ◌<◌, List, cond, leb, eqb, length, Ok}
 use Rattle.presence.specs.Presence.{present, within}

@@ -9,7 +9,6 @@ use Rattle.std.specs.Prelude.{◌≡◌, ℕ, zero, suc, ◌+◌, ◌*◌, ◌<�
 use Rattle.whole.specs.Lists.{up_from}
 use Rattle.whole.specs.Results.{◌>>=◌}
 use Rattle.arc.specs.declared.refusal.Refusal.{Refusal}
-use Rattle.arc.specs.Refusals.{Report, answered, refused_with}
 use Rattle.card_text.specs.declared.Fields.{Fields}
 use Rattle.tiles.specs.declared.Stored.{Stored}
 use Rattle.tiles.specs.declared.Said.{Said}
