@@ -4,7 +4,8 @@
 ghost use Rattle.std.specs.Prelude.{◌≡◌, true, ◌+◌, ◌*◌, ◌≤◌, ◌<◌, length, set};
 ghost use Rattle.card.specs.declared.Pair.{Pair};
 ghost use Rattle.lists.specs.Entries.{entry_told, Agrees, ChartedEntries, AskedEntries};
-ghost use Rattle.lists.specs.Lists.{entries, lists_fit, lists_verdict, entry_at, asked_report, report_at, position_report_at, pixel_report_at, values_left, numbers_left};
+ghost use Rattle.lists.specs.Lists.{entries, lists_fit, lists_verdict, entry_at, values_left, numbers_left};
+ghost use Rattle.lists.specs.Lists.{asked_report, report_at, position_report_at, pixel_report_at};
 
 use arc::Refusal;
 use card::{Card, Pair};

@@ -116,7 +116,7 @@ OtherWindows =
     → corrected_window_of k index count (set_of k corrections corrected t number) corrected top left height width
     ≡ corrected_window_of k index count corrections corrected top left height width
 
--- past Length, OutsideTiles and Padding, look-ups in it answer from the new entry: that tile of the corrections store, or the base's answers alone where it is 0
+-- past Length, OutsideTiles and Padding, look-ups in it answer from the new entry: that tile of the corrections store, or the base's answers where it is 0
 abbrev pub FromNewEntry : Type 0
 FromNewEntry =
     (k : Fields) (index : List ℕ) (count : ℕ) (store corrections : List ℕ) (corrected : ℕ) (second : List ℕ) (t number : ℕ) (r c : ℤ)

@@ -39,7 +39,8 @@ returns-in-Above g c =
     let says = (T.view a.index.now a.card).says in
     let law = subst (λ (e : ℕ). IsGlance a.card (T.glance a.index.now a.card e) says) (sym c.end-end.ensures) (g.met.I.TileIndex.glances a.index.now a.card) in
     let seen = rw c.fields-across.ensures.value at c.glance.ensures in
-    let t = turn a.card w.top w.left w.height w.width (known-as c.fields-across.ensures.value c.fields-across.ensures.known) c.requires c.rows.r c.rows-test.true
+    let t = turn a.card w.top w.left w.height w.width (known-as c.fields-across.ensures.value c.fields-across.ensures.known) c.requires c.rows.r
+    c.rows-test.true
     c.loop-c.c c.loop-c-test.true says (T.glance a.index.now a.card c.end-end.result) law _ c.loop-c.invariant.1 c.glance.result seen
     (Said.Above) c.in-Above.is in
     rw c.fields-across.ensures.value (sym t)
@@ -52,7 +53,8 @@ loop-c-preserved g c =
     let says = (T.view a.index.now a.card).says in
     let law = subst (λ (e : ℕ). IsGlance a.card (T.glance a.index.now a.card e) says) (sym c.end-end.ensures) (g.met.I.TileIndex.glances a.index.now a.card) in
     let seen = rw c.fields-across.ensures.value at c.glance.ensures in
-    let t = turn a.card w.top w.left w.height w.width (known-as c.fields-across.ensures.value c.fields-across.ensures.known) c.requires c.rows.r c.rows-test.true
+    let t = turn a.card w.top w.left w.height w.width (known-as c.fields-across.ensures.value c.fields-across.ensures.known) c.requires c.rows.r
+    c.rows-test.true
     c.loop-c.c c.loop-c-test.true says (T.glance a.index.now a.card c.end-end.result) law _ c.loop-c.invariant.1 c.glance.result seen
     (Said.Stored c.in-Stored.field-0) c.in-Stored.is in
     (c.loop-c.invariant.0, t)
@@ -65,7 +67,8 @@ returns-in-Missing g c =
     let says = (T.view a.index.now a.card).says in
     let law = subst (λ (e : ℕ). IsGlance a.card (T.glance a.index.now a.card e) says) (sym c.end-end.ensures) (g.met.I.TileIndex.glances a.index.now a.card) in
     let seen = rw c.fields-across.ensures.value at c.glance.ensures in
-    let t = turn a.card w.top w.left w.height w.width (known-as c.fields-across.ensures.value c.fields-across.ensures.known) c.requires c.rows.r c.rows-test.true
+    let t = turn a.card w.top w.left w.height w.width (known-as c.fields-across.ensures.value c.fields-across.ensures.known) c.requires c.rows.r
+    c.rows-test.true
     c.loop-c.c c.loop-c-test.true says (T.glance a.index.now a.card c.end-end.result) law _ c.loop-c.invariant.1 c.glance.result seen
     (Said.Missing) c.in-Missing.is in
     rw c.fields-across.ensures.value (sym t)

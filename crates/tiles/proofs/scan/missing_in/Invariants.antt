@@ -17,4 +17,5 @@ invariant-loop-c g l =
     let w = l.fn.window in
     (l.missing ≡ None)
     × (scan says (window_tiles l.fn.card w.top w.left w.height w.width)
-    ≡ scan says (up_from ((w.top + l.r) * l.fn.card.nfc + w.left + l.c) (w.width - l.c) ++ window_tiles l.fn.card (w.top + (l.r + 1)) w.left (w.height - (l.r + 1)) w.width))
+    ≡ scan says (up_from ((w.top + l.r) * l.fn.card.nfc + w.left + l.c) (w.width - l.c)
+    ++ window_tiles l.fn.card (w.top + (l.r + 1)) w.left (w.height - (l.r + 1)) w.width))
