@@ -1,7 +1,7 @@
 -- No refusal has the number 0, case by case; and number and place give the refusal back. Assumes nothing.
 use Rattle.std.proofs.Common.{◌≡◌, refl, sym, ap₂, ◌∙◌, cond, ℕ, eqb, arith}
 use Rattle.arc.specs.declared.refusal.Refusal.{Refusal}
-use Rattle.arc.specs.Refusals.{number_of, place_of, NeverZero, TellsApart}
+use Rattle.arc.specs.Refusals.{refusal_number, refusal_place, NeverZero, TellsApart}
 
 pub never-zero : NeverZero
 never-zero Refusal.Scale e = absurd (omega arith)
@@ -49,7 +49,7 @@ refusal_by n at =
     cond (eqb n 21) Refusal.StrayBit (
     Refusal.TownScale)))))))))))))))))))
 
-given-back : (r : Refusal) → refusal_by (number_of r) (place_of r) ≡ r
+given-back : (r : Refusal) → refusal_by (refusal_number r) (refusal_place r) ≡ r
 given-back Refusal.Scale = refl
 given-back Refusal.Zone = refl
 given-back Refusal.Polar = refl

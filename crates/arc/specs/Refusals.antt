@@ -1,38 +1,38 @@
 -- What a refusal is called where numbers are handed out, and what is handed out of any answer. Definitions, and what they are held to.
---     number_of r        the refusal's number
---     place_of r         the subfield or the entry that is refused, and else 0
+--     refusal_number r        the refusal's number
+--     refusal_place r         the subfield or the entry that is refused, and else 0
 --     answered vs        a report that refuses nothing, with the value parts vs
 --     refused_with r k   the report of a refusal, its k value parts 0
 use Rattle.std.specs.Prelude.{◌≡◌, ◌≢◌, ℕ, List, replicate, ℤ, pos}
 use Rattle.arc.specs.declared.refusal.Refusal.{Refusal}
 
-abbrev pub number_of : Refusal → ℕ
-number_of Refusal.Scale = 1
-number_of Refusal.Zone = 2
-number_of Refusal.Polar = 3
-number_of Refusal.Latitude = 4
-number_of Refusal.Longitude = 5
-number_of Refusal.Length = 6
-number_of (Refusal.Kind at) = 7
-number_of (Refusal.Value at) = 8
-number_of Refusal.Spacing = 9
-number_of Refusal.Origin = 10
-number_of Refusal.Extent = 11
-number_of Refusal.OutsideTiles = 12
-number_of Refusal.Padding = 13
-number_of Refusal.NotStored = 14
-number_of (Refusal.Entry at) = 15
-number_of Refusal.CrossedEdges = 16
-number_of Refusal.Factor = 17
-number_of Refusal.ReadingOrder = 20
-number_of Refusal.StrayBit = 21
-number_of Refusal.TownScale = 24
+abbrev pub refusal_number : Refusal → ℕ
+refusal_number Refusal.Scale = 1
+refusal_number Refusal.Zone = 2
+refusal_number Refusal.Polar = 3
+refusal_number Refusal.Latitude = 4
+refusal_number Refusal.Longitude = 5
+refusal_number Refusal.Length = 6
+refusal_number (Refusal.Kind at) = 7
+refusal_number (Refusal.Value at) = 8
+refusal_number Refusal.Spacing = 9
+refusal_number Refusal.Origin = 10
+refusal_number Refusal.Extent = 11
+refusal_number Refusal.OutsideTiles = 12
+refusal_number Refusal.Padding = 13
+refusal_number Refusal.NotStored = 14
+refusal_number (Refusal.Entry at) = 15
+refusal_number Refusal.CrossedEdges = 16
+refusal_number Refusal.Factor = 17
+refusal_number Refusal.ReadingOrder = 20
+refusal_number Refusal.StrayBit = 21
+refusal_number Refusal.TownScale = 24
 
-abbrev pub place_of : Refusal → ℕ
-place_of (Refusal.Kind at) = at
-place_of (Refusal.Value at) = at
-place_of (Refusal.Entry at) = at
-place_of _ = 0
+abbrev pub refusal_place : Refusal → ℕ
+refusal_place (Refusal.Kind at) = at
+refusal_place (Refusal.Value at) = at
+refusal_place (Refusal.Entry at) = at
+refusal_place _ = 0
 
 -- number of the refusal (0 where there is none), place and value parts
 pub record Report : Type 0 where
@@ -45,14 +45,14 @@ answered vs = record { number = 0; place = 0; values = vs }
 
 -- value parts are 0 in a refusal
 abbrev pub refused_with : Refusal → ℕ → Report
-refused_with r k = record { number = number_of r; place = place_of r; values = replicate k (pos 0) }
+refused_with r k = record { number = refusal_number r; place = refusal_place r; values = replicate k (pos 0) }
 
 -- ---- what the numbers are held to: proved in proofs/Refused.antt
 
 -- no refusal looks like an answer
 abbrev pub NeverZero : Type 0
-NeverZero = (r : Refusal) → number_of r ≢ 0
+NeverZero = (r : Refusal) → refusal_number r ≢ 0
 
 -- number and place tell one refusal from every other
 abbrev pub TellsApart : Type 0
-TellsApart = (r s : Refusal) → number_of r ≡ number_of s → place_of r ≡ place_of s → r ≡ s
+TellsApart = (r s : Refusal) → refusal_number r ≡ refusal_number s → refusal_place r ≡ refusal_place s → r ≡ s

@@ -50,11 +50,11 @@ pub enum Refusal {
 }
 
 impl Refusal {
-    ghost use Rattle.arc.specs.Refusals.{number_of, place_of};
+    ghost use Rattle.arc.specs.Refusals.{refusal_number, refusal_place};
 
     /// The number that is handed out, 1 to 24.
     pub fn number(self) -> u32
-        ensures { result ≡ number_of self }
+        ensures { result ≡ refusal_number self }
     {
         match self {
             Refusal::Scale => 1,
@@ -82,7 +82,7 @@ impl Refusal {
 
     /// The subfield or the entry that is refused, 0 where the refusal has none.
     pub fn place(self) -> u64
-        ensures { result ≡ place_of self }
+        ensures { result ≡ refusal_place self }
     {
         match self {
             Refusal::Kind { at } | Refusal::Value { at } | Refusal::Entry { at } => at,

@@ -46,13 +46,6 @@ impl Scale {
             denominator: product,
         })
     }
-
-    /// S of 1:S.
-    pub fn denominator(self) -> u64
-        ensures { result ≡ self }
-    {
-        self.denominator
-    }
 }
 
 /// Pixels round the circle: a multiple of 512, from 512 to 80,076,800 (DIGEST, "The ARC System", 3.4.6).

@@ -1,4 +1,5 @@
-// The zones' constants (DIGEST, "The ARC System", Tables 3-1 and 3-5), and spacing as a function of each type.
+// The zones' constants (DIGEST, "The ARC System", Tables 3-1 and 3-5), and spacing as a function of each type. Nine types, though the table alone would be
+// shorter: docs/RULES.md wants a zone's limits and unit as constants of its own kind, and spacing a function of the type.
 ghost use Rattle.std.specs.Prelude.{◌≡◌, ℕ};
 ghost use Rattle.std.proofs.Common.{lit≤};
 ghost use Rattle.arc.specs.Zones.{row_at};

@@ -24,7 +24,7 @@ use Rattle.card.specs.Places.{OnlyAt, GivesWhere, GivesOnly, RefusesWhere, EachL
 use Rattle.card_text.proofs.Laid.{Laid, accepted-laid}
 use Rattle.card.proofs.Axes.{north-is, east-high, column-place}
 use Rattle.card.proofs.Regions.{Within, tiles-inside, chart-tiles}
-use Rattle.arc.specs.Refusals.{number_of}
+use Rattle.arc.specs.Refusals.{refusal_number}
 use Rattle.card.proofs.Same.{same-pixel, same-position}
 use Rattle.card.proofs.Chain.{same-column, no-drift}
 
@@ -74,7 +74,7 @@ no-pixel p q = let z : ◌≡◌ {A = ℕ} 0 1 = cc in absurd (omega arith)
 not-both : {A : Type 0} {x : Result Pixel Refusal} → x ≡ Err Refusal.OutsideTiles → x ≡ Err Refusal.Padding → A
 not-both p q =
     let e : Refusal.OutsideTiles ≡ Refusal.Padding = cc in
-    let z : ◌≡◌ {A = ℕ} 12 13 = ap number_of e in absurd (omega arith)
+    let z : ◌≡◌ {A = ℕ} 12 13 = ap refusal_number e in absurd (omega arith)
 
 -- T being what a pixel of the tiles has, and C one of the chart
 pub refuses : {T C : Type 0} {x : Result Pixel Refusal} (e : Refusal) → x ≡ Err e

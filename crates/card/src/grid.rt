@@ -9,7 +9,7 @@ ghost use Rattle.card.specs.Grid.{row_of, column_of, place_of, position_of, pixe
 use crate::range::{self, Ranged};
 use crate::{Card, Pair, Pixel, Place, Position};
 use arc::{Circle, Refusal, Tile};
-use card_text::Extents;
+use card_text::{Extents, Fields};
 
 /// v − s, round the circle of a columns.
 fn turned(v: u64, s: u64, a: u64) -> u64
@@ -40,19 +40,26 @@ impl Pair {
     }
 }
 
+/// The edges and the tiles, of any fields.
+pub fn extents(fields: Fields) -> Extents
+    ensures { result ≡ extents_of fields }
+{
+    Extents {
+        nul: fields.nul,
+        nus: fields.nus,
+        nll: fields.nll,
+        nls: fields.nls,
+        nfl: fields.nfl,
+        nfc: fields.nfc,
+    }
+}
+
 impl Card {
     /// The edges and the tiles.
     pub fn extents(self) -> Extents
         ensures { result ≡ extents_of self }
     {
-        Extents {
-            nul: self.fields.nul,
-            nus: self.fields.nus,
-            nll: self.fields.nll,
-            nls: self.fields.nls,
-            nfl: self.fields.nfl,
-            nfc: self.fields.nfc,
-        }
+        extents(self.fields)
     }
 
     /// Whether a pixel is one of the tiles.

@@ -15,6 +15,7 @@ mod offsets;
 mod overview;
 mod range;
 
+pub use grid::extents;
 pub use offsets::offset_from;
 pub use range::{Ranged, count_position};
 
@@ -38,6 +39,7 @@ impl Model for Card {
 }
 
 /// A card as it was read, and the total of blanks that its numbers start with.
+// A struct of its own beside `card_text::Reading`: one over a type parameter would have each clause say which of the two values it means.
 #[derive(Clone, Copy, Debug)]
 pub struct Reading {
     pub card: Card,
@@ -72,6 +74,7 @@ impl Card {
     }
 
     /// What the card tells, in the standard's tags.
+    // The invariant is told once more: a caller's goal sees that of `self`, and not that of what a call gave.
     pub fn fields(self) -> Fields
         ensures value { result ≡ self }
         ensures known { Known result }

@@ -16,7 +16,7 @@ use Rattle.text.proofs.Bytes.{all-groups}
 use Rattle.text.proofs.Angles.{valid-tests}
 use Rattle.card_text.specs.declared.Fill.{Fill}
 use Rattle.card_text.specs.Layout.{LSO, PSO, layout, bytes_of, walk}
-use Rattle.card_text.specs.StepsFields.{run_of, shifted, parts_of, checked, angle_held}
+use Rattle.card_text.specs.StepsFields.{digits_run, shifted, parts_of, checked, angle_held}
 use Rattle.card_text.proofs.Walked.{right-in}
 
 -- ---- an angle of d degree digits
@@ -94,21 +94,21 @@ module _ (d : ℕ) (p : List ℕ) where
       go true false = refl
       go false y = refl
 
-  no_run : (s : List ℕ) → run_of s ≡ None → all is_digit s ≡ false
+  no_run : (s : List ℕ) → digits_run s ≡ None → all is_digit s ≡ false
   no_run s e = go (all is_digit s) e
     where
       go : (t : Bool) → (if t then Some (number s) else None) ≡ None → t ≡ false
       go true k = let x : ◌≡◌ {A = ℕ} 0 1 = cc in absurd (omega arith)
       go false k = refl
 
-  pub no_degrees : run_of (part 1 d p) ≡ None → parts_of d p ≡ None
+  pub no_degrees : digits_run (part 1 d p) ≡ None → parts_of d p ≡ None
   no_degrees e = none_laid (rw (no_run (part 1 d p) e) (go (is_sign (get_or p 0 0))))
     where
       go : (x : Bool) → (x && false && eqb (get_or p (d + 5) 0) 46 && all is_digit (part (d + 6) 2 p)) ≡ false
       go true = refl
       go false = refl
 
-  pub no_minutes : run_of (part (d + 1) 2 p) ≡ None → parts_of d p ≡ None
+  pub no_minutes : digits_run (part (d + 1) 2 p) ≡ None → parts_of d p ≡ None
   no_minutes e = none_laid (rw (no_run (part (d + 1) 2 p) e) (go (is_sign (get_or p 0 0)) (all is_digit (part 1 d p))))
     where
       go : (x y : Bool) → (x && ((y && false) && all is_digit (part (d + 3) 2 p)) && eqb (get_or p (d + 5) 0) 46 && all is_digit (part (d + 6) 2 p)) ≡ false
@@ -116,7 +116,7 @@ module _ (d : ℕ) (p : List ℕ) where
       go true false = refl
       go false y = refl
 
-  pub no_seconds : run_of (part (d + 3) 2 p) ≡ None → parts_of d p ≡ None
+  pub no_seconds : digits_run (part (d + 3) 2 p) ≡ None → parts_of d p ≡ None
   no_seconds e =
       none_laid (rw (no_run (part (d + 3) 2 p) e) (go (is_sign (get_or p 0 0)) (all is_digit (part 1 d p) && all is_digit (part (d + 1) 2 p))))
     where
@@ -125,7 +125,7 @@ module _ (d : ℕ) (p : List ℕ) where
       go true false = refl
       go false y = refl
 
-  pub no_hundredths : run_of (part (d + 6) 2 p) ≡ None → parts_of d p ≡ None
+  pub no_hundredths : digits_run (part (d + 6) 2 p) ≡ None → parts_of d p ≡ None
   no_hundredths e =
       none_laid
       (rw (no_run (part (d + 6) 2 p) e)
@@ -139,15 +139,15 @@ module _ (d : ℕ) (p : List ℕ) where
       go false y z = refl
 
   -- where all are passed
-  some_run : (s : List ℕ) (v : ℕ) → run_of s ≡ Some v → (all is_digit s ≡ true) × (v ≡ number s)
+  some_run : (s : List ℕ) (v : ℕ) → digits_run s ≡ Some v → (all is_digit s ≡ true) × (v ≡ number s)
   some_run s v e = go (all is_digit s) e
     where
       go : (t : Bool) → (if t then Some (number s) else None) ≡ Some v → (t ≡ true) × (v ≡ number s)
       go true k = (refl, cc)
       go false k = let x : ◌≡◌ {A = ℕ} 0 1 = cc in absurd (omega arith)
 
-  pub all_parts : {x y z h : ℕ} → is_sign (get_or p 0 0) ≡ true → get_or p (d + 5) 0 ≡ 46 → run_of (part 1 d p) ≡ Some x
-      → run_of (part (d + 1) 2 p) ≡ Some y → run_of (part (d + 3) 2 p) ≡ Some z → run_of (part (d + 6) 2 p) ≡ Some h
+  pub all_parts : {x y z h : ℕ} → is_sign (get_or p 0 0) ≡ true → get_or p (d + 5) 0 ≡ 46 → digits_run (part 1 d p) ≡ Some x
+      → digits_run (part (d + 1) 2 p) ≡ Some y → digits_run (part (d + 3) 2 p) ≡ Some z → digits_run (part (d + 6) 2 p) ≡ Some h
       → parts_of d p ≡ Some (record { degrees = x; minutes = y; seconds = z; hundredths = h })
   unfolding degrees minutes seconds hundredths
   all_parts {x} {y} {z} {h} s o ex ey ez eh =

@@ -7,15 +7,15 @@ use Rattle.text.specs.Text.{all, is_digit, is_name_byte, number}
 use Rattle.text.specs.Buffer.{digits_in}
 use Rattle.text.proofs.Bytes.{drop-next}
 use Rattle.text.proofs.Numbers.{number-below}
-use Rattle.card_text.specs.StepsFields.{run_of}
+use Rattle.card_text.specs.StepsFields.{digits_run}
 
 -- ---- digits
 
-pub run_is : (s : List ℕ) → length s ≤ 17 → digits_in s ≡ run_of s
+pub run_is : (s : List ℕ) → length s ≤ 17 → digits_in s ≡ digits_run s
 unfolding digits_in
 run_is s h = rw (le-leb (length s) 17 h)
 
-pub run_small : (s : List ℕ) → length s ≤ 8 → IfSome (run_of s) (λ v. v < 100000000)
+pub run_small : (s : List ℕ) → length s ≤ 8 → IfSome (digits_run s) (λ v. v < 100000000)
 run_small s h = go (all is_digit s) refl
   where
     go : (t : Bool) → all is_digit s ≡ t → IfSome (if t then Some (number s) else None) (λ v. v < 100000000)

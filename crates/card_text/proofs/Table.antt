@@ -11,7 +11,7 @@ use Rattle.card_text.specs.declared.Fill.{Fill}
 use Rattle.card_text.specs.declared.subfields.Values.{Values}
 use Rattle.card_text.specs.Layout.{Subfield, STR, ARV, BRV, LSO, PSO, NUL, NUS, NLL, NLS, NFL, NFC, PNC, PNL, COD, ROD, POR, PCB, PVB, BAD, TIF}
 use Rattle.card_text.specs.Layout.{Judged, judge, judge_field, right_kind, right_value, bytes_of, layout, or_else, walk}
-use Rattle.card_text.specs.StepsFields.{checked, read_stated, read_extents, read_sides, read_all, stated_of, extents_in, values_of}
+use Rattle.card_text.specs.StepsFields.{checked, read_stated, read_extents, read_sides, read_all, stated_of, extents_in, all_values}
 use Rattle.text.proofs.Bytes.{byte-in}
 use Rattle.card_text.proofs.Walked.{or_else-assoc}
 
@@ -63,7 +63,7 @@ module _ (fill : Fill) (s : List ℕ) where
       (row fill POR s _ _ _ _ (row fill PCB s _ _ _ _ (row fill PVB s _ _ (Ok tt) _ refl))))))
 
   -- the two chains, group by group
-  pub all-walk : read_all fill s ≡ walk fill layout s >>= (λ _. Ok (values_of s))
+  pub all-walk : read_all fill s ≡ walk fill layout s >>= (λ _. Ok (all_values s))
   unfolding layout
   all-walk =
       rw (
@@ -81,13 +81,13 @@ module _ (fill : Fill) (s : List ℕ) where
   pub walk-err : {e : Refusal} → read_all fill s ≡ Err e → walk fill layout s ≡ Err e
   walk-err {e} p = go (walk fill layout s) (sym all-walk ∙ p)
     where
-      go : (v : Judged) → ◌≡◌ {A = Result Values Refusal} (v >>= (λ _. Ok (values_of s))) (Err e) → v ≡ Err e
+      go : (v : Judged) → ◌≡◌ {A = Result Values Refusal} (v >>= (λ _. Ok (all_values s))) (Err e) → v ≡ Err e
       go (Ok u) k = let x : ◌≡◌ {A = ℕ} 0 1 = cc in absurd (omega arith)
       go (Err r) k = let q : r ≡ e = cc in ap Err q
 
-  pub walk-ok : {v : Values} → read_all fill s ≡ Ok v → (walk fill layout s ≡ Ok tt) × (v ≡ values_of s)
+  pub walk-ok : {v : Values} → read_all fill s ≡ Ok v → (walk fill layout s ≡ Ok tt) × (v ≡ all_values s)
   walk-ok {v} p = go (walk fill layout s) (sym all-walk ∙ p)
     where
-      go : (w : Judged) → ◌≡◌ {A = Result Values Refusal} (w >>= (λ _. Ok (values_of s))) (Ok v) → (w ≡ Ok tt) × (v ≡ values_of s)
+      go : (w : Judged) → ◌≡◌ {A = Result Values Refusal} (w >>= (λ _. Ok (all_values s))) (Ok v) → (w ≡ Ok tt) × (v ≡ all_values s)
       go (Ok u) k = (refl, sym (ap (or_this v) k))
       go (Err r) k = let x : ◌≡◌ {A = ℕ} 0 1 = cc in absurd (omega arith)

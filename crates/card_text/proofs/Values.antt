@@ -21,7 +21,7 @@ use Rattle.card_text.specs.declared.subfields.Values.{Values}
 use Rattle.card_text.specs.Layout.{LSO, PSO, NUL, NUS, NLL, NLS, NFL, NFC, layout, bytes_of}
 use Rattle.card_text.specs.Blanks.{total_blanks}
 use Rattle.card_text.specs.Read.{number_in, card_of, accepted_card, with_origin, with_values}
-use Rattle.card_text.specs.StepsFields.{values_of}
+use Rattle.card_text.specs.StepsFields.{all_values}
 use Rattle.card_text.specs.StepsRead.{found_at, tile_at, extents_at, record_with, fields_from, Walked}
 use Rattle.card_text.proofs.Angles.{lso-is, pso-is, lso-high, pso-high}
 use Rattle.card_text.proofs.Axes.{found-high, found-is}
@@ -62,7 +62,7 @@ module _ {s : List ℕ} {v : Values} (w : Walked s v) where
 
 -- ---- the fields, the origin counted
 module _ (series : Series) (a b north east : ℕ) (s : List ℕ) (r : Record) (ok : Bool) where
-  pub extents-are : r ≡ record_with (pos north -ℤ pos (b / 512)) (pos east -ℤ pos (a / 256)) (values_of s)
+  pub extents-are : r ≡ record_with (pos north -ℤ pos (b / 512)) (pos east -ℤ pos (a / 256)) (all_values s)
       → ok ≡ extents_at a north r.nul r.nus r.nll r.nls r.nfl r.nfc
       → with_origin series a b s (tile_at (b / 512) (Some north)) (tile_at (a / 256) (Some east))
       ≡ (if not ok then Err Refusal.Extent else accepted_card (fields_from series a b north east r) (total_blanks layout s))

@@ -1,5 +1,5 @@
 -- What only the code needs: a subfield as it is read, once, and the subfields one after the other. Definitions only; proofs/ tie them to the walk.
---     run_of s           the number of a run of digits, none where a byte is no digit
+--     digits_run s           the number of a run of digits, none where a byte is no digit
 --     lead s             how many blanks s starts with, its last byte not among them
 --     skip fill s        how many of them are passed over
 --     number_as fill s   a number, blanks before it where they may stand; none where it is not laid out as one
@@ -9,7 +9,7 @@
 --     checked ..         a value, its bytes being of the right kind and the value right
 --     read_number ..     a subfield as it is read: its value, or the refusal of its kind or of its value
 --     read_all fill s    the card as it is read: every value, or the first refusal
---     values_of s        every value
+--     all_values s        every value
 use Rattle.std.specs.Prelude.{ℕ, suc, ◌+◌, ◌-◌, List, [], ◌∷◌, Bool, true, cond, if◌then◌else◌, not, ◌&&◌, eqb, leb, get_or}
 use Rattle.std.specs.Prelude.{Option, Some, None, Result, Ok, Err}
 use Rattle.whole.specs.Results.{◌>>=◌}
@@ -22,8 +22,8 @@ use Rattle.card_text.specs.declared.subfields.Stated.{Stated}
 use Rattle.card_text.specs.declared.subfields.Values.{Values}
 use Rattle.card_text.specs.Layout.{number_laid}
 
-abbrev pub run_of : List ℕ → Option ℕ
-run_of s = if all is_digit s then Some (number s) else None
+abbrev pub digits_run : List ℕ → Option ℕ
+digits_run s = if all is_digit s then Some (number s) else None
 
 abbrev pub lead : List ℕ → ℕ
 lead [] = 0
@@ -142,5 +142,5 @@ extents_in s =
       nfc = number (part 65 3 s);
     }
 
-abbrev pub values_of : List ℕ → Values
-values_of s = record { stated = stated_of s; extents = extents_in s; bad = part 85 12 s; tif = eqb (get_or s 97 0) 89 }
+abbrev pub all_values : List ℕ → Values
+all_values s = record { stated = stated_of s; extents = extents_in s; bad = part 85 12 s; tif = eqb (get_or s 97 0) 89 }

@@ -16,7 +16,7 @@ use Rattle.card_text.specs.declared.Fill.{Fill}
 use Rattle.card_text.specs.declared.Record.{Record}
 use Rattle.card_text.specs.declared.subfields.Values.{Values}
 use Rattle.card_text.specs.Layout.{layout, walk}
-use Rattle.card_text.specs.StepsFields.{values_of}
+use Rattle.card_text.specs.StepsFields.{all_values}
 
 -- 128 × H
 abbrev pub tile_angle : ℕ
@@ -74,4 +74,4 @@ pub record Walked (s : List ℕ) (values : Values) : Type 0 where
   pub fill : Fill
   pub long : length s ≡ 98
   pub walks : walk fill layout s ≡ Ok tt
-  pub kept : values ≡ values_of s
+  pub kept : values ≡ all_values s

@@ -2,7 +2,7 @@
 ghost use Rattle.std.specs.Prelude.{◌≡◌, ◌+◌, ◌<◌, ◌≤◌, length};
 ghost use Rattle.std.specs.Option.{IfSome};
 ghost use Rattle.text.specs.Text.{part, is_name_byte, all, name_laid};
-ghost use Rattle.card_text.specs.StepsFields.{run_of, number_as, lead, skip};
+ghost use Rattle.card_text.specs.StepsFields.{digits_run, number_as, lead, skip};
 
 use crate::Fill;
 
@@ -27,7 +27,7 @@ pub fn bytes_at<'a>(s: &'a [u8], o: usize, w: usize) -> &'a [u8]
 pub fn digits_at(s: &[u8], o: usize, w: usize) -> Option<u64>
     requires within { o + w ≤ length s.now }
     requires width { w ≤ 8 }
-    ensures value { result ≡ run_of (part o w s.now) }
+    ensures value { result ≡ digits_run (part o w s.now) }
     ensures small { IfSome result (λ v. v < 100000000) }
 {
     text::digits_of(bytes_at(s, o, w))

@@ -13,7 +13,7 @@
 use Rattle.std.specs.Prelude.{ℕ, cond, not, eqb, replicate, ℤ, pos, Result, Ok, Err}
 use Rattle.whole.specs.Results.{◌>>=◌}
 use Rattle.arc.specs.declared.refusal.Refusal.{Refusal}
-use Rattle.arc.specs.Refusals.{number_of, place_of}
+use Rattle.arc.specs.Refusals.{refusal_number, refusal_place}
 use Rattle.card_text.specs.declared.Fields.{Fields}
 use Rattle.card_text.specs.declared.Record.{Record}
 use Rattle.card.specs.declared.Reading.{Reading}
@@ -76,8 +76,8 @@ card_block (Ok x) =
     }
 card_block (Err e) =
     record {
-      number = number_of e;
-      at = place_of e;
+      number = refusal_number e;
+      at = refusal_place e;
       a = 0;
       b = 0;
       n = pos 0;
@@ -110,23 +110,23 @@ record_from r =
 
 abbrev pub refusal_block : Result Unit Refusal → RefusalParts
 refusal_block (Ok x) = record { number = 0; at = 0 }
-refusal_block (Err e) = record { number = number_of e; at = place_of e }
+refusal_block (Err e) = record { number = refusal_number e; at = refusal_place e }
 
 abbrev pub verdict_block : Result (OnCard Unit) Refusal → VerdictParts
 verdict_block (Ok x) = record { number = 0; at = 0; blanks = x.blanks }
-verdict_block (Err e) = record { number = number_of e; at = place_of e; blanks = 0 }
+verdict_block (Err e) = record { number = refusal_number e; at = refusal_place e; blanks = 0 }
 
 abbrev pub place_block : Result (OnCard Place) Refusal → PlaceOnCard
 place_block (Ok x) = record { number = 0; at = 0; row = x.answer.row; column = x.answer.column; blanks = x.blanks }
-place_block (Err e) = record { number = number_of e; at = place_of e; row = pos 0; column = pos 0; blanks = 0 }
+place_block (Err e) = record { number = refusal_number e; at = refusal_place e; row = pos 0; column = pos 0; blanks = 0 }
 
 abbrev pub position_block : Result (OnCard Position) Refusal → PositionOnCard
 position_block (Ok x) = record { number = 0; at = 0; lat = x.answer.lat; lon = x.answer.lon; blanks = x.blanks }
-position_block (Err e) = record { number = number_of e; at = place_of e; lat = pos 0; lon = pos 0; blanks = 0 }
+position_block (Err e) = record { number = refusal_number e; at = refusal_place e; lat = pos 0; lon = pos 0; blanks = 0 }
 
 abbrev pub pixel_block : Result (OnCard Pixel) Refusal → PixelOnCard
 pixel_block (Ok x) = record { number = 0; at = 0; row = x.answer.row; column = x.answer.column; blanks = x.blanks }
-pixel_block (Err e) = record { number = number_of e; at = place_of e; row = pos 0; column = pos 0; blanks = 0 }
+pixel_block (Err e) = record { number = refusal_number e; at = refusal_place e; row = pos 0; column = pos 0; blanks = 0 }
 
 -- the chart's card and the overview's are read: two totals
 abbrev pub overview_block : Result (OnCards Pixel) Refusal → OverviewOnCards
@@ -139,4 +139,4 @@ overview_block (Ok x) =
       blanks = x.blanks;
       overview_blanks = x.overview_blanks;
     }
-overview_block (Err e) = record { number = number_of e; at = place_of e; row = pos 0; column = pos 0; blanks = 0; overview_blanks = 0 }
+overview_block (Err e) = record { number = refusal_number e; at = refusal_place e; row = pos 0; column = pos 0; blanks = 0; overview_blanks = 0 }

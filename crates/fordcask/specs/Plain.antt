@@ -8,7 +8,7 @@ use Rattle.arrayvec.specs.ArrayVec.{ArrayVec}
 use Rattle.whole.specs.Lists.{padded}
 use Rattle.arc.specs.declared.refusal.Refusal.{Refusal}
 use Rattle.arc.specs.declared.series.Spacing.{Spacing}
-use Rattle.arc.specs.Refusals.{number_of, place_of}
+use Rattle.arc.specs.Refusals.{refusal_number, refusal_place}
 use Rattle.origin.specs.declared.Origin.{Origin}
 use Rattle.card.specs.declared.Offset.{Offset}
 use Rattle.fordcask.specs.declared.parts.SpacingParts.{SpacingParts}
@@ -20,24 +20,24 @@ use Rattle.fordcask.specs.declared.parts.OffsetParts.{OffsetParts}
 
 abbrev pub spacing_block : Result Spacing Refusal → SpacingParts
 spacing_block (Ok x) = record { number = 0; at = 0; a = x.a; b = x.b }
-spacing_block (Err e) = record { number = number_of e; at = place_of e; a = 0; b = 0 }
+spacing_block (Err e) = record { number = refusal_number e; at = refusal_place e; a = 0; b = 0 }
 
 abbrev pub zone_block : Result ℕ Refusal → ZoneParts
 zone_block (Ok zone) = record { number = 0; at = 0; zone = zone }
-zone_block (Err e) = record { number = number_of e; at = place_of e; zone = 0 }
+zone_block (Err e) = record { number = refusal_number e; at = refusal_place e; zone = 0 }
 
 abbrev pub cover_block : Result (ArrayVec ℕ) Refusal → CoverParts
 cover_block (Ok zs) = record { number = 0; at = 0; length = length zs.items; zones = padded 6 zs.items }
-cover_block (Err e) = record { number = number_of e; at = place_of e; length = 0; zones = replicate 6 0 }
+cover_block (Err e) = record { number = refusal_number e; at = refusal_place e; length = 0; zones = replicate 6 0 }
 
 abbrev pub rectangle_block : Result (ArrayVec ℕ) Refusal → RectangleParts
 rectangle_block (Ok zs) = record { number = 0; at = 0; length = length zs.items; zones = padded 18 zs.items }
-rectangle_block (Err e) = record { number = number_of e; at = place_of e; length = 0; zones = replicate 18 0 }
+rectangle_block (Err e) = record { number = refusal_number e; at = refusal_place e; length = 0; zones = replicate 18 0 }
 
 abbrev pub origin_block : Result Origin Refusal → OriginParts
 origin_block (Ok o) = record { number = 0; at = 0; n = o.n; m = o.m; pso = o.pso; lso = o.lso }
-origin_block (Err e) = record { number = number_of e; at = place_of e; n = pos 0; m = pos 0; pso = pos 0; lso = pos 0 }
+origin_block (Err e) = record { number = refusal_number e; at = refusal_place e; n = pos 0; m = pos 0; pso = pos 0; lso = pos 0 }
 
 abbrev pub offset_block : Result Offset Refusal → OffsetParts
 offset_block (Ok o) = record { number = 0; at = 0; lat = o.lat; lon = o.lon }
-offset_block (Err e) = record { number = number_of e; at = place_of e; lat = of_int binary64 (pos 0); lon = of_int binary64 (pos 0) }
+offset_block (Err e) = record { number = refusal_number e; at = refusal_place e; lat = of_int binary64 (pos 0); lon = of_int binary64 (pos 0) }

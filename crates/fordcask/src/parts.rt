@@ -1,5 +1,6 @@
 // Blocks of numbers, laid out as C has them (bindings/c/fordcask.h). `number` and `at` are the refusal's number and place, both 0 in an answer; the values
-// of an answer are 0 in a refusal, and so is the total of blanks of the card, which stands last.
+// of an answer are 0 in a refusal, and so is the total of blanks of the card, which stands last. C has no `Result`, no `Option`, no `bool` and no list that
+// knows its length: so numbers stand for kinds, zeros for what is not there, and a length beside an array.
 
 /// Number and place, of a question whose answer is left in a buffer and that reads no card.
 #[repr(C)]

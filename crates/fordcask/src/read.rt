@@ -23,6 +23,7 @@ pub struct OnCards<T> {
     pub overview_blanks: u64,
 }
 
+// Questions that write into a lent buffer read the card themselves: no clause here could say what a question leaves there.
 /// Reads a card and asks it. Refuses as reading does, then as the question does.
 pub fn on_card<T: Copy, F: FnOnce(Card) -> Result<T, Refusal>>(
     series: Series,

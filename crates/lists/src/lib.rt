@@ -167,7 +167,7 @@ fn fill(engine: Engine, asked: Asked, list: &[i64], values: &mut [i64], numbers:
     }
 }
 
-/// The answers to the entries of a list, in either pair; a number is 0 where its entry is answered. Refuses 6, and then both lists stay.
+/// The answers to the entries of a list, in either pair; a number is 0 where its entry is answered. Refuses `Length`, and then both lists stay.
 pub fn answer_list(
     pair: Pair,
     card: Card,
@@ -188,7 +188,7 @@ pub fn answer_list(
     Ok(())
 }
 
-/// The positions of the centres of a list of pixels; a number is 0 where its pixel is answered. Refuses 6, and then both lists stay.
+/// The positions of the centres of a list of pixels; a number is 0 where its pixel is answered. Refuses `Length`, and then both lists stay.
 pub fn positions(
     card: Card,
     pixels: &[i64],

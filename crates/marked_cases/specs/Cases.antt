@@ -4,7 +4,8 @@
 --     AllAs cs           in each case the two are the same
 --     card               the bytes of document 01's card, as its two parts
 --     cases              the list
-use Rattle.std.specs.Prelude.{◌≡◌, List, [], ◌∷◌, ◌++◌, map, ℕ, ℤ, pos, neg_ℤ, Result, Ok, Err}
+use Rattle.std.specs.Prelude.{◌≡◌, List, [], ◌∷◌, ◌++◌, map, length, ℕ, ℤ, pos, neg_ℤ, Result, Ok, Err}
+use Rattle.whole.specs.Lists.{padded}
 use Rattle.whole.specs.Results.{◌>>=◌}
 use Rattle.arc.specs.declared.refusal.Refusal.{Refusal}
 use Rattle.arc.specs.Scales.{chart_series}
@@ -38,9 +39,9 @@ abbrev pub numbers : {A : Type 0} → (A → List ℤ) → Result A Refusal → 
 numbers f (Ok x) = f x
 numbers f (Err e) = []
 
--- the zones of a cover list
+-- the length of a cover list, and the list in its six slots
 abbrev pub cover : ℕ → ℤ → List ℤ
-cover scale lat = numbers (λ v. map pos v.items) (cover_of scale 1 lat)
+cover scale lat = numbers (λ v. map pos (length v.items ∷ padded 6 v.items)) (cover_of scale 1 lat)
 
 abbrev pub zone : ℤ → List ℤ
 zone lat = numbers (λ z. pos z ∷ []) (basic_zone_of lat)
@@ -76,9 +77,9 @@ cases =
     case (zone (pos 28799999) ++ zone (pos 28800000)) (pos 8 ∷ pos 9 ∷ []) ∷
     -- at 1:1,000,000, 11,851,457 is covered by 2, 1 and 11,851,458 by 2 only
     case (cover 1000000 (pos 11851457) ++ cover 1000000 (pos 11851458))
-    (map pos (2 ∷ 1 ∷ 2 ∷ [])) ∷
+    (map pos (2 ∷ 2 ∷ 1 ∷ 0 ∷ 0 ∷ 0 ∷ 0 ∷ 1 ∷ 2 ∷ 0 ∷ 0 ∷ 0 ∷ 0 ∷ 0 ∷ [])) ∷
     -- at 1:5,000,000, 27,360,000 is covered by 8, 7, 6
-    case (cover 5000000 (pos 27360000)) (map pos (8 ∷ 7 ∷ 6 ∷ [])) ∷
+    case (cover 5000000 (pos 27360000)) (map pos (3 ∷ 8 ∷ 7 ∷ 6 ∷ 0 ∷ 0 ∷ 0 ∷ [])) ∷
     -- at 1:1,000,000 zone 1, n = 100 stores 4,143,223
     case (stored_row (pos 100)) (pos 4143223 ∷ []) ∷
     -- m = −20 stores −897,507

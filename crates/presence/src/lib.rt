@@ -5,6 +5,7 @@ ghost use Rattle.std.specs.Prelude.{◌≡◌, ◌+◌, ◌-◌, ◌/◌, ◌%�
 ghost use Rattle.presence.specs.Presence.{present, counted, number_at, any_set_from, within};
 
 /// A tile's bit, 1 where it is stored; 0 past the words.
+// A number, not a `bool`: it is what the definition has, and callers add it.
 pub fn bit(words: &[u64], tile: u64) -> u64
     ensures { result ≡ present words.now tile }
 {

@@ -5,7 +5,7 @@ use mathlib.Core.Bool.{and-eq-true_iff}
 use Rattle.text.specs.Text.{all, is_digit, number}
 use Rattle.text.specs.Buffer.{digits_in}
 use Rattle.text.proofs.Numbers.{number-below}
-use Rattle.printing.specs.Lines.{up_to, after, is_number, number_in, both, numbers_of}
+use Rattle.printing.specs.Lines.{up_to, after, is_number, short_number, both, numbers_of}
 use Rattle.printing.specs.Steps.{IsUncut}
 use Rattle.printing.specs.declared.parse.TwoNumbers.{TwoNumbers}
 
@@ -15,7 +15,7 @@ below s t =
     let d = (and-eq-true_iff (nat_le 1 (length s)) (nat_le (length s) 9)).0 b.0 in
     number-below 9 s (leb-true (length s) 9 d.1) b.1
 
-small : (s : List ℕ) {v : ℕ} → number_in s ≡ Some v → v < 1000000000
+small : (s : List ℕ) {v : ℕ} → short_number s ≡ Some v → v < 1000000000
 small s {v} e = go (is_number s) refl e
   where
     go : (t : Bool) → is_number s ≡ t → cond t (Some (number s)) None ≡ Some v → v < 1000000000
@@ -24,11 +24,11 @@ small s {v} e = go (is_number s) refl e
 
 -- a run of 1 to 9 bytes as it was read
 module _ (s : List ℕ) (least : 1 ≤ length s) (most : length s ≤ 9) where
-  in-digits : digits_in s ≡ number_in s
+  in-digits : digits_in s ≡ short_number s
   unfolding digits_in
   in-digits = rw (le-leb 1 (length s) least, le-leb (length s) 9 most, le-leb (length s) 17 (omega arith))
 
-  pub number_is_read : {r : Option ℕ} → r ≡ digits_in s → r ≡ number_in s
+  pub number_is_read : {r : Option ℕ} → r ≡ digits_in s → r ≡ short_number s
   number_is_read e = e ∙ in-digits
 
   pub some_is_below : {v : ℕ} → Some v ≡ digits_in s → v < 2 ^ 32
@@ -44,18 +44,18 @@ both-none (Some x) = refl
 
 pub uncut_has_none : (l : List ℕ) → IsUncut 32 l → None ≡ numbers_of l
 unfolding numbers_of
-uncut_has_none l u = rw u.ended (both-none (number_in (up_to 32 l)))
+uncut_has_none l u = rw u.ended (both-none (short_number (up_to 32 l)))
 
 module _ (l : List ℕ) {x y : List ℕ} (p : x ≡ up_to 32 l) (q : y ≡ after 32 l) where
-  pub no_left : None ≡ number_in x → None ≡ numbers_of l
+  pub no_left : None ≡ short_number x → None ≡ numbers_of l
   unfolding numbers_of
   no_left e = rw (← p, ← e)
 
-  pub no_right : None ≡ number_in y → None ≡ numbers_of l
+  pub no_right : None ≡ short_number y → None ≡ numbers_of l
   unfolding numbers_of
-  no_right e = rw (← q, ← e) (both-none (number_in (up_to 32 l)))
+  no_right e = rw (← q, ← e) (both-none (short_number (up_to 32 l)))
 
-  pub two_numbers : {v w : ℕ} → Some v ≡ number_in x → Some w ≡ number_in y → Some (record { left = v; right = w }) ≡ numbers_of l
+  pub two_numbers : {v w : ℕ} → Some v ≡ short_number x → Some w ≡ short_number y → Some (record { left = v; right = w }) ≡ numbers_of l
   unfolding numbers_of
   two_numbers e f = rw (← p, ← q, ← e, ← f)
 
@@ -65,9 +65,9 @@ pub ruleset line_reads = (uncut_has_none, no_left, no_right, two_numbers)
 
 pub pair-below : (l : List ℕ) (p : TwoNumbers) → numbers_of l ≡ Some p → (p.left < 1000000000) × (p.right < 1000000000)
 unfolding numbers_of
-pair-below l p e = go (number_in (up_to 32 l)) (number_in (after 32 l)) refl refl e
+pair-below l p e = go (short_number (up_to 32 l)) (short_number (after 32 l)) refl refl e
   where
-    go : (x y : Option ℕ) → number_in (up_to 32 l) ≡ x → number_in (after 32 l) ≡ y → both x y ≡ Some p
+    go : (x y : Option ℕ) → short_number (up_to 32 l) ≡ x → short_number (after 32 l) ≡ y → both x y ≡ Some p
         → (p.left < 1000000000) × (p.right < 1000000000)
     go (Some v) (Some w) f g e =
         let q : record { left = v; right = w } ≡ p = cc in

@@ -15,7 +15,7 @@ use Rattle.text.specs.Text.{bytes, decimal}
 use Rattle.card_text.specs.declared.Fields.{Fields}
 use Rattle.card.specs.declared.Position.{Position}
 use Rattle.card.specs.Read.{card_read}
-use Rattle.arc.specs.Refusals.{number_of, place_of}
+use Rattle.arc.specs.Refusals.{refusal_number, refusal_place}
 use Rattle.printing.specs.Lines.{numbers_of}
 use Rattle.printing.specs.declared.parse.TwoNumbers.{TwoNumbers}
 use Rattle.card.specs.declared.Reading.{Reading}
@@ -37,7 +37,7 @@ put e f = put_if (e, f)
 
 pub answer-short : (a : Result Position Refusal) → length (answer_text a) ≤ 29
 answer-short (Ok p) = simp (length-append, length-angle) (omega arith)
-answer-short (Err e) = simp length-append (omega (arith, decimal-most (number_of e)))
+answer-short (Err e) = simp length-append (omega (arith, decimal-most (refusal_number e)))
 
 -- row and column
 pub lead-short : (row column : ℕ) → row < 10000000000 → column < 10000000000 → length (decimal row ++ bytes " " ++ decimal column ++ bytes " ") ≤ 22
@@ -59,7 +59,7 @@ pub lead-put : (row column : ℕ) {s t u v w : List ℕ} {q p o r : ℕ} → row
 lead-put row column h l m a b c d = put_then (put_then (put_then a b) c) d (omega (arith, lead-short row column h l))
 
 pub refusal-short : (e : Refusal) → length (refusal_text e) ≤ 64
-refusal-short e = simp length-append (omega (arith, decimal-most (number_of e), decimal-most (place_of e)))
+refusal-short e = simp length-append (omega (arith, decimal-most (refusal_number e), decimal-most (refusal_place e)))
 
 pub line-short : (k : Fields) (l : List ℕ) → length (line_for k l) ≤ 64
 unfolding line_for

@@ -4,7 +4,7 @@
 --     after e s           the bytes after it, none where there is none
 --     before_space, after_space    a line's two parts at its first space
 --     is_number s         1 to 9 digits
---     number_in s         their number
+--     short_number s         their number
 --     numbers_of l        the two numbers of a line, one space between
 use Rattle.std.specs.Prelude.{ℕ, List, [], ◌∷◌, Bool, cond, ◌&&◌, ◌==◌, nat_le, length, Option, Some, None}
 use Rattle.text.specs.Text.{is_digit, all, number}
@@ -40,8 +40,8 @@ after_space s = after 32 s
 abbrev pub is_number : List ℕ → Bool
 is_number s = nat_le 1 (length s) && nat_le (length s) 9 && all is_digit s
 
-abbrev pub number_in : List ℕ → Option ℕ
-number_in s = cond (is_number s) (Some (number s)) None
+abbrev pub short_number : List ℕ → Option ℕ
+short_number s = cond (is_number s) (Some (number s)) None
 
 abbrev pub both : Option ℕ → Option ℕ → Option TwoNumbers
 both (Some x) (Some y) = Some (record { left = x; right = y })
@@ -49,4 +49,4 @@ both (Some x) None = None
 both None o = None
 
 unfoldable pub numbers_of : List ℕ → Option TwoNumbers
-numbers_of l = both (number_in (before_space l)) (number_in (after_space l))
+numbers_of l = both (short_number (before_space l)) (short_number (after_space l))

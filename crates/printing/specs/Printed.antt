@@ -3,7 +3,7 @@
 --     printed s          the whole output
 use Rattle.std.specs.Prelude.{ℕ, List, [], ◌∷◌, ◌++◌, cond, nat_lt, length, pos, Option, Some, None, Result, Ok, Err}
 use Rattle.arc.specs.declared.refusal.Refusal.{Refusal}
-use Rattle.arc.specs.Refusals.{number_of, place_of}
+use Rattle.arc.specs.Refusals.{refusal_number, refusal_place}
 use Rattle.arc.specs.Scales.{chart_series}
 use Rattle.card_text.specs.declared.Fields.{Fields}
 use Rattle.card.specs.declared.Reading.{Reading}
@@ -31,7 +31,7 @@ position_text p = angle_text 2 p.lat ++ bytes " " ++ angle_text 3 p.lon ++ bytes
 -- the position, or "refused" and the number
 abbrev pub answer_text : Result Position Refusal → List ℕ
 answer_text (Ok p) = position_text p
-answer_text (Err e) = bytes "refused " ++ decimal (number_of e) ++ bytes "\n"
+answer_text (Err e) = bytes "refused " ++ decimal (refusal_number e) ++ bytes "\n"
 
 -- row, column, and the answer
 abbrev pub pixel_text : ℕ → ℕ → Result Position Refusal → List ℕ
@@ -51,7 +51,7 @@ lines_for k (l ∷ ls) = line_for k l ++ lines_for k ls
 
 -- a refused card, scale and zone included, prints only "card refused", the number and the place
 abbrev pub refusal_text : Refusal → List ℕ
-refusal_text e = bytes "card refused " ++ decimal (number_of e) ++ bytes " " ++ decimal (place_of e) ++ bytes "\n"
+refusal_text e = bytes "card refused " ++ decimal (refusal_number e) ++ bytes " " ++ decimal (refusal_place e) ++ bytes "\n"
 
 abbrev pub card_out : Result Reading Refusal → List (List ℕ) → List ℕ
 card_out (Ok r) ls = header ++ lines_for r.card ls

@@ -2,7 +2,7 @@
 --     line_at s at       the line that starts at an offset
 --     next_at s at       where the next line starts
 --     opening_of s       what is printed before any line of row and column, and where those start; where none follow, the end of the input
---     blanks_of o        the total of blanks met in reading the card, 0 where none was read; nothing is printed of it
+--     opening_blanks o        the total of blanks met in reading the card, 0 where none was read; nothing is printed of it
 --     goes_on s at out   where a caller of `pixel_line` goes on
 --     from_on k s at n   the texts of the lines from an offset on, put together, n being no less than their count
 --     run_of s           the texts of `opening` and of `pixel_line`, put together, in a run whose buffers have room
@@ -54,9 +54,9 @@ opening_of s =
     (cond (nat_le (length s) (next_at s 0)) (closed bad_line (length s))
     (opened_card (numbers_of (line_at s 0)) (line_at s (next_at s 0)) (next_at s (next_at s 0)) (length s)))
 
-abbrev pub blanks_of : Option Reading → ℕ
-blanks_of (Some r) = r.blanks
-blanks_of None = 0
+abbrev pub opening_blanks : Option Reading → ℕ
+opening_blanks (Some r) = r.blanks
+opening_blanks None = 0
 
 -- past the input, at the offset itself; in an input above 64 KiB, at its end; with room in the buffer, after the line; else at the line again
 unfoldable pub goes_on : List ℕ → ℕ → List ℕ → ℕ

@@ -5,7 +5,7 @@ ghost use Rattle.std.specs.Prelude.{◌≡◌, ◌≤◌, OnOk, length, drop};
 ghost use Rattle.std.specs.Io.KnownBytes.{Appends};
 ghost use Rattle.printing.specs.Lines.{lines_of};
 ghost use Rattle.printing.specs.Printed.{lines_for, printed};
-ghost use Rattle.printing.specs.Run.{blanks_of};
+ghost use Rattle.printing.specs.Run.{opening_blanks};
 ghost use Rattle.printing.specs.Steps.{opening_for, opening_text, opening_left, line_text, line_left, no_line};
 
 use card::{Card, Reading};
@@ -23,6 +23,7 @@ const LONGEST: usize = 65536;
 /// The room that a text may need, in bytes.
 const ROOM: usize = 64;
 
+// A length and an offset, not slices: the text stands in the lent buffer, since nothing is on the heap.
 /// What is printed first: its length in the buffer, the offset to go on from, and the card that the lines there ask of.
 /// Where no lines follow, there is no card, and the offset is the end of the input.
 #[derive(Clone, Copy)]
@@ -42,7 +43,7 @@ pub struct LineText {
 impl OpeningText {
     /// The total of blanks met in reading the card; 0 where no card was read.
     pub fn blanks(self) -> u64
-        ensures { result ≡ blanks_of self.read }
+        ensures { result ≡ opening_blanks self.read }
     {
         match self.read {
             Some(read) => read.blanks,

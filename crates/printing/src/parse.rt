@@ -1,7 +1,7 @@
 // A line of the input and its two numbers.
 ghost use Rattle.std.specs.Prelude.{◌≡◌, ◌+◌, ◌≤◌, ◌==◌, length, MatchOption};
 ghost use Rattle.std.specs.List.{position};
-ghost use Rattle.printing.specs.Lines.{up_to, after, number_in, numbers_of};
+ghost use Rattle.printing.specs.Lines.{up_to, after, short_number, numbers_of};
 ghost use Rattle.printing.specs.Run.{line_at};
 ghost use Rattle.printing.specs.Steps.{IsUncut};
 
@@ -42,8 +42,8 @@ pub fn line_at(input: &[u8], at: usize) -> &[u8]
 
 /// A number of 1 to 9 digits.
 #[tactic(auto, using(crate::proofs::Pairs::number_reads))]
-fn number_in(s: &[u8]) -> Option<u32>
-    ensures { result ≡ number_in s.now }
+fn short_number(s: &[u8]) -> Option<u32>
+    ensures { result ≡ short_number s.now }
 {
     if !(1..=9).contains(&s.len()) {
         return None;
@@ -58,7 +58,7 @@ pub fn numbers_in(line: &[u8]) -> Option<TwoNumbers>
     ensures { result ≡ numbers_of line.now }
 {
     let (left, right) = split_once(line, b' ')?;
-    let left = number_in(left)?;
-    let right = number_in(right)?;
+    let left = short_number(left)?;
+    let right = short_number(right)?;
     Some(TwoNumbers { left, right })
 }

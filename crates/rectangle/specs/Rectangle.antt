@@ -1,6 +1,5 @@
 -- The zones of a rectangle, south to north. Definitions only; what they are held to is in Points.antt.
 --     rectangle_zones b south north     every zone that shares a stretch of more than zero height with the rectangle, in ascending zone number
---     listed zs                         zs as it is answered
 --     rectangle_of S factor south north what `rectangle` answers: the list, or the refusals Scale, Factor, Scale, Latitude, Latitude, CrossedEdges
 use Rattle.std.specs.Prelude.{ℕ, if◌then◌else◌, not, List, ℤ, Result, Ok, Err}
 use Rattle.std.specs.Int.Signed.{lt_z}
@@ -11,13 +10,11 @@ use Rattle.whole.specs.Lists.{those, up_from}
 use Rattle.arc.specs.declared.refusal.Refusal.{Refusal}
 use Rattle.arc.specs.Zones.{quarter}
 use Rattle.arc.specs.Spacing.{rows_of}
+use Rattle.zones.specs.Cover.{listed}
 use Rattle.rectangle.specs.Stretch.{shares}
 
 unfoldable pub rectangle_zones : ℕ → ℤ → ℤ → List ℕ
 rectangle_zones b south north = those (shares b south north) (up_from 1 18)
-
-abbrev pub listed : List ℕ → ArrayVec ℕ
-listed zs = record { items = zs }
 
 -- the edges are crossed where the south edge is not below the north edge: above it, and also equal to it
 abbrev pub rectangle_at : ℕ → ℤ → ℤ → Result (ArrayVec ℕ) Refusal

@@ -5,7 +5,8 @@ ghost use Rattle.std.specs.Prelude.{◌≡◌, ◌<◌, ◌≤◌, pos, ◌-ℤ�
 ghost use Rattle.arc.specs.Zones.{half, quarter};
 ghost use Rattle.zones.specs.Steps.{Rows};
 ghost use Rattle.rectangle.specs.Stretch.{shares};
-ghost use Rattle.rectangle.specs.Rectangle.{listed, rectangle_zones, rectangle_of};
+ghost use Rattle.zones.specs.Cover.{listed};
+ghost use Rattle.rectangle.specs.Rectangle.{rectangle_zones, rectangle_of};
 ghost use Rattle.rectangle.specs.Steps.{shares_row, Sides};
 
 use arc::{Circle, Overlap, Pixels, Refusal, Row, TABLE};

@@ -20,7 +20,7 @@ use Rattle.tiles.specs.Index.{tiles, in_base, IndexView, tile_bytes, index_lengt
 use Rattle.tiles.specs.LookUp.{store_at}
 use Rattle.tiles.specs.Corrections.{list_wrong, corrections_wrong, said_with, corrected_by}
 use Rattle.tiles.specs.Bits.{words_length, words_wrong, said_bits, by_bits}
-use Rattle.tiles.specs.Steps.{Lies, IsHeld, kind, IsGlance, said_before, glance_bits, end_of}
+use Rattle.tiles.specs.Steps.{Lies, IsHeld, kind, IsGlance, said_before, glance_bits, bits_end}
 use Rattle.tiles.specs.Entries.{neither, not-wrong, said-above, said-stored, EntryIs, entry-is}
 
 -- ---- what is said to be stored lies in its store
@@ -103,20 +103,20 @@ corrected-glance k f g corrections corrected same t h = go (eqb (get_or correcti
     go false = refl
 
 -- the bits say the same by their count and by where it passes the stated one, the number aside
-pub bits-glance : (k : Fields) (words : List ℕ) (count : ℕ) → IsGlance k (glance_bits k words (end_of k words count)) (said_bits k words count)
+pub bits-glance : (k : Fields) (words : List ℕ) (count : ℕ) → IsGlance k (glance_bits k words (bits_end k words count)) (said_bits k words count)
 unfolding said_bits glance_bits
-bits-glance k words count t h = go k.tif (ℕ_discrete (present words t) 0) (dec_le (end_of k words count) t)
+bits-glance k words count t h = go k.tif (ℕ_discrete (present words t) 0) (dec_le (bits_end k words count) t)
   where
-    go : (b : Bool) → Dec (present words t ≡ 0) → Dec (end_of k words count ≤ t)
-        → kind (cond b (said_before (end_of k words count) words t) (Said.Stored (in_base 0)))
+    go : (b : Bool) → Dec (present words t ≡ 0) → Dec (bits_end k words count ≤ t)
+        → kind (cond b (said_before (bits_end k words count) words t) (Said.Stored (in_base 0)))
         ≡ kind (cond b (said Source.Base count (number_at words t)) (Said.Stored (in_base (t + 1))))
     go false d b = refl
     go true (yes e) b = rw (eq-eqb (present words t) 0 e, number-none words t e)
     go true (no d) (yes l) =
-        rw (ne_eqb (present words t) 0 d, le-leb (end_of k words count) t l)
+        rw (ne_eqb (present words t) 0 d, le-leb (bits_end k words count) t l)
         (sym (ap kind (said-above Source.Base count (number_at words t) (some_number words t d)
         (omega (arith, number-some words t d, far words count (tiles k) t h l)))))
     go true (no d) (no l) =
-        rw (ne_eqb (present words t) 0 d, lt-leb (end_of k words count) t (lt_of_not-le l))
+        rw (ne_eqb (present words t) 0 d, lt-leb (bits_end k words count) t (lt_of_not-le l))
         (sym (ap kind (said-stored Source.Base count (number_at words t) (some_number words t d)
         (omega (arith, number-some words t d, near words count (tiles k) t (lt_of_not-le l))))))

@@ -37,8 +37,8 @@ unfoldable pub glance_bits : Fields → List ℕ → ℕ → ℕ → Said
 glance_bits k words end t = cond k.tif (said_before end words t) (Said.Stored (in_base 0))
 
 -- how far the bits are not above the count
-abbrev pub end_of : Fields → List ℕ → ℕ → ℕ
-end_of k words count = within words count (tiles k)
+abbrev pub bits_end : Fields → List ℕ → ℕ → ℕ
+bits_end k words count = within words count (tiles k)
 
 -- a window of an image
 pub record WindowRows (k : Fields) (top left height width : ℕ) : Type 0 where

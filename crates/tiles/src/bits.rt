@@ -1,7 +1,7 @@
 ghost use Rattle.std.specs.Prelude.{◌≡◌, length};
 ghost use Rattle.card_text.specs.Read.{Known};
 ghost use Rattle.tiles.specs.Bits.{words_length, words_wrong, bits_wrong, stray_bit, by_bits};
-ghost use Rattle.tiles.specs.Steps.{glance_bits, end_of};
+ghost use Rattle.tiles.specs.Steps.{glance_bits, bits_end};
 ghost use Rattle.tiles.specs.Laws.{bits-held, bits-glance};
 
 use crate::{Said, Source, Stored, Stores, TileIndex, count_wrong, number_says, tiles_of};
@@ -51,7 +51,7 @@ impl ByBits<'_> {
 impl TileIndex for ByBits<'_> {
     ghost view = { λ i k. by_bits k i.words.now i.count };
 
-    ghost end = { λ i k. end_of k i.words.now i.count };
+    ghost end = { λ i k. bits_end k i.words.now i.count };
 
     ghost glance = { λ i k before t. glance_bits k i.words.now before t };
 

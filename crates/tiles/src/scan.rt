@@ -22,6 +22,7 @@ fn missing_in<I: TileIndex>(card: Card, index: &I, window: Window) -> Result<Opt
     let across = card.fields().nfc;
     let end = index.end(card);
     let mut missing = None;
+    // left by a label at the first zero entry, as docs/RULES.md wants a loop of the library to be
     'rows: for r in 0..window.height {
         let start = (window.top + r) * across + window.left;
         for c in 0..window.width {

@@ -54,6 +54,7 @@ pub fn basic_zone(lat: i64) -> Result<u64, Refusal>
 
 /// The basic zone, then those equatorward of it that reach the latitude.
 fn zones_covering(b: Pixels, lat: i64) -> ArrayVec<u64, 6>
+    // of B alone: `Pixels` holds A as well, which may be below 20,480
     requires rows { Rows b }
     requires in_range { outside quarter lat ≡ false }
     ensures { result ≡ listed (cover_zones b lat) }
