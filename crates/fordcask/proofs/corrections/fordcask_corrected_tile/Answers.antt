@@ -15,7 +15,7 @@ corrected_tile_block-requires c =
     let a = c.args in
     let b : length a.store.now < 2 ^ 64 = omega (arith, c.well_formed) in
     let e : c.on_card.result ≡ asked (card_read a.series a.card.now)
-        (λ k. source_of k a.index.now a.count a.store.now a.corrections.now a.corrected a.second.now a.row a.column) = search rules in
+    (λ k. source_of k a.index.now a.count a.store.now a.corrections.now a.corrected a.second.now a.row a.column) = search rules in
     subst Numbered (sym e)
     (numbered (card_read a.series a.card.now) (λ k. corrected_by k (by_list k a.index.now a.count) a.corrections.now a.corrected)
     a.store.now a.second.now a.row a.column b (omega (arith, c.well_formed))

@@ -14,6 +14,6 @@ tile_block-requires c =
     let a = c.args in
     let b : length a.store.now < 2 ^ 64 = omega (arith, c.well_formed) in
     let e : c.on_card.result ≡ asked (card_read a.series a.card.now)
-        (λ k. number_of k a.index.now a.count a.store.now a.row a.column) = search rules in
+    (λ k. number_of k a.index.now a.count a.store.now a.row a.column) = search rules in
     subst Numbered (sym e)
     (numbered (card_read a.series a.card.now) (λ k. by_list k a.index.now a.count) a.store.now [] a.row a.column b (omega arith) (λ k. list-held k a.index.now a.count))
