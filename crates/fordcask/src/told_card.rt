@@ -1,5 +1,5 @@
 // The blocks of questions on a card: an answer with the total of the card's blanks, or a refusal, in numbers.
-ghost use Rattle.std.specs.Prelude.{◌≡◌};
+ghost use Rattle.std.specs.Prelude.{◌≡◌, Err};
 ghost use Rattle.fordcask.specs.Entry.{card_block, record_from, refusal_block, verdict_block, place_block, position_block, pixel_block, overview_block};
 
 use crate::parts::{
@@ -10,6 +10,29 @@ use crate::read::{OnCard, OnCards};
 use arc::Refusal;
 use card::{Pixel, Place, Position, Reading};
 use card_text::Record;
+
+/// What a refused card holds: nothing.
+fn no_card(e: Refusal) -> CardParts
+    ensures { result ≡ card_block (Err e) }
+{
+    CardParts {
+        number: e.number(),
+        at: e.place(),
+        a: 0,
+        b: 0,
+        n: 0,
+        m: 0,
+        nul: 0,
+        nus: 0,
+        nll: 0,
+        nls: 0,
+        nfl: 0,
+        nfc: 0,
+        bad: [0; 12],
+        tif: 0,
+        blanks: 0,
+    }
+}
 
 impl From<Result<Reading, Refusal>> for CardParts {
     ghost from_gives = { λ answer block. block ≡ card_block answer };
@@ -37,23 +60,7 @@ impl From<Result<Reading, Refusal>> for CardParts {
                     blanks,
                 }
             }
-            Err(e) => CardParts {
-                number: e.number(),
-                at: e.place(),
-                a: 0,
-                b: 0,
-                n: 0,
-                m: 0,
-                nul: 0,
-                nus: 0,
-                nll: 0,
-                nls: 0,
-                nfl: 0,
-                nfc: 0,
-                bad: [0; 12],
-                tif: 0,
-                blanks: 0,
-            },
+            Err(e) => no_card(e),
         }
     }
 }
