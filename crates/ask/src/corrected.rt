@@ -3,8 +3,9 @@ use crate::fault::Fault;
 use crate::library;
 use crate::look_up::Wanted;
 use crate::shown::{Blanks, Ends};
-use crate::stated::{Corrections, Form, Index, MOST, MOST_WORDS, Pixel, Stated};
+use crate::stated::{Corrections, Form, Index, MOST, MOST_WORDS, Stated};
 use crate::words::Words;
+use card::Pixel;
 use fordcask::{BandsOnCard, CorrectedTile};
 use tiles::Source;
 

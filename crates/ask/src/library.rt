@@ -1,8 +1,8 @@
 //! What is asked of the crates below `fordcask`, for which it has no function.
 use crate::stated;
-use crate::stated::{Corrections, Index, Pixel, Stated};
+use crate::stated::{Corrections, Index, Stated};
 use arc::Refusal;
-use card::Card;
+use card::{Card, Pixel};
 use card_text::Extents;
 use tiles::{ByBits, ByList, Corrected, Stored, Stores};
 

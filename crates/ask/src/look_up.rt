@@ -2,8 +2,9 @@
 use crate::fault::Fault;
 use crate::library;
 use crate::shown::{Blanks, Ends};
-use crate::stated::{Form, Index, MOST, MOST_WORDS, Pixel, Stated};
+use crate::stated::{Form, Index, MOST, MOST_WORDS, Stated};
 use crate::words::Words;
+use card::Pixel;
 
 /// What of a pixel's tile is asked.
 #[derive(Clone, Copy)]
