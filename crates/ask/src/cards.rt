@@ -1,9 +1,10 @@
 //! Questions on a card.
 use crate::fault::{BadLine, Fault};
 use crate::library;
-use crate::shown::{Blanks, Bytes};
+use crate::shown::{Blanks, Bytes, TwoOnCard};
 use crate::stated::{Card, MOST};
 use crate::words::Words;
+use arc::Series;
 use fordcask::{CardParts, RecordParts};
 
 /// `read_card SCALE FACTOR ZONE CARD`: what the card holds.
@@ -83,96 +84,56 @@ pub fn extents(rt: &HostRuntime, words: &mut Words<'_>) -> Result<(), Fault> {
     Ok(())
 }
 
-/// `place SCALE FACTOR ZONE CARD ROW COLUMN`: the place on the zone grid.
-pub fn place(rt: &HostRuntime, words: &mut Words<'_>) -> Result<(), Fault> {
+/// Asks a card by a pixel's row and column or by a position's latitude and longitude, and prints the two numbers that it answers.
+fn two<F: FnOnce(Series, &[u8], i64, i64) -> TwoOnCard>(
+    rt: &HostRuntime,
+    words: &mut Words<'_>,
+    question: F,
+) -> Result<(), Fault>
+    requires { F.IsAlwaysCallable question }
+{
     let mut bytes = [0; MOST];
     let Card { series, bytes } = words.card(&mut bytes)?;
-    let pixel = words.pixel()?;
+    let first = words.number()?;
+    let second = words.number()?;
     words.end()?;
-    let r = fordcask::fordcask_place(series, bytes, pixel.row, pixel.column);
-    println!(rt;
-        "{} {} {} {}{}",
-        r.number,
-        r.at,
-        r.row,
-        r.column,
-        Blanks(r.blanks)
-    )?;
+    println!(rt; "{}", question(series, bytes, first, second))?;
     Ok(())
+}
+
+/// `place SCALE FACTOR ZONE CARD ROW COLUMN`: the place on the zone grid.
+pub fn place(rt: &HostRuntime, words: &mut Words<'_>) -> Result<(), Fault> {
+    two(rt, words, |series, card, row, column| {
+        fordcask::fordcask_place(series, card, row, column).into()
+    })
 }
 
 /// `position SCALE FACTOR ZONE CARD ROW COLUMN`: the position of the pixel's centre.
 pub fn position(rt: &HostRuntime, words: &mut Words<'_>) -> Result<(), Fault> {
-    let mut bytes = [0; MOST];
-    let Card { series, bytes } = words.card(&mut bytes)?;
-    let pixel = words.pixel()?;
-    words.end()?;
-    let r = fordcask::fordcask_position(series, bytes, pixel.row, pixel.column);
-    println!(rt;
-        "{} {} {} {}{}",
-        r.number,
-        r.at,
-        r.lat,
-        r.lon,
-        Blanks(r.blanks)
-    )?;
-    Ok(())
+    two(rt, words, |series, card, row, column| {
+        fordcask::fordcask_position(series, card, row, column).into()
+    })
 }
 
 /// `corner_position SCALE FACTOR ZONE CARD ROW COLUMN`: the position of the pixel's corner.
 pub fn corner_position(rt: &HostRuntime, words: &mut Words<'_>) -> Result<(), Fault> {
-    let mut bytes = [0; MOST];
-    let Card { series, bytes } = words.card(&mut bytes)?;
-    let pixel = words.pixel()?;
-    words.end()?;
-    let r = fordcask::fordcask_corner_position(series, bytes, pixel.row, pixel.column);
-    println!(rt;
-        "{} {} {} {}{}",
-        r.number,
-        r.at,
-        r.lat,
-        r.lon,
-        Blanks(r.blanks)
-    )?;
-    Ok(())
+    two(rt, words, |series, card, row, column| {
+        fordcask::fordcask_corner_position(series, card, row, column).into()
+    })
 }
 
 /// `pixel SCALE FACTOR ZONE CARD LAT LON`: the pixel that contains the position.
 pub fn pixel(rt: &HostRuntime, words: &mut Words<'_>) -> Result<(), Fault> {
-    let mut bytes = [0; MOST];
-    let Card { series, bytes } = words.card(&mut bytes)?;
-    let lat = words.number()?;
-    let lon = words.number()?;
-    words.end()?;
-    let r = fordcask::fordcask_pixel(series, bytes, lat, lon);
-    println!(rt;
-        "{} {} {} {}{}",
-        r.number,
-        r.at,
-        r.row,
-        r.column,
-        Blanks(r.blanks)
-    )?;
-    Ok(())
+    two(rt, words, |series, card, lat, lon| {
+        fordcask::fordcask_pixel(series, card, lat, lon).into()
+    })
 }
 
 /// `corner_pixel SCALE FACTOR ZONE CARD LAT LON`: the pixel whose corner is nearest.
 pub fn corner_pixel(rt: &HostRuntime, words: &mut Words<'_>) -> Result<(), Fault> {
-    let mut bytes = [0; MOST];
-    let Card { series, bytes } = words.card(&mut bytes)?;
-    let lat = words.number()?;
-    let lon = words.number()?;
-    words.end()?;
-    let r = fordcask::fordcask_corner_pixel(series, bytes, lat, lon);
-    println!(rt;
-        "{} {} {} {}{}",
-        r.number,
-        r.at,
-        r.row,
-        r.column,
-        Blanks(r.blanks)
-    )?;
-    Ok(())
+    two(rt, words, |series, card, lat, lon| {
+        fordcask::fordcask_corner_pixel(series, card, lat, lon).into()
+    })
 }
 
 /// `judge_pixel SCALE FACTOR ZONE CARD ROW COLUMN`: no values.

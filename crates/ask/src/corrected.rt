@@ -1,30 +1,32 @@
 //! Looking up a pixel's tile with corrections: its store and number, its part, the pixel's values.
 use crate::fault::Fault;
 use crate::library;
-use crate::look_up::Wanted;
 use crate::shown::{Blanks, Ends};
-use crate::stated::{Corrections, Form, Index, MOST, MOST_WORDS, Pixel, Stated};
+use crate::stated::{Corrections, Form, Index, MOST, MOST_WORDS, Stated};
 use crate::words::Words;
+use card::Pixel;
 use fordcask::{BandsOnCard, CorrectedTile};
 use tiles::Source;
 
 /// What is asked of: an index, its store, the corrections beside it, and a pixel.
 #[derive(Clone, Copy)]
-struct Question<'a> {
+pub struct Question<'a> {
     stated: Stated<'a>,
     store: &'a [u8],
     corrections: Corrections<'a>,
     pixel: Pixel,
 }
 
-/// Answers a question on the tile of a pixel. The two stores stand one after the other.
-pub fn ask(
+/// Reads a question on the tile of a pixel, and hands it to what answers it. The two stores stand one after the other.
+pub fn ask<F: FnOnce(&HostRuntime, Question<'_>) -> Result<(), Fault>>(
     rt: &HostRuntime,
-    wanted: Wanted,
     form: Form,
     words: &mut Words<'_>,
     store: &[u8],
-) -> Result<(), Fault> {
+    answer: F,
+) -> Result<(), Fault>
+    requires { F.IsAlwaysCallable answer }
+{
     let mut bytes = [0; MOST];
     let mut list = [0; MOST];
     let mut bits = [0; MOST_WORDS];
@@ -47,14 +49,11 @@ pub fn ask(
         corrections,
         pixel,
     };
-    match wanted {
-        Wanted::Number => number(rt, q),
-        Wanted::Tile => tile(rt, q),
-        Wanted::Bands => bands(rt, q),
-    }
+    answer(rt, q)
 }
 
-fn number(rt: &HostRuntime, q: Question<'_>) -> Result<(), Fault> {
+/// The store that holds the tile, and its number there.
+pub fn number(rt: &HostRuntime, q: Question<'_>) -> Result<(), Fault> {
     match library::corrected_number(q.stated, q.store, q.corrections, q.pixel) {
         Ok(stored) => {
             let source = match stored.source {
@@ -101,7 +100,8 @@ fn tile_of(q: Question<'_>) -> CorrectedTile {
     }
 }
 
-fn tile(rt: &HostRuntime, q: Question<'_>) -> Result<(), Fault> {
+/// Where the tile lies in either store, and the ends of its bytes.
+pub fn tile(rt: &HostRuntime, q: Question<'_>) -> Result<(), Fault> {
     let r = tile_of(q);
     let part = library::corrected_part(q.stated, q.store, q.corrections, q.pixel);
     print!(rt;
@@ -145,7 +145,8 @@ fn bands_of(q: Question<'_>) -> BandsOnCard {
     }
 }
 
-fn bands(rt: &HostRuntime, q: Question<'_>) -> Result<(), Fault> {
+/// The pixel's values.
+pub fn bands(rt: &HostRuntime, q: Question<'_>) -> Result<(), Fault> {
     let r = bands_of(q);
     print!(rt; "{} {} {} {} {}", r.number, r.at, r.red, r.green, r.blue)?;
     println!(rt; "{}", Blanks(r.blanks))?;

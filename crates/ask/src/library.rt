@@ -1,10 +1,10 @@
 //! What is asked of the crates below `fordcask`, for which it has no function.
 use crate::stated;
-use crate::stated::{Corrections, Index, Pixel, Stated};
+use crate::stated::{Corrections, Index, Stated};
 use arc::Refusal;
-use card::Card;
+use card::{Card, Pixel};
 use card_text::Extents;
-use tiles::{ByBits, ByList, Corrected, Stored, Stores};
+use tiles::{ByBits, ByList, Corrected, Stored, Stores, TileIndex};
 
 /// B.
 pub fn b_constant(scale: u64, factor: u64) -> Result<u64, Refusal> {
@@ -24,38 +24,62 @@ pub fn judge_pixel(card: stated::Card<'_>, pixel: Pixel) -> Result<(), Refusal> 
     reading.card.judge_pixel(pixel.row, pixel.column)
 }
 
+// Where a pixel's tile is stored, by an index of any kind, or reading's refusal.
+fn stored_by<I: TileIndex>(
+    card: stated::Card<'_>,
+    index: &I,
+    stores: Stores<'_>,
+    pixel: Pixel,
+) -> Result<Stored, Refusal> {
+    let card = Card::read(card.series, card.bytes)?.card;
+    tiles::look_up(card, index, stores, pixel.row, pixel.column)
+}
+
+// The part of the stores that is a pixel's tile, by an index of any kind; empty where reading refuses.
+fn part_by<'a, I: TileIndex>(
+    card: stated::Card<'_>,
+    index: &I,
+    stores: Stores<'a>,
+    pixel: Pixel,
+) -> &'a [u8] {
+    match Card::read(card.series, card.bytes) {
+        Ok(reading) => tiles::tile(reading.card, index, stores, pixel.row, pixel.column),
+        Err(_) => &[],
+    }
+}
+
+// An index with corrections beside it.
+fn beside<'a, I>(base: I, c: Corrections<'a>) -> Corrected<'a, I> {
+    Corrected {
+        base,
+        entries: c.entries,
+        count: c.corrected,
+    }
+}
+
 /// The number of a pixel's tile among the stored ones.
 pub fn number(s: Stated<'_>, store: &[u8], pixel: Pixel) -> Result<Stored, Refusal> {
-    let Pixel { row, column } = pixel;
-    let card = Card::read(s.card.series, s.card.bytes)?.card;
     let count = s.count;
     let stores = Stores {
         base: store,
         corrections: &[],
     };
     match s.index {
-        Index::List(entries) => {
-            tiles::look_up(card, &ByList { entries, count }, stores, row, column)
-        }
-        Index::Bits(words) => tiles::look_up(card, &ByBits { words, count }, stores, row, column),
+        Index::List(entries) => stored_by(s.card, &ByList { entries, count }, stores, pixel),
+        Index::Bits(words) => stored_by(s.card, &ByBits { words, count }, stores, pixel),
     }
 }
 
 /// The part of the store that is a pixel's tile; empty where reading refuses.
 pub fn part<'a>(s: Stated<'_>, store: &'a [u8], pixel: Pixel) -> &'a [u8] {
-    let Pixel { row, column } = pixel;
-    let Ok(reading) = Card::read(s.card.series, s.card.bytes) else {
-        return &[];
-    };
-    let card = reading.card;
     let count = s.count;
     let stores = Stores {
         base: store,
         corrections: &[],
     };
     match s.index {
-        Index::List(entries) => tiles::tile(card, &ByList { entries, count }, stores, row, column),
-        Index::Bits(words) => tiles::tile(card, &ByBits { words, count }, stores, row, column),
+        Index::List(entries) => part_by(s.card, &ByList { entries, count }, stores, pixel),
+        Index::Bits(words) => part_by(s.card, &ByBits { words, count }, stores, pixel),
     }
 }
 
@@ -66,8 +90,6 @@ pub fn corrected_number(
     c: Corrections<'_>,
     pixel: Pixel,
 ) -> Result<Stored, Refusal> {
-    let Pixel { row, column } = pixel;
-    let card = Card::read(s.card.series, s.card.bytes)?.card;
     let count = s.count;
     let stores = Stores {
         base: store,
@@ -75,21 +97,9 @@ pub fn corrected_number(
     };
     match s.index {
         Index::List(entries) => {
-            let index = Corrected {
-                base: ByList { entries, count },
-                entries: c.entries,
-                count: c.corrected,
-            };
-            tiles::look_up(card, &index, stores, row, column)
+            stored_by(s.card, &beside(ByList { entries, count }, c), stores, pixel)
         }
-        Index::Bits(words) => {
-            let index = Corrected {
-                base: ByBits { words, count },
-                entries: c.entries,
-                count: c.corrected,
-            };
-            tiles::look_up(card, &index, stores, row, column)
-        }
+        Index::Bits(words) => stored_by(s.card, &beside(ByBits { words, count }, c), stores, pixel),
     }
 }
 
@@ -100,32 +110,18 @@ pub fn corrected_part<'a>(
     c: Corrections<'a>,
     pixel: Pixel,
 ) -> &'a [u8] {
-    let Pixel { row, column } = pixel;
-    let Ok(reading) = Card::read(s.card.series, s.card.bytes) else {
-        return &[];
-    };
-    let card = reading.card;
     let count = s.count;
     let stores = Stores {
         base: store,
         corrections: c.second,
     };
     match s.index {
-        Index::List(entries) => {
-            let index = Corrected {
-                base: ByList { entries, count },
-                entries: c.entries,
-                count: c.corrected,
-            };
-            tiles::tile(card, &index, stores, row, column)
-        }
-        Index::Bits(words) => {
-            let index = Corrected {
-                base: ByBits { words, count },
-                entries: c.entries,
-                count: c.corrected,
-            };
-            tiles::tile(card, &index, stores, row, column)
-        }
+        Index::List(entries) => part_by(
+            s.card,
+            &beside(ByList { entries, count }, c),
+            stores,
+            pixel,
+        ),
+        Index::Bits(words) => part_by(s.card, &beside(ByBits { words, count }, c), stores, pixel),
     }
 }

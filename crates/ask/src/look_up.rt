@@ -2,25 +2,20 @@
 use crate::fault::Fault;
 use crate::library;
 use crate::shown::{Blanks, Ends};
-use crate::stated::{Form, Index, MOST, MOST_WORDS, Pixel, Stated};
+use crate::stated::{Form, Index, MOST, MOST_WORDS, Stated};
 use crate::words::Words;
+use card::Pixel;
 
-/// What of a pixel's tile is asked.
-#[derive(Clone, Copy)]
-pub enum Wanted {
-    Number,
-    Tile,
-    Bands,
-}
-
-/// Answers a question on the tile of a pixel.
-pub fn ask(
+/// Reads a question on the tile of a pixel, and hands it to what answers it.
+pub fn ask<F: FnOnce(&HostRuntime, Stated<'_>, &[u8], Pixel) -> Result<(), Fault>>(
     rt: &HostRuntime,
-    wanted: Wanted,
     form: Form,
     words: &mut Words<'_>,
     store: &[u8],
-) -> Result<(), Fault> {
+    answer: F,
+) -> Result<(), Fault>
+    requires { F.IsAlwaysCallable answer }
+{
     let mut bytes = [0; MOST];
     let mut list = [0; MOST];
     let mut bits = [0; MOST_WORDS];
@@ -28,14 +23,11 @@ pub fn ask(
     let (store, _) = words.store(store)?;
     let pixel = words.pixel()?;
     words.end()?;
-    match wanted {
-        Wanted::Number => number(rt, s, store, pixel),
-        Wanted::Tile => tile(rt, s, store, pixel),
-        Wanted::Bands => bands(rt, s, store, pixel),
-    }
+    answer(rt, s, store, pixel)
 }
 
-fn number(rt: &HostRuntime, s: Stated<'_>, store: &[u8], pixel: Pixel) -> Result<(), Fault> {
+/// The number of the tile among the stored ones.
+pub fn number(rt: &HostRuntime, s: Stated<'_>, store: &[u8], pixel: Pixel) -> Result<(), Fault> {
     match library::number(s, store, pixel) {
         Ok(stored) => println!(rt; "0 0 {}", stored.number)?,
         Err(e) => println!(rt; "{} {} 0", e.number(), e.place())?,
@@ -43,7 +35,8 @@ fn number(rt: &HostRuntime, s: Stated<'_>, store: &[u8], pixel: Pixel) -> Result
     Ok(())
 }
 
-fn tile(rt: &HostRuntime, s: Stated<'_>, store: &[u8], pixel: Pixel) -> Result<(), Fault> {
+/// Where the tile lies in the store, and the ends of its bytes.
+pub fn tile(rt: &HostRuntime, s: Stated<'_>, store: &[u8], pixel: Pixel) -> Result<(), Fault> {
     let Pixel { row, column } = pixel;
     let (series, card) = (s.card.series, s.card.bytes);
     let r = match s.index {
@@ -66,7 +59,8 @@ fn tile(rt: &HostRuntime, s: Stated<'_>, store: &[u8], pixel: Pixel) -> Result<(
     Ok(())
 }
 
-fn bands(rt: &HostRuntime, s: Stated<'_>, store: &[u8], pixel: Pixel) -> Result<(), Fault> {
+/// The pixel's values.
+pub fn bands(rt: &HostRuntime, s: Stated<'_>, store: &[u8], pixel: Pixel) -> Result<(), Fault> {
     let Pixel { row, column } = pixel;
     let (series, card) = (s.card.series, s.card.bytes);
     let r = match s.index {

@@ -1,7 +1,5 @@
 //! The questions by their names (docs/ASKING.md), in three functions, since no function here has 40 lines.
 use crate::fault::{BadLine, Fault};
-use crate::listed::Asked;
-use crate::look_up::Wanted::{Bands, Number, Tile};
 use crate::stated::Form::{Bits, List};
 use crate::words::Words;
 use crate::{cards, corrected, indexes, listed, look_up, plain, windows};
@@ -38,10 +36,10 @@ fn on_card(rt: &HostRuntime, name: &str, words: &mut Words<'_>, store: &[u8]) ->
         "corner_pixel" => cards::corner_pixel(rt, words),
         "judge_pixel" => cards::judge_pixel(rt, words),
         "overview_pixel" => cards::overview_pixel(rt, words),
-        "positions" => listed::ask(rt, Asked::Positions, words),
-        "corner_positions" => listed::ask(rt, Asked::CornerPositions, words),
-        "pixels" => listed::ask(rt, Asked::Pixels, words),
-        "corner_pixels" => listed::ask(rt, Asked::CornerPixels, words),
+        "positions" => listed::positions(rt, words),
+        "corner_positions" => listed::corner_positions(rt, words),
+        "pixels" => listed::pixels(rt, words),
+        "corner_pixels" => listed::corner_pixels(rt, words),
         _ => on_index(rt, name, words, store),
     }
 }
@@ -58,21 +56,21 @@ fn on_index(
         "to_bits" => indexes::to_bits(rt, words),
         "to_list" => indexes::to_list(rt, words),
         "set_correction" => indexes::set_correction(rt, words),
-        "stored_number" => look_up::ask(rt, Number, List, words, store),
-        "tile" => look_up::ask(rt, Tile, List, words, store),
-        "bands" => look_up::ask(rt, Bands, List, words, store),
+        "stored_number" => look_up::ask(rt, List, words, store, look_up::number),
+        "tile" => look_up::ask(rt, List, words, store, look_up::tile),
+        "bands" => look_up::ask(rt, List, words, store, look_up::bands),
         "window" => windows::window(rt, List, words),
-        "bits_number" => look_up::ask(rt, Number, Bits, words, store),
-        "bits_tile" => look_up::ask(rt, Tile, Bits, words, store),
-        "bits_bands" => look_up::ask(rt, Bands, Bits, words, store),
+        "bits_number" => look_up::ask(rt, Bits, words, store, look_up::number),
+        "bits_tile" => look_up::ask(rt, Bits, words, store, look_up::tile),
+        "bits_bands" => look_up::ask(rt, Bits, words, store, look_up::bands),
         "bits_window" => windows::window(rt, Bits, words),
-        "corrected_number" => corrected::ask(rt, Number, List, words, store),
-        "corrected_tile" => corrected::ask(rt, Tile, List, words, store),
-        "corrected_bands" => corrected::ask(rt, Bands, List, words, store),
+        "corrected_number" => corrected::ask(rt, List, words, store, corrected::number),
+        "corrected_tile" => corrected::ask(rt, List, words, store, corrected::tile),
+        "corrected_bands" => corrected::ask(rt, List, words, store, corrected::bands),
         "corrected_window" => windows::corrected_window(rt, List, words),
-        "corrected_bits_number" => corrected::ask(rt, Number, Bits, words, store),
-        "corrected_bits_tile" => corrected::ask(rt, Tile, Bits, words, store),
-        "corrected_bits_bands" => corrected::ask(rt, Bands, Bits, words, store),
+        "corrected_bits_number" => corrected::ask(rt, Bits, words, store, corrected::number),
+        "corrected_bits_tile" => corrected::ask(rt, Bits, words, store, corrected::tile),
+        "corrected_bits_bands" => corrected::ask(rt, Bits, words, store, corrected::bands),
         "corrected_bits_window" => windows::corrected_window(rt, Bits, words),
         _ => Err(Fault::BadLine),
     }

@@ -1,4 +1,5 @@
 //! The parts of an answer as they are printed.
+use fordcask::{PixelOnCard, PlaceOnCard, PositionOnCard};
 use std::fmt;
 
 /// Bytes: those from `!` to `~` but the backslash as they are, the others as `\xHH`.
@@ -72,5 +73,62 @@ impl fmt::Display for Bits {
             return Ok(());
         }
         write!(f, "{:016x}", self.0.to_bits())
+    }
+}
+
+/// Two numbers that a card answers, behind number and place and before the blanks.
+#[derive(Clone, Copy)]
+pub struct TwoOnCard {
+    number: u32,
+    at: u64,
+    first: i64,
+    second: i64,
+    blanks: u64,
+}
+
+impl fmt::Display for TwoOnCard {
+    fn fmt<W: fmt::Write>(&self, f: &mut fmt::Formatter<W>) -> fmt::Result {
+        write!(
+            f,
+            "{} {} {} {}",
+            self.number, self.at, self.first, self.second
+        )?;
+        write!(f, "{}", Blanks(self.blanks))
+    }
+}
+
+impl From<PlaceOnCard> for TwoOnCard {
+    fn from(r: PlaceOnCard) -> TwoOnCard {
+        TwoOnCard {
+            number: r.number,
+            at: r.at,
+            first: r.row,
+            second: r.column,
+            blanks: r.blanks,
+        }
+    }
+}
+
+impl From<PositionOnCard> for TwoOnCard {
+    fn from(r: PositionOnCard) -> TwoOnCard {
+        TwoOnCard {
+            number: r.number,
+            at: r.at,
+            first: r.lat,
+            second: r.lon,
+            blanks: r.blanks,
+        }
+    }
+}
+
+impl From<PixelOnCard> for TwoOnCard {
+    fn from(r: PixelOnCard) -> TwoOnCard {
+        TwoOnCard {
+            number: r.number,
+            at: r.at,
+            first: r.row,
+            second: r.column,
+            blanks: r.blanks,
+        }
     }
 }

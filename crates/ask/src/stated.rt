@@ -36,26 +36,10 @@ pub struct Stated<'a> {
     pub count: u64,
 }
 
-/// A pixel's row and column.
-#[derive(Clone, Copy)]
-pub struct Pixel {
-    pub row: i64,
-    pub column: i64,
-}
-
 /// The corrections beside an index, the count of their stored tiles, and those tiles.
 #[derive(Clone, Copy)]
 pub struct Corrections<'a> {
     pub entries: &'a [u32],
     pub corrected: u64,
     pub second: &'a [u8],
-}
-
-/// A window of tiles.
-#[derive(Clone, Copy)]
-pub struct Window {
-    pub top: u64,
-    pub left: u64,
-    pub height: u64,
-    pub width: u64,
 }

@@ -4,9 +4,11 @@ ghost use Rattle.ask.specs.Steps.{Fills};
 
 use crate::MEBIBYTE;
 use crate::fault::BadLine;
-use crate::stated::{Card, Form, Index, Pixel, Stated, Window};
+use crate::stated::{Card, Form, Index, Stated};
 use arc::Series;
+use card::Pixel;
 use std::str::{FromStr, Split};
+use tiles::Window;
 
 /// The words that are still to be read.
 #[derive(Drop)]
