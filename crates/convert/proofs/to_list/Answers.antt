@@ -19,8 +19,11 @@ returns-then-any_set-clause-left c =
 
 pub set_list-requires : goal.set_list-requires
 set_list-requires c =
-    omega (arith, index-few c.args.card c.lengths_wrong.ensures.known,
-    (lengths-right c.args.card _ _ (sym c.lengths_wrong.ensures.is ∙ c.if-lengths_wrong.false)).0)
+    omega (
+      arith,
+      index-few c.args.card c.lengths_wrong.ensures.known,
+      (lengths-right c.args.card _ _ (sym c.lengths_wrong.ensures.is ∙ c.if-lengths_wrong.false)).0,
+    )
 
 pub returns-clause-answer : goal.returns-clause-answer
 unfolding to_list_of
