@@ -49,7 +49,7 @@ fn part_by<'a, I: TileIndex>(
 }
 
 // An index with corrections beside it.
-fn beside<'a, I>(base: I, c: Corrections<'a>) -> Corrected<'a, I> {
+fn with<'a, I>(base: I, c: Corrections<'a>) -> Corrected<'a, I> {
     Corrected {
         base,
         entries: c.entries,
@@ -97,9 +97,9 @@ pub fn corrected_number(
     };
     match s.index {
         Index::List(entries) => {
-            stored_by(s.card, &beside(ByList { entries, count }, c), stores, pixel)
+            stored_by(s.card, &with(ByList { entries, count }, c), stores, pixel)
         }
-        Index::Bits(words) => stored_by(s.card, &beside(ByBits { words, count }, c), stores, pixel),
+        Index::Bits(words) => stored_by(s.card, &with(ByBits { words, count }, c), stores, pixel),
     }
 }
 
@@ -116,12 +116,7 @@ pub fn corrected_part<'a>(
         corrections: c.second,
     };
     match s.index {
-        Index::List(entries) => part_by(
-            s.card,
-            &beside(ByList { entries, count }, c),
-            stores,
-            pixel,
-        ),
-        Index::Bits(words) => part_by(s.card, &beside(ByBits { words, count }, c), stores, pixel),
+        Index::List(entries) => part_by(s.card, &with(ByList { entries, count }, c), stores, pixel),
+        Index::Bits(words) => part_by(s.card, &with(ByBits { words, count }, c), stores, pixel),
     }
 }

@@ -6,6 +6,7 @@ use crate::words::Words;
 use arc::Series;
 use fordcask::VerdictParts;
 
+// Tried: a function of `fordcask` handed in by its name, without a closure around it; the check finds no file for its contract there.
 /// Asks a card by a list, and prints the two lists that are lent.
 fn lists<F: FnOnce(Series, &[u8], &[i64], &mut [i64], &mut [u32]) -> VerdictParts>(
     rt: &HostRuntime,
