@@ -75,11 +75,10 @@ impl<I: TileIndex> TileIndex for Corrected<'_, I> {
 
     #[tactic(auto, unfolding(crate::specs::Corrections::said_with))]
     fn glance(&self, card: Card, before: u64, tile: u32) -> Said {
-        let correction = entry_at(self.entries, tile);
-        if correction != 0 {
-            return number_says(Source::Corrections, self.count, correction);
+        match entry_at(self.entries, tile) {
+            0 => self.base.glance(card, before, tile),
+            entry => number_says(Source::Corrections, self.count, entry),
         }
-        self.base.glance(card, before, tile)
     }
 }
 

@@ -111,9 +111,8 @@ fn number_says(source: Source, count: u64, number: u64) -> Said
 fn entry_at(entries: &[u32], tile: u32) -> u64
     ensures { result ≡ get_or entries.now tile 0 }
 {
-    // by a test and an index: by `get`, a window with corrections took twice as long
-    if entries.len() as u64 <= u64::from(tile) {
-        return 0;
+    match entries.get(tile as usize) {
+        Some(&entry) => u64::from(entry),
+        None => 0,
     }
-    u64::from(entries[tile as usize])
 }
