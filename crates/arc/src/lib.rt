@@ -16,4 +16,4 @@ pub use units::{Circle, Overlap, Scales, Tile, is_polar, is_scale};
 pub use zone::{
     Meridian, Spaced, Zone, Zone1, Zone2, Zone3, Zone4, Zone5, Zone6, Zone7, Zone8, Zone9,
 };
-pub use zone_table::{Row, TABLE};
+pub use zone_table::{Row, TABLE, equatorward, northern, poleward, southern};

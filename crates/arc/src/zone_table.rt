@@ -1,4 +1,7 @@
 // The zone table (DIGEST, "The ARC System", Tables 3-1 and 3-5).
+ghost use Rattle.std.specs.Prelude.{◌≡◌};
+ghost use Rattle.arc.specs.Zones.{row_at};
+
 use crate::Circle;
 
 /// A row of the table: its two zones, its limits in hundredths of an arc-second, and A / 512 at 1:1,000,000.
@@ -77,3 +80,47 @@ pub const TABLE: [Row; 9] = [
         unit: 782,
     },
 ];
+
+/// The row at a place, 0 to 8 from the Equator to the pole; all 0 past them.
+fn row_at(place: u64) -> Row
+    ensures { result ≡ row_at place }
+{
+    match TABLE.get(place as usize) {
+        Some(&row) => row,
+        None => Row {
+            northern: 0,
+            southern: 0,
+            equatorward: 0,
+            poleward: 0,
+            unit: 0,
+        },
+    }
+}
+
+/// The northern zone of the row at a place, 0 to 8; 0 past them.
+pub fn northern(row: u64) -> u64
+    ensures { result ≡ (row_at row).northern }
+{
+    row_at(row).northern
+}
+
+/// The southern zone of the row at a place, 0 to 8; 0 past them.
+pub fn southern(row: u64) -> u64
+    ensures { result ≡ (row_at row).southern }
+{
+    row_at(row).southern
+}
+
+/// The equatorward limit of the row at a place, 0 to 8, in hundredths of an arc-second; 0 past them.
+pub fn equatorward(row: u64) -> u64
+    ensures { result ≡ (row_at row).equatorward }
+{
+    row_at(row).equatorward
+}
+
+/// The poleward limit of the row at a place, 0 to 8, in hundredths of an arc-second; 0 past them.
+pub fn poleward(row: u64) -> u64
+    ensures { result ≡ (row_at row).poleward }
+{
+    row_at(row).poleward
+}

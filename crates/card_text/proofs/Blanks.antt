@@ -10,6 +10,7 @@ use lib.Dec.{eqb, ltb}
 use lib.ListN.{length, get_or, drop, length-drop}
 use Rattle.text.specs.Text.{is_digit, all, onward, number, blanks, filled}
 use Rattle.std.specs.Prelude.{Ok}
+use Rattle.std.specs.Result.{result_ok}
 use Rattle.text.specs.Buffer.{digits_in}
 use Rattle.text.proofs.Bytes.{drop-next, length_part}
 use Rattle.text.proofs.Blanks.{digits-none, none_filled}
@@ -128,13 +129,13 @@ skip-none Fill.Blanks s e = lead-here s e
 
 module _ (fill : Fill) (s : List ℕ) (h : 0 < length s) (l : length s ≤ 8) where
   -- past the blanks
-  pub past_blanks : digits_in (drop (skip fill s) s) ≡ number_as fill s
+  pub past_blanks : result_ok (digits_in (drop (skip fill s) s)) ≡ number_as fill s
   past_blanks =
       run_is (drop (skip fill s) s) (omega (arith, length-drop (skip fill s) s))
       ∙ rw (skip-laid fill s h, skip-number fill s)
 
   -- a first byte that is no blank
-  pub no_blanks : (get_or s 0 0 ≡ 32 → ⊥) → digits_in s ≡ number_as fill s
+  pub no_blanks : (get_or s 0 0 ≡ 32 → ⊥) → result_ok (digits_in s) ≡ number_as fill s
   no_blanks e = rw (skip-none fill s e) at past_blanks
 
 pub ruleset numbers = (past_blanks, no_blanks, skip_below)

@@ -30,7 +30,7 @@ pub fn digits_at(s: &[u8], o: usize, w: usize) -> Option<u64>
     ensures value { result ≡ digits_run (part o w s.now) }
     ensures small { IfSome result (λ v. v < 100000000) }
 {
-    text::digits_of(bytes_at(s, o, w))
+    text::digits_of(bytes_at(s, o, w)).ok()
 }
 
 /// How many blanks a run starts with, its last byte not among them.
@@ -71,6 +71,17 @@ fn skipped(fill: Fill, s: &[u8]) -> usize
     }
 }
 
+/// A number that starts with a blank.
+// Apart from the one below, so that the digits of a card without blanks are all that is laid into its reading: that is faster.
+#[tactic(auto, using(crate::proofs::Blanks::numbers))]
+fn past_blanks(fill: Fill, s: &[u8]) -> Option<u64>
+    requires not_empty { 0 < length s.now }
+    requires width { length s.now ≤ 8 }
+    ensures { result ≡ number_as fill s.now }
+{
+    text::digits_of(&s[skipped(fill, s)..]).ok()
+}
+
 /// A number: digits, and blanks before them where they may stand. Its first byte tells whether there are any.
 #[tactic(auto, using(crate::proofs::Blanks::numbers))]
 pub fn number_of(fill: Fill, s: &[u8]) -> Option<u64>
@@ -79,9 +90,9 @@ pub fn number_of(fill: Fill, s: &[u8]) -> Option<u64>
     ensures { result ≡ number_as fill s.now }
 {
     if s[0] == b' ' {
-        return text::digits_of(&s[skipped(fill, s)..]);
+        return past_blanks(fill, s);
     }
-    text::digits_of(s)
+    text::digits_of(s).ok()
 }
 
 /// Whether each byte is a capital letter or a digit.

@@ -48,7 +48,7 @@ fn short_number(s: &[u8]) -> Option<u32>
     if !(1..=9).contains(&s.len()) {
         return None;
     }
-    let number = text::digits_of(s)?;
+    let number = text::digits_of(s).ok()?;
     Some(number as u32)
 }
 

@@ -3,7 +3,9 @@
 use Rattle.std.proofs.Common.{◌≡◌, ℕ, zero, suc, ◌+◌, ◌-◌, ◌*◌, ◌/◌, ◌%◌, ◌^◌, ◌<◌, ◌≤◌, Bool, true, false, cond, eqb, leb, List, [], ◌∷◌}
 use Rattle.std.proofs.Common.{length, get_or, refl, ap, ◌∙◌, mul-le-mul_right, mod-lt, mod-eq_of_lt, mul_assoc}
 use Rattle.std.proofs.Common.{div-lt_iff_lt-mul, add-mul, pow-suc, le-div_iff_mul-le, zero-add, zero-mul, mul-one, add-one, arith}
-use Rattle.std.proofs.Common.{ne_eqb, le-leb, leb-false, leb-true, Option, Some, None, is_some, unwrap_or, drop, drop_of_length-le}
+use Rattle.std.proofs.Common.{ne_eqb, le-leb, leb-false, leb-true, drop, drop_of_length-le, mul-le-mul_left, sym}
+use Rattle.std.specs.Prelude.{Result, Ok, Err, ◌&&◌}
+use Rattle.std.specs.Result.{is_ok}
 use mathlib.Core.Bool.{and-eq-true_iff, false≢true}
 use native.Mathlib.Nat.{pow-succ', mod-one, one-le-pow}
 use native.Mathlib.Nat.{pow-le-pow_right, div-eq_of_lt, div-eq_of_lt-le, add-sub_cancel_left, mul-add-mod_self_right}
@@ -11,8 +13,9 @@ use native.Mathlib.Nat.{div-div-eq-div-mul}
 use lib.Arith.{mod-mul}
 use borrow.Author.Tests.{lt-leb}
 use Rattle.text.specs.Text.{all, is_digit, onward, number, digits, trimmed, decimal}
-use Rattle.text.specs.Buffer.{digits_in}
-use Rattle.text.proofs.Bytes.{drop-next}
+use Rattle.text.specs.Buffer.{less_zero, summed, digits_in}
+use Rattle.text.specs.declared.NotDigits.{NotDigits}
+use Rattle.text.proofs.Bytes.{drop-next, all-next}
 
 pub tens : (w : ℕ) → 0 < 10 ^ w
 tens w = one-le-pow w 10 (omega arith)
@@ -88,48 +91,97 @@ number-below w s l e =
 
 -- ---- digits as they are read
 
--- the number of digits s written after a number v
-abbrev pub onward_in : ℕ → List ℕ → Option ℕ
-onward_in v s = cond (all is_digit s) (Some (onward v s)) None
+-- of digits the sum is their number, and of any bytes it is small
+summed-digits : (bs : List ℕ) (v : ℕ) → all is_digit bs ≡ true → summed v bs ≡ onward v bs
+summed-digits [] v e = refl
+summed-digits (b ∷ bs) v e =
+    let t = (and-eq-true_iff (is_digit b) (all is_digit bs)).0 e in
+    let d = digit-in b t.0 in
+    let same : less_zero b ≡ b - 48 = omega arith in
+    rw same (summed-digits bs (v * 10 + (b - 48)) t.1)
+
+summed-small : (bs : List ℕ) (v : ℕ) → summed v bs + 29 ≤ (v + 29) * 10 ^ length bs
+summed-small [] v = rw mul-one (omega arith)
+summed-small (b ∷ bs) v =
+    let p = 10 ^ length bs in
+    let step : (v * 10 + less_zero b + 29) * p ≤ (v + 29) * 10 * p = mul-le-mul_right p (omega arith) in
+    rw (pow-succ' 10 (length bs), ← mul_assoc (v + 29) 10 p) (omega (arith, summed-small bs (v * 10 + less_zero b), step))
 
 -- one byte more is read
-pub next_digit : (v : ℕ) (s : List ℕ) (i : ℕ) → i < length s → is_digit (get_or s i 0) ≡ true
-    → onward_in (v * 10 + (get_or s i 0 - 48)) (drop (i + 1) s) ≡ onward_in v (drop i s)
-next_digit v s i h e = rw (drop-next s i h, e)
+pub next_sum : (v : ℕ) (s : List ℕ) (i : ℕ) → i < length s → summed (v * 10 + less_zero (get_or s i 0)) (drop (i + 1) s) ≡ summed v (drop i s)
+next_sum v s i h = rw (drop-next s i h)
 
--- a byte that is no digit ends it
-pub other_byte : (v : ℕ) (s : List ℕ) (i : ℕ) → i < length s → is_digit (get_or s i 0) ≡ false → onward_in v (drop i s) ≡ None
-other_byte v s i h e = rw (drop-next s i h, e)
+pub next_test : (ok : Bool) (s : List ℕ) (i : ℕ) → i < length s
+    → ((ok && is_digit (get_or s i 0)) && all is_digit (drop (i + 1) s)) ≡ (ok && all is_digit (drop i s))
+next_test ok s i h = all-next is_digit ok s i h
 
-pub all_read : (v : ℕ) (s : List ℕ) (i : ℕ) → length s ≤ i → onward_in v (drop i s) ≡ Some v
-all_read v s i h = rw (drop_of_length-le s {i = i} h)
-
-pub digits_read : (s : List ℕ) → length s ≤ 17 → digits_in s ≡ onward_in 0 s
-unfolding digits_in number
-digits_read s h = rw (le-leb (length s) 17 h)
-
-pub too_long : (s : List ℕ) → 17 < length s → digits_in s ≡ None
-unfolding digits_in
-too_long s h = rw (lt-leb (length s) 17 h)
+pub pow_next : (i : ℕ) → 10 ^ (i + 1) ≡ 10 * 10 ^ i
+pow_next i = rw add-one (pow-succ' 10 i)
 
 pub pow_bound : (i : ℕ) → i ≤ 16 → 10 ^ i ≤ 10000000000000000
 pow_bound i h = pow-le-pow_right (omega arith) h
 
--- at most w digits, as they are read
-pub record Read (w : ℕ) (s : List ℕ) (r : Option ℕ) : Type 0 where
-  pub tested : is_some r ≡ all is_digit s
-  pub read : all is_digit s ≡ true → unwrap_or r 0 ≡ number s
-  pub small : unwrap_or r 0 < 10 ^ w
-
-pub digits-read : (w : ℕ) (s : List ℕ) {r : Option ℕ} → length s ≤ w → w ≤ 17 → r ≡ digits_in s → Read w s r
+pub too_long : (s : List ℕ) → 17 < length s → digits_in s ≡ Err (record { sum = 0 })
 unfolding digits_in
+too_long s h = rw (lt-leb (length s) 17 h)
+
+module _ (s : List ℕ) (h : length s ≤ 17) {v : ℕ} {ok : Bool} (i : ℕ) (l : length s ≤ i)
+    (e : summed v (drop i s) ≡ summed 0 s) (f : (ok && all is_digit (drop i s)) ≡ all is_digit s) where
+  pub all_read : ok ≡ true → digits_in s ≡ Ok v
+  unfolding digits_in number
+  all_read t =
+      let none = drop_of_length-le s {i = i} l in
+      let d : all is_digit s ≡ true = sym (rw (none, t) at f) in
+      let n : v ≡ onward 0 s = (rw none at e) ∙ summed-digits s 0 d in
+      rw (le-leb (length s) 17 h, d, n)
+
+  pub other_read : ok ≡ false → digits_in s ≡ Err (record { sum = v })
+  unfolding digits_in
+  other_read t =
+      let none = drop_of_length-le s {i = i} l in
+      let n : v ≡ summed 0 s = rw none at e in
+      let d : all is_digit s ≡ false = sym (rw (none, t) at f) in
+      rw (le-leb (length s) 17 h, d, n)
+
+-- what was read, of digits or not
+pub written : Result ℕ NotDigits → ℕ
+written (Ok v) = v
+written (Err e) = e.sum
+
+-- at most w bytes, as they are read
+pub record Read (w : ℕ) (s : List ℕ) (r : Result ℕ NotDigits) : Type 0 where
+  pub tested : is_ok r ≡ all is_digit s
+  pub read : all is_digit s ≡ true → written r ≡ number s
+  pub below : all is_digit s ≡ true → written r < 10 ^ w
+  pub small : written r + 29 ≤ 29 * 10 ^ w
+
+pub digits-read : (w : ℕ) (s : List ℕ) {r : Result ℕ NotDigits} → length s ≤ w → w ≤ 17 → r ≡ digits_in s → Read w s r
+unfolding digits_in written number
 digits-read w s h l e = rw (e, le-leb (length s) 17 (omega arith)) (go (all is_digit s) refl)
   where
-    go : (t : Bool) → all is_digit s ≡ t → Read w s (cond t (Some (number s)) None)
-    go true q = record { tested = rw q; read = λ _. refl; small = number-below w s h q }
-    go false q = record { tested = rw q; read = λ d. absurd (false≢true (rw q at d)); small = tens w }
+    most : summed 0 s + 29 ≤ 29 * 10 ^ w
+    most =
+        let p : 29 * 10 ^ length s ≤ 29 * 10 ^ w = mul-le-mul_left 29 (pow-le-pow_right (omega arith) h) in
+        omega (arith, summed-small s 0, p)
 
-pub ruleset reading = (next_digit, other_byte, all_read, digits_read, too_long, pow_bound)
+    go : (t : Bool) → all is_digit s ≡ t → Read w s (cond t (Ok (number s)) (Err (record { sum = summed 0 s })))
+    go true q =
+        let d = summed-digits s 0 q in
+        record {
+          tested = rw q;
+          read = λ _. refl;
+          below = λ _. number-below w s h q;
+          small = rw d at most
+        }
+    go false q =
+        record {
+          tested = rw q;
+          read = λ d. absurd (false≢true (rw q at d));
+          below = λ d. absurd (false≢true (rw q at d));
+          small = most
+        }
+
+pub ruleset reading = (next_sum, next_test, pow_next, pow_bound, too_long, all_read, other_read)
 
 -- ---- leading zeros
 

@@ -4,8 +4,10 @@
 --     put_at x o s       s with x at offset o, where x fits there; else s as it was
 --     end_of x o s       where x then ends; else the offset itself, nothing being put
 --     readable s         up to 17 bytes, each a digit
---     digits_in s        the number of such bytes; none of others
-use Rattle.std.specs.Prelude.{ℕ, ◌+◌, Bool, cond, ◌&&◌, List, ◌++◌, length, take, drop, nat_le, Option, Some, None}
+--     summed v s         the bytes s written after a number v, each less 48 and, below 48, 256 more; of digits it is their number
+--     digits_in s        the number of a run of up to 17 digits; else what its bytes sum to, 0 for a longer run
+use Rattle.std.specs.Prelude.{ℕ, ◌+◌, ◌*◌, ◌%◌, Bool, cond, ◌&&◌, List, [], ◌∷◌, ◌++◌, length, take, drop, nat_le, Result, Ok, Err}
+use Rattle.text.specs.declared.NotDigits.{NotDigits}
 use Rattle.text.specs.Text.{is_digit, all, number}
 
 unfoldable pub splice : ℕ → List ℕ → List ℕ → List ℕ
@@ -24,5 +26,12 @@ end_of x o s = cond (has_room x o s) (o + length x) o
 abbrev pub readable : List ℕ → Bool
 readable s = nat_le (length s) 17 && all is_digit s
 
-unfoldable pub digits_in : List ℕ → Option ℕ
-digits_in s = cond (readable s) (Some (number s)) None
+abbrev pub less_zero : ℕ → ℕ
+less_zero b = (b + 208) % 256
+
+abbrev pub summed : ℕ → List ℕ → ℕ
+summed v [] = v
+summed v (b ∷ bs) = summed (v * 10 + less_zero b) bs
+
+unfoldable pub digits_in : List ℕ → Result ℕ NotDigits
+digits_in s = cond (readable s) (Ok (number s)) (Err (record { sum = cond (nat_le (length s) 17) (summed 0 s) 0 }))

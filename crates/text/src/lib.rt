@@ -6,22 +6,32 @@ ghost use Rattle.std.specs.Prelude.{◌≡◌, ◌+◌, ◌/◌, ◌≤◌, [], 
 ghost use Rattle.text.specs.Text.{digits, decimal, angle_text};
 ghost use Rattle.text.specs.Buffer.{put_at, end_of, digits_in};
 
-/// The number of a run of up to 17 digits, 0 for an empty run; `None` for a longer run, and for one with a byte that is no digit.
+/// Bytes that are no run of up to 17 digits.
+#[derive(Clone, Copy, Debug, PartialEq, Eq)]
+pub struct NotDigits {
+    /// What they come to when each is read as one, b − 48 and, below 0, 256 more; 0 of more than 17 bytes.
+    pub sum: u64,
+}
+
+/// The number of a run of up to 17 digits, 0 for an empty run. Refuses a longer run, and one with a byte that is no digit.
+// One test at the end, and none at each byte: that is faster.
 #[tactic(auto, using(crate::proofs::Numbers::reading))]
-pub fn digits_of(s: &[u8]) -> Option<u64>
+pub fn digits_of(s: &[u8]) -> Result<u64, NotDigits>
     ensures { result ≡ digits_in s.now }
 {
     if 17 < s.len() {
-        return None;
+        return Err(NotDigits { sum: 0 });
     }
-    let mut value = 0;
+    let mut sum = 0;
+    let mut digits = true;
     for b in s {
-        if !b.is_ascii_digit() {
-            return None;
-        }
-        value = value * 10 + u64::from(b - b'0');
+        sum = sum * 10 + u64::from(b.wrapping_sub(b'0'));
+        digits &= b.is_ascii_digit();
     }
-    Some(value)
+    if !digits {
+        return Err(NotDigits { sum });
+    }
+    Ok(sum)
 }
 
 /// Whether w bytes fit at an offset of n bytes.

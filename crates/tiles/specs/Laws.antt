@@ -2,7 +2,7 @@
 use mathlib.Core.Path.{◌≡◌, refl, sym, ap, subst, ◌∙◌}
 use mathlib.Core.Bool.{Bool, true, false, cond, not}
 use mathlib.Core.List.{List}
-use Prim.Native.Nat.{ℕ, ◌+◌, ◌*◌, ◌≤◌, ◌<◌}
+use Prim.Native.Nat.{ℕ, ◌+◌, ◌*◌, ◌/◌, ◌≤◌, ◌<◌}
 use native.Mathlib.Omega.{arith}
 use native.Mathlib.Nat.{lt_of_not-le}
 use native.Mathlib.Decide.{ℕ_discrete, dec_le}
@@ -115,8 +115,8 @@ bits-glance k words count t h = go k.tif (ℕ_discrete (present words t) 0) (dec
     go true (no d) (yes l) =
         rw (ne_eqb (present words t) 0 d, le-leb (bits_end k words count) t l)
         (sym (ap kind (said-above Source.Base count (number_at words t) (some_number words t d)
-        (omega (arith, number-some words t d, far words count (tiles k) t h l)))))
+        (omega (arith, number-some words t d, far words count ((tiles k + 63) / 64 * 64) t (omega arith) l)))))
     go true (no d) (no l) =
         rw (ne_eqb (present words t) 0 d, lt-leb (bits_end k words count) t (lt_of_not-le l))
         (sym (ap kind (said-stored Source.Base count (number_at words t) (some_number words t d)
-        (omega (arith, number-some words t d, near words count (tiles k) t (lt_of_not-le l))))))
+        (omega (arith, number-some words t d, near words count ((tiles k + 63) / 64 * 64) t (lt_of_not-le l))))))

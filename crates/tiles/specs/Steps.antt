@@ -5,7 +5,7 @@
 --     IsGlance k glance says    a glance tells of each tile what is said of it, that place aside: a law of an index
 --     glance_bits            a glance by bits, the stored tiles being those before `end`
 --     WindowRows k ..        what a window of an image is bounded by
-use Rattle.std.specs.Prelude.{◌≡◌, ℕ, ◌+◌, ◌*◌, ◌≤◌, ◌<◌, List, cond, leb, eqb, length, Ok}
+use Rattle.std.specs.Prelude.{◌≡◌, ℕ, ◌+◌, ◌*◌, ◌/◌, ◌≤◌, ◌<◌, List, cond, leb, eqb, length, Ok}
 use Rattle.presence.specs.Presence.{present, within}
 use Rattle.card_text.specs.declared.Fields.{Fields}
 use Rattle.tiles.specs.declared.Stored.{Stored}
@@ -36,9 +36,9 @@ said_before end words t = cond (eqb (present words t) 0) Said.Missing (cond (leb
 unfoldable pub glance_bits : Fields → List ℕ → ℕ → ℕ → Said
 glance_bits k words end t = cond k.tif (said_before end words t) (Said.Stored (in_base 0))
 
--- how far the bits are not above the count
+-- how far the bits of the words are not above the count
 abbrev pub bits_end : Fields → List ℕ → ℕ → ℕ
-bits_end k words count = within words count (tiles k)
+bits_end k words count = within words count ((tiles k + 63) / 64 * 64)
 
 -- a window of an image
 pub record WindowRows (k : Fields) (top left height width : ℕ) : Type 0 where

@@ -88,9 +88,10 @@ impl TileIndex for ByBits<'_> {
         number_says(Source::Base, self.count, presence::number(self.words, tile))
     }
 
-    // The stored tiles are those whose bit is set before this one.
+    // The stored tiles are those whose bit is set before this one. The last word is passed whole: no bit of it is looked at one by one.
     fn end(&self, card: Card) -> u64 {
-        presence::within(self.words, self.count, tiles_of(card) as u32)
+        let tiles = (tiles_of(card) + 63) / 64 * 64;
+        presence::within(self.words, self.count, tiles as u32)
     }
 
     #[tactic(auto, unfolding(crate::specs::Steps::glance_bits))]

@@ -4,7 +4,7 @@ ghost use Rattle.card_text.specs.Read.{Known};
 ghost use Rattle.tiles.specs.Corrections.{list_wrong, corrections_wrong, said_with, corrected_by, setting_of, set_of};
 ghost use Rattle.tiles.specs.Laws.{corrected-held, corrected-glance};
 
-use crate::{Said, Source, Stores, TileIndex, entry_at, number_says, tiles_of};
+use crate::{Said, Source, Stored, Stores, TileIndex, entry_at, number_says, tiles_of};
 use arc::{Refusal, Tile};
 use card::Card;
 
@@ -75,10 +75,18 @@ impl<I: TileIndex> TileIndex for Corrected<'_, I> {
 
     #[tactic(auto, unfolding(crate::specs::Corrections::said_with))]
     fn glance(&self, card: Card, before: u64, tile: u32) -> Said {
-        match entry_at(self.entries, tile) {
-            0 => self.base.glance(card, before, tile),
-            entry => number_says(Source::Corrections, self.count, entry),
+        // the count is tested first, and 0 after it: the other way round a window takes longer
+        let number = entry_at(self.entries, tile);
+        if self.count < number {
+            return Said::Above;
         }
+        if number == 0 {
+            return self.base.glance(card, before, tile);
+        }
+        Said::Stored(Stored {
+            source: Source::Corrections,
+            number,
+        })
     }
 }
 
