@@ -24,16 +24,21 @@ fn missing_in<I: TileIndex>(card: Card, index: &I, window: Window) -> Result<Opt
     let mut missing = None;
     // left by a label at the first zero entry, as docs/RULES.md wants a loop of the library to be
     'rows: for r in 0..window.height {
-        let start = (window.top + r) * across + window.left;
+        // counted in 32 bits, as a glance takes a tile: that is faster
+        let start = ((window.top + r) * across + window.left) as u32;
         for c in 0..window.width {
-            let tile = start + c;
-            match index.glance(card, end, tile as u32) {
+            let tile = start + c as u32;
+            match index.glance(card, end, tile) {
                 Said::Stored(_) => {}
                 Said::Missing => {
-                    missing = Some(tile);
+                    missing = Some(u64::from(tile));
                     break 'rows;
                 }
-                Said::Above => return Err(Refusal::Entry { at: tile }),
+                Said::Above => {
+                    return Err(Refusal::Entry {
+                        at: u64::from(tile),
+                    });
+                }
             }
         }
     }

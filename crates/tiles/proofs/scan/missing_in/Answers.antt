@@ -29,7 +29,12 @@ overflow_add-tile g c =
 pub overflow_cast-tile : goal.overflow_cast-tile
 overflow_cast-tile g c =
     let k = known-as c.fields-across.ensures.value c.fields-across.ensures.known in
-    rw c.fields-across.ensures.value (omega (arith, tile_few c.args.card _ _ _ _ k c.requires c.rows.r c.rows-test.true c.loop-c.c c.loop-c-test.true))
+    omega (arith, tile_few c.args.card _ _ _ _ k c.requires c.rows.r c.rows-test.true c.loop-c.c c.loop-c-test.true)
+
+pub overflow_cast-start : goal.overflow_cast-start
+overflow_cast-start g c =
+    let k = known-as c.fields-across.ensures.value c.fields-across.ensures.known in
+    rw c.fields-across.ensures.value (omega (arith, row_few c.args.card _ _ _ _ k c.requires c.rows.r c.rows-test.true))
 
 pub returns-in-Above : goal.returns-in-Above
 returns-in-Above g c =
@@ -43,7 +48,7 @@ returns-in-Above g c =
     c.rows-test.true
     c.loop-c.c c.loop-c-test.true says (T.glance a.index.now a.card c.end-end.result) law _ c.loop-c.invariant.1 c.glance.result seen
     (Said.Above) c.in-Above.is in
-    rw c.fields-across.ensures.value (sym t)
+    rw (c.from-in-Above.ensures, c.fields-across.ensures.value) (sym t)
 
 pub loop-c-preserved : goal.loop-c-preserved
 loop-c-preserved g c =
@@ -71,7 +76,7 @@ returns-in-Missing g c =
     c.rows-test.true
     c.loop-c.c c.loop-c-test.true says (T.glance a.index.now a.card c.end-end.result) law _ c.loop-c.invariant.1 c.glance.result seen
     (Said.Missing) c.in-Missing.is in
-    rw c.fields-across.ensures.value (sym t)
+    rw (c.from.ensures, c.fields-across.ensures.value) (sym t)
 
 pub rows-preserved : goal.rows-preserved
 rows-preserved g c = (c.loop-c.invariant.0, c.loop-c.invariant.1 ∙ leave _ _ c.loop-c.c _ _ c.loop-c-test.false)
