@@ -53,6 +53,7 @@ pub fn b_constant(scale: u64, factor: u64) -> Result<Pixels, Refusal>
 
 impl Series {
     /// A and B. Refuses the scale, the factor, their product as a scale, then the zone.
+    #[inline(always)]
     pub fn spacing(self) -> Result<Spacing, Refusal>
         ensures { result ≡ spacing_of self }
     {

@@ -1,13 +1,13 @@
 -- Runs of digits and of letters, byte by byte. Assumes nothing.
 use Rattle.std.proofs.Common.{◌≡◌, ℕ, ◌+◌, ◌<◌, ◌≤◌, true, false, List, length, get_or, drop, refl, arith, drop_of_length-le, le-leb, Some, None}
-use mathlib.Core.Bool.{Bool}
+use mathlib.Core.Bool.{Bool, ◌&&◌, and-true}
 use Rattle.std.specs.Prelude.{if◌then◌else◌, cond, Ok, Err}
 use Rattle.std.specs.Result.{result_ok}
 use Rattle.std.specs.Option.{IfSome}
 use Rattle.text.specs.Text.{all, is_digit, is_name_byte, number}
 use Rattle.text.specs.declared.NotDigits.{NotDigits}
 use Rattle.text.specs.Buffer.{summed, digits_in}
-use Rattle.text.proofs.Bytes.{drop-next}
+use Rattle.text.proofs.Bytes.{all-next}
 use Rattle.text.proofs.Numbers.{number-below}
 use Rattle.card_text.specs.StepsFields.{digits_run}
 
@@ -32,13 +32,11 @@ pub ruleset runs = (run_is, run_small)
 
 -- ---- letters
 
-pub named_next : (s : List ℕ) (i : ℕ) → i < length s → is_name_byte (get_or s i 0) ≡ true → all is_name_byte (drop i s) ≡ all is_name_byte (drop (i + 1) s)
-named_next s i h e = rw (drop-next s i h, e)
+pub named_next : (named : Bool) (s : List ℕ) (i : ℕ) → i < length s
+    → ((named && is_name_byte (get_or s i 0)) && all is_name_byte (drop (i + 1) s)) ≡ (named && all is_name_byte (drop i s))
+named_next named s i h = all-next is_name_byte named s i h
 
-pub named_other : (s : List ℕ) (i : ℕ) → i < length s → is_name_byte (get_or s i 0) ≡ false → all is_name_byte (drop i s) ≡ false
-named_other s i h e = rw (drop-next s i h, e)
+pub named_end : (named : Bool) (s : List ℕ) (i : ℕ) → length s ≤ i → (named && all is_name_byte (drop i s)) ≡ named
+named_end named s i h = rw (drop_of_length-le s {i = i} h) (and-true named)
 
-pub named_end : (s : List ℕ) (i : ℕ) → length s ≤ i → all is_name_byte (drop i s) ≡ true
-named_end s i h = rw (drop_of_length-le s {i = i} h)
-
-pub ruleset named = (named_next, named_other, named_end)
+pub ruleset named = (named_next, named_end)

@@ -96,16 +96,16 @@ pub fn number_of(fill: Fill, s: &[u8]) -> Option<u64>
 }
 
 /// Whether each byte is a capital letter or a digit.
+// Each byte is tested, and the answer told at the end: that is faster.
 #[tactic(auto, using(crate::proofs::Runs::named))]
 fn all_named(s: &[u8]) -> bool
     ensures { result ≡ all is_name_byte s.now }
 {
+    let mut named = true;
     for b in s {
-        if !is_name_byte(*b) {
-            return false;
-        }
+        named &= is_name_byte(*b);
     }
-    true
+    named
 }
 
 /// Eight letters or digits, a dot, three more.

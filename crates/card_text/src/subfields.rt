@@ -39,6 +39,8 @@ pub struct Values {
 }
 
 /// Digits, from low to high, and blanks before them where they may stand.
+// Laid in at each of its calls, with their literal offsets and widths: that is faster.
+#[inline(always)]
 fn number_at(fill: Fill, s: &[u8], o: usize, w: usize, low: u64, high: u64) -> Result<u64, Refusal>
     requires within { o + w ≤ length s.now }
     requires not_empty { 0 < w }

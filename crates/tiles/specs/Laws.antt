@@ -10,7 +10,7 @@ use borrow.Author.Tests.{le-leb, lt-leb, eq-eqb, ne_eqb, eqb-true, not-false}
 use lib.Dec.{ltb, eqb}
 use lib.ListN.{length, get_or}
 use Rattle.std.specs.Prelude.{Ok}
-use Rattle.presence.specs.Presence.{present, number_at}
+use Rattle.presence.specs.Presence.{present, number_at, within}
 use Rattle.presence.proofs.Counted.{number-none, number-some, some_number, near, far}
 use Rattle.card_text.specs.declared.Fields.{Fields}
 use Rattle.tiles.specs.declared.Source.{Source}
@@ -105,18 +105,21 @@ corrected-glance k f g corrections corrected same t h = go (eqb (get_or correcti
 -- the bits say the same by their count and by where it passes the stated one, the number aside
 pub bits-glance : (k : Fields) (words : List ℕ) (count : ℕ) → IsGlance k (glance_bits k words (bits_end k words count)) (said_bits k words count)
 unfolding said_bits glance_bits
-bits-glance k words count t h = go k.tif (ℕ_discrete (present words t) 0) (dec_le (bits_end k words count) t)
+bits-glance k words count t h = go k.tif (ℕ_discrete (present words t) 0) (dec_le (within words count ((tiles k + 63) / 64 * 64)) t)
   where
-    go : (b : Bool) → Dec (present words t ≡ 0) → Dec (bits_end k words count ≤ t)
-        → kind (cond b (said_before (bits_end k words count) words t) (Said.Stored (in_base 0)))
+    passed : ℕ
+    passed = within words count ((tiles k + 63) / 64 * 64)
+
+    go : (b : Bool) → Dec (present words t ≡ 0) → Dec (passed ≤ t)
+        → kind (cond b (said_before (cond b passed 0) words t) (Said.Stored (in_base 0)))
         ≡ kind (cond b (said Source.Base count (number_at words t)) (Said.Stored (in_base (t + 1))))
     go false d b = refl
     go true (yes e) b = rw (eq-eqb (present words t) 0 e, number-none words t e)
     go true (no d) (yes l) =
-        rw (ne_eqb (present words t) 0 d, le-leb (bits_end k words count) t l)
+        rw (ne_eqb (present words t) 0 d, le-leb passed t l)
         (sym (ap kind (said-above Source.Base count (number_at words t) (some_number words t d)
         (omega (arith, number-some words t d, far words count ((tiles k + 63) / 64 * 64) t (omega arith) l)))))
     go true (no d) (no l) =
-        rw (ne_eqb (present words t) 0 d, lt-leb (bits_end k words count) t (lt_of_not-le l))
+        rw (ne_eqb (present words t) 0 d, lt-leb passed t (lt_of_not-le l))
         (sym (ap kind (said-stored Source.Base count (number_at words t) (some_number words t d)
         (omega (arith, number-some words t d, near words count ((tiles k + 63) / 64 * 64) t (lt_of_not-le l))))))

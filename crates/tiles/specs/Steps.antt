@@ -36,9 +36,9 @@ said_before end words t = cond (eqb (present words t) 0) Said.Missing (cond (leb
 unfoldable pub glance_bits : Fields → List ℕ → ℕ → ℕ → Said
 glance_bits k words end t = cond k.tif (said_before end words t) (Said.Stored (in_base 0))
 
--- how far the bits of the words are not above the count
+-- how far the bits of the words are not above the count; with TIF N there are none
 abbrev pub bits_end : Fields → List ℕ → ℕ → ℕ
-bits_end k words count = within words count ((tiles k + 63) / 64 * 64)
+bits_end k words count = cond k.tif (within words count ((tiles k + 63) / 64 * 64)) 0
 
 -- a window of an image
 pub record WindowRows (k : Fields) (top left height width : ℕ) : Type 0 where

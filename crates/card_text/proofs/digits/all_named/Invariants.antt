@@ -1,7 +1,7 @@
--- The bytes that are left decide the whole.
-use Rattle.std.proofs.Common.{◌≡◌, drop}
+-- The test so far and the bytes that are left make the whole test.
+use Rattle.std.proofs.Common.{◌≡◌, ◌&&◌, drop}
 use Rattle.text.specs.Text.{all, is_name_byte}
 use Rattle.card_text.proofs.digits.all_named.Given as goal
 
 abbrev pub invariant-loop-b : goal.invariant-loop-b
-invariant-loop-b l = all is_name_byte (drop l.b-index l.s) ≡ all is_name_byte l.s
+invariant-loop-b l = (l.named && all is_name_byte (drop l.b-index l.s)) ≡ all is_name_byte l.s
