@@ -26,6 +26,7 @@ pub struct Spacing {
 }
 
 /// A of a zone. Refuses the zone.
+#[inline(always)]
 fn columns(scale: Scale, zone: u64) -> Result<Pixels, Refusal>
     ensures { result ≡ columns_of scale zone }
 {

@@ -72,7 +72,8 @@ fn skipped(fill: Fill, s: &[u8]) -> usize
 }
 
 /// A number that starts with a blank.
-// Apart from the one below, so that the digits of a card without blanks are all that is laid into its reading: that is faster.
+// Laid in with `number_of` at each subfield, with its literal width: that is faster.
+#[inline(always)]
 #[tactic(auto, using(crate::proofs::Blanks::numbers))]
 fn past_blanks(fill: Fill, s: &[u8]) -> Option<u64>
     requires not_empty { 0 < length s.now }
@@ -83,6 +84,7 @@ fn past_blanks(fill: Fill, s: &[u8]) -> Option<u64>
 }
 
 /// A number: digits, and blanks before them where they may stand. Its first byte tells whether there are any.
+#[inline(always)]
 #[tactic(auto, using(crate::proofs::Blanks::numbers))]
 pub fn number_of(fill: Fill, s: &[u8]) -> Option<u64>
     requires not_empty { 0 < length s.now }
@@ -109,6 +111,7 @@ fn all_named(s: &[u8]) -> bool
 }
 
 /// Eight letters or digits, a dot, three more.
+#[inline(always)]
 #[tactic(auto, unfolding(text::specs::Text::name_laid))]
 pub fn name_laid(s: &[u8]) -> bool
     requires { length s.now ≡ 12 }

@@ -94,17 +94,17 @@ fn count_wrong(card: Card, count: u64) -> bool
     }
 }
 
-// What a number says, of a store of so many tiles; 0 for a tile not stored.
+// What a number says, of a store of so many tiles; 0 for a tile not stored. That it is stored is asked first, which is one test: a window is faster so.
 fn number_says(source: Source, count: u64, number: u64) -> Said
     ensures { result ≡ said source count number }
 {
+    if number != 0 && number <= count {
+        return Said::Stored(Stored { source, number });
+    }
     if number == 0 {
         return Said::Missing;
     }
-    if count < number {
-        return Said::Above;
-    }
-    Said::Stored(Stored { source, number })
+    Said::Above
 }
 
 // A tile's entry, 0 past the end of the list.
