@@ -1,10 +1,9 @@
 -- The library for C: the blocks of questions on numbers alone. A block has the number and the place of a refusal, both 0 in an answer, and the values of
 -- an answer, all 0 in a refusal. Definitions only.
 --     spacing_block .. offset_block    the block of each answer
-use Rattle.std.specs.Prelude.{ℕ, length, replicate, pos, Result, Ok, Err}
+use Rattle.std.specs.Prelude.{ℕ, List, length, replicate, pos, Result, Ok, Err}
 use Rattle.std.specs.Float.Ieee.{of_int}
 use Rattle.std.specs.Float.{binary64}
-use Rattle.arrayvec.specs.ArrayVec.{ArrayVec}
 use Rattle.whole.specs.Lists.{padded}
 use Rattle.arc.specs.declared.refusal.Refusal.{Refusal}
 use Rattle.arc.specs.declared.series.Spacing.{Spacing}
@@ -26,12 +25,12 @@ abbrev pub zone_block : Result ℕ Refusal → ZoneParts
 zone_block (Ok zone) = record { number = 0; at = 0; zone = zone }
 zone_block (Err e) = record { number = refusal_number e; at = refusal_place e; zone = 0 }
 
-abbrev pub cover_block : Result (ArrayVec ℕ) Refusal → CoverParts
-cover_block (Ok zs) = record { number = 0; at = 0; length = length zs.items; zones = padded 6 zs.items }
+abbrev pub cover_block : Result (List ℕ) Refusal → CoverParts
+cover_block (Ok zs) = record { number = 0; at = 0; length = length zs; zones = padded 6 zs }
 cover_block (Err e) = record { number = refusal_number e; at = refusal_place e; length = 0; zones = replicate 6 0 }
 
-abbrev pub rectangle_block : Result (ArrayVec ℕ) Refusal → RectangleParts
-rectangle_block (Ok zs) = record { number = 0; at = 0; length = length zs.items; zones = padded 18 zs.items }
+abbrev pub rectangle_block : Result (List ℕ) Refusal → RectangleParts
+rectangle_block (Ok zs) = record { number = 0; at = 0; length = length zs; zones = padded 18 zs }
 rectangle_block (Err e) = record { number = refusal_number e; at = refusal_place e; length = 0; zones = replicate 18 0 }
 
 abbrev pub origin_block : Result Origin Refusal → OriginParts

@@ -1,13 +1,12 @@
 // The blocks of questions on numbers alone.
 ghost use Rattle.std.specs.Prelude.{◌≡◌};
-ghost use Rattle.whole.specs.Lists.{padded};
 ghost use Rattle.fordcask.specs.Plain.{spacing_block, zone_block, cover_block, rectangle_block, origin_block, offset_block};
 
 use crate::parts::{CoverParts, OffsetParts, OriginParts, RectangleParts, SpacingParts, ZoneParts};
 use arc::{Refusal, Spacing};
-use arrayvec::ArrayVec;
 use card::Offset;
 use origin::Origin;
+use zones::Zones;
 
 impl From<Result<Spacing, Refusal>> for SpacingParts {
     ghost from_gives = { λ answer block. block ≡ spacing_block answer };
@@ -49,25 +48,16 @@ impl From<Result<u64, Refusal>> for ZoneParts {
     }
 }
 
-/// The zones in their slots, the others 0.
-fn slots<const N: usize>(zones: &ArrayVec<u64, N>) -> [u64; N]
-    ensures { result ≡ padded N zones.now.items }
-{
-    let mut slots = [0; N];
-    slots[..zones.len()].copy_from_slice(zones);
-    slots
-}
-
-impl From<Result<ArrayVec<u64, 6>, Refusal>> for CoverParts {
+impl From<Result<Zones<6>, Refusal>> for CoverParts {
     ghost from_gives = { λ answer block. block ≡ cover_block answer };
 
-    fn from(answer: Result<ArrayVec<u64, 6>, Refusal>) -> Self {
+    fn from(answer: Result<Zones<6>, Refusal>) -> Self {
         match answer {
             Ok(zones) => CoverParts {
                 number: 0,
                 at: 0,
                 length: zones.len() as u64,
-                zones: slots(&zones),
+                zones: zones.slots(),
             },
             Err(e) => CoverParts {
                 number: e.number(),
@@ -79,16 +69,16 @@ impl From<Result<ArrayVec<u64, 6>, Refusal>> for CoverParts {
     }
 }
 
-impl From<Result<ArrayVec<u64, 18>, Refusal>> for RectangleParts {
+impl From<Result<Zones<18>, Refusal>> for RectangleParts {
     ghost from_gives = { λ answer block. block ≡ rectangle_block answer };
 
-    fn from(answer: Result<ArrayVec<u64, 18>, Refusal>) -> Self {
+    fn from(answer: Result<Zones<18>, Refusal>) -> Self {
         match answer {
             Ok(zones) => RectangleParts {
                 number: 0,
                 at: 0,
                 length: zones.len() as u64,
-                zones: slots(&zones),
+                zones: zones.slots(),
             },
             Err(e) => RectangleParts {
                 number: e.number(),

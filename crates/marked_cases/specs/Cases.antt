@@ -41,7 +41,7 @@ numbers f (Err e) = []
 
 -- the length of a cover list, and the list in its six slots
 abbrev pub cover : ℕ → ℤ → List ℤ
-cover scale lat = numbers (λ v. map pos (length v.items ∷ padded 6 v.items)) (cover_of scale 1 lat)
+cover scale lat = numbers (λ v. map pos (length v ∷ padded 6 v)) (cover_of scale 1 lat)
 
 abbrev pub zone : ℤ → List ℤ
 zone lat = numbers (λ z. pos z ∷ []) (basic_zone_of lat)

@@ -11,6 +11,7 @@ ghost use Rattle.rectangle.specs.Steps.{shares_row, Sides};
 
 use arc::{Circle, Overlap, Pixels, Refusal, Row, TABLE};
 use arrayvec::ArrayVec;
+use zones::Zones;
 
 pub mod laws;
 
@@ -70,12 +71,7 @@ fn zones_of(b: Pixels, south: u64, north: u64) -> ArrayVec<u64, 18>
 /// The zones that share a stretch of latitude with the rectangle from south to north, in ascending number; the edges are in hundredths of an
 /// arc-second. A zone that meets the rectangle in no more than one latitude is not listed. Refuses the scale, the factor, their product as
 /// a scale, the south edge, the north edge, and edges of which the south one is not below the north one.
-pub fn rectangle(
-    scale: u64,
-    factor: u64,
-    south: i64,
-    north: i64,
-) -> Result<ArrayVec<u64, 18>, Refusal>
+pub fn rectangle(scale: u64, factor: u64, south: i64, north: i64) -> Result<Zones<18>, Refusal>
     ensures { result ≡ rectangle_of scale factor south north }
 {
     let b = arc::b_constant(scale, factor)?;
@@ -84,5 +80,5 @@ pub fn rectangle(
     if north <= south {
         return Err(Refusal::CrossedEdges);
     }
-    Ok(zones_of(b, south, north))
+    Ok(zones_of(b, south, north).into())
 }

@@ -3,7 +3,7 @@
 --     covers b lat zone  the zone covers the latitude
 --     zones_equatorward lat  the zones on the Equator's side of the basic zone, nearest to it first
 --     cover_zones b lat  the cover list
---     listed zs          zs as it is answered
+--     listed zs          zs as the code gathers them
 --     cover_of S factor lat  what `cover` answers: the cover list, or the refusals Scale, Factor, Scale, Latitude
 use Rattle.std.specs.Prelude.{◌≡◌, ℕ, ◌-◌, ◌*◌, ◌≤◌, Bool, true, false, if◌then◌else◌, not, ◌&&◌, ◌||◌, List, ◌∷◌, leb, ltb, eqb, length}
 use Rattle.std.specs.Prelude.{ℤ, pos, nat_abs, Option, Some, None, Result, Ok, Err}
@@ -46,10 +46,10 @@ cover_zones b lat = basic_zone lat ∷ those (covers b lat) (zones_equatorward l
 abbrev pub listed : List ℕ → ArrayVec ℕ
 listed zs = record { items = zs }
 
-abbrev pub cover_at : ℕ → ℤ → Result (ArrayVec ℕ) Refusal
-cover_at b lat = if outside quarter lat then Err Refusal.Latitude else Ok (listed (cover_zones b lat))
+abbrev pub cover_at : ℕ → ℤ → Result (List ℕ) Refusal
+cover_at b lat = if outside quarter lat then Err Refusal.Latitude else Ok (cover_zones b lat)
 
-abbrev pub cover_of : ℕ → ℕ → ℤ → Result (ArrayVec ℕ) Refusal
+abbrev pub cover_of : ℕ → ℕ → ℤ → Result (List ℕ) Refusal
 cover_of s factor lat = do
   b ← rows_of s factor
   cover_at b lat

@@ -12,6 +12,9 @@ use arc::{Circle, Overlap, Pixels, Refusal, Row, TABLE};
 use arrayvec::ArrayVec;
 
 pub mod laws;
+mod list;
+
+pub use list::Zones;
 
 /// Whether a row holds a size of latitude: a limit belongs to the poleward row, 90° to the last.
 fn holds(row: Row, size: u64) -> bool
@@ -75,12 +78,12 @@ fn zones_covering(b: Pixels, lat: i64) -> ArrayVec<u64, 6>
 /// The zones that cover a latitude, in hundredths of an arc-second, at a scale and a factor: the basic zone first, then equatorward those whose
 /// overlap of 1024 rows poleward reaches it. Refuses the scale, the factor, their product as a scale, then the latitude.
 #[tactic(auto, using(crate::proofs::Ranges::ranges))]
-pub fn cover(scale: u64, factor: u64, lat: i64) -> Result<ArrayVec<u64, 6>, Refusal>
+pub fn cover(scale: u64, factor: u64, lat: i64) -> Result<Zones<6>, Refusal>
     ensures { result ≡ cover_of scale factor lat }
 {
     let b = arc::b_constant(scale, factor)?;
     if Circle::QUARTER < whole::size(lat) {
         return Err(Refusal::Latitude);
     }
-    Ok(zones_covering(b, lat))
+    Ok(zones_covering(b, lat).into())
 }
