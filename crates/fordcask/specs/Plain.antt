@@ -1,6 +1,6 @@
 -- The library for C: the blocks of questions on numbers alone. A block has the number and the place of a refusal, both 0 in an answer, and the values of
 -- an answer, all 0 in a refusal. Definitions only.
---     spacing_block .. offset_block    the block of each answer
+--     constant_block .. offset_block    the block of each answer
 use Rattle.std.specs.Prelude.{ℕ, List, length, replicate, pos, Result, Ok, Err}
 use Rattle.std.specs.Float.Ieee.{of_int}
 use Rattle.std.specs.Float.{binary64}
@@ -10,12 +10,17 @@ use Rattle.arc.specs.declared.series.Spacing.{Spacing}
 use Rattle.arc.specs.Refusals.{refusal_number, refusal_place}
 use Rattle.origin.specs.declared.Origin.{Origin}
 use Rattle.card.specs.declared.Offset.{Offset}
+use Rattle.fordcask.specs.declared.parts.ConstantParts.{ConstantParts}
 use Rattle.fordcask.specs.declared.parts.SpacingParts.{SpacingParts}
 use Rattle.fordcask.specs.declared.parts.ZoneParts.{ZoneParts}
 use Rattle.fordcask.specs.declared.parts.CoverParts.{CoverParts}
 use Rattle.fordcask.specs.declared.parts.RectangleParts.{RectangleParts}
 use Rattle.fordcask.specs.declared.parts.OriginParts.{OriginParts}
 use Rattle.fordcask.specs.declared.parts.OffsetParts.{OffsetParts}
+
+abbrev pub constant_block : Result ℕ Refusal → ConstantParts
+constant_block (Ok pixels) = record { number = 0; at = 0; pixels = pixels }
+constant_block (Err e) = record { number = refusal_number e; at = refusal_place e; pixels = 0 }
 
 abbrev pub spacing_block : Result Spacing Refusal → SpacingParts
 spacing_block (Ok x) = record { number = 0; at = 0; a = x.a; b = x.b }

@@ -37,9 +37,9 @@ pub use corrections::{
 };
 pub use indexes::{fordcask_bands, fordcask_index_check, fordcask_tile, fordcask_window};
 pub use parts::{
-    BandsOnCard, CardParts, CorrectedTile, CoverParts, OffsetParts, OriginParts, OverviewOnCards,
-    PixelOnCard, PlaceOnCard, PositionOnCard, RecordParts, RectangleParts, RefusalParts,
-    SpacingParts, TileParts, VerdictParts, WindowOnCard, ZoneParts,
+    BandsOnCard, CardParts, ConstantParts, CorrectedTile, CoverParts, OffsetParts, OriginParts,
+    OverviewOnCards, PixelOnCard, PlaceOnCard, PositionOnCard, RecordParts, RectangleParts,
+    RefusalParts, SpacingParts, TileParts, VerdictParts, WindowOnCard, ZoneParts,
 };
 pub use plain::{
     fordcask_align, fordcask_basic_zone, fordcask_cover, fordcask_offset, fordcask_rectangle,

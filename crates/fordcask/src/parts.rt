@@ -10,6 +10,15 @@ pub struct RefusalParts {
     pub at: u64,
 }
 
+/// Number, place, and A or B alone, in pixels.
+#[repr(C)]
+#[derive(Clone, Copy)]
+pub struct ConstantParts {
+    pub number: u32,
+    pub at: u64,
+    pub pixels: u64,
+}
+
 /// Number, place, A and B.
 #[repr(C)]
 #[derive(Clone, Copy)]

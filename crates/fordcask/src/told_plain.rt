@@ -1,12 +1,33 @@
 // The blocks of questions on numbers alone.
 ghost use Rattle.std.specs.Prelude.{◌≡◌};
-ghost use Rattle.fordcask.specs.Plain.{spacing_block, zone_block, cover_block, rectangle_block, origin_block, offset_block};
+ghost use Rattle.fordcask.specs.Plain.{constant_block, spacing_block, zone_block, cover_block, rectangle_block, origin_block, offset_block};
 
-use crate::parts::{CoverParts, OffsetParts, OriginParts, RectangleParts, SpacingParts, ZoneParts};
-use arc::{Refusal, Spacing};
+use crate::parts::{
+    ConstantParts, CoverParts, OffsetParts, OriginParts, RectangleParts, SpacingParts, ZoneParts,
+};
+use arc::{Pixels, Refusal, Spacing};
 use card::Offset;
 use origin::Origin;
 use zones::Zones;
+
+impl From<Result<Pixels, Refusal>> for ConstantParts {
+    ghost from_gives = { λ answer block. block ≡ constant_block answer };
+
+    fn from(answer: Result<Pixels, Refusal>) -> Self {
+        match answer {
+            Ok(pixels) => ConstantParts {
+                number: 0,
+                at: 0,
+                pixels: pixels.count(),
+            },
+            Err(e) => ConstantParts {
+                number: e.number(),
+                at: e.place(),
+                pixels: 0,
+            },
+        }
+    }
+}
 
 impl From<Result<Spacing, Refusal>> for SpacingParts {
     ghost from_gives = { λ answer block. block ≡ spacing_block answer };

@@ -33,8 +33,10 @@ fn zone_shares(b: Pixels, zone: u64, south: u64, north: u64) -> bool
     requires { Sides b zone south north }
     ensures { result ≡ shares b (pos south -ℤ pos quarter) (pos north -ℤ pos quarter) zone }
 {
+    // by reference: the table itself would be laid out anew for each zone
+    let table = &TABLE;
     if zone <= 9 {
-        let row = TABLE[(zone - 1) as usize];
+        let row = table[(zone - 1) as usize];
         row_shares(
             b,
             row,
@@ -42,7 +44,7 @@ fn zone_shares(b: Pixels, zone: u64, south: u64, north: u64) -> bool
             north.saturating_sub(Circle::QUARTER),
         )
     } else {
-        let row = TABLE[(zone - 10) as usize];
+        let row = table[(zone - 10) as usize];
         row_shares(
             b,
             row,

@@ -14,7 +14,8 @@ pub struct NotDigits {
 }
 
 /// The number of a run of up to 17 digits, 0 for an empty run. Refuses a longer run, and one with a byte that is no digit.
-// One test at the end, and none at each byte: that is faster.
+// One test at the end, and none at each byte, and laid in where it is called: that is faster.
+#[inline(always)]
 #[tactic(auto, using(crate::proofs::Numbers::reading))]
 pub fn digits_of(s: &[u8]) -> Result<u64, NotDigits>
     ensures { result ≡ digits_in s.now }

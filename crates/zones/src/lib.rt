@@ -64,10 +64,12 @@ fn zones_covering(b: Pixels, lat: i64) -> ArrayVec<u64, 6>
 {
     let size = whole::size(lat);
     let basic = row_holding(size);
+    // by reference: the table itself would be laid out anew at each turn
+    let table = &TABLE;
     let mut zones = ArrayVec::new();
     zones.push(zone_on(lat, basic));
     for place in (0..(basic.northern - 1) as usize).rev() {
-        let row = TABLE[place];
+        let row = table[place];
         if (size - row.poleward) * b.count() < Overlap::ANGLE {
             zones.push(zone_on(lat, row));
         }

@@ -1,0 +1,10 @@
+-- The block of a refusal has no blanks. Assumes nothing.
+use Rattle.std.proofs.Common.{ap, ◌∙◌, refl}
+use Rattle.std.specs.Prelude.{Result}
+use Rattle.arc.specs.declared.refusal.Refusal.{Refusal}
+use Rattle.card.specs.declared.Reading.{Reading}
+use Rattle.fordcask.specs.Entry.{card_block}
+use Rattle.fordcask.specs.Totals.{RefusedCardTellsNone}
+
+pub refused-card-tells-none : RefusedCardTellsNone
+refused-card-tells-none series s e = (λ h. ap (λ (x : Result Reading Refusal). (card_block x).blanks) h, λ h. ap (λ (x : Result Reading Refusal). (card_block x).blanks) h)
