@@ -1,5 +1,5 @@
 -- A card that is refused tells no blanks, in either way of reading. A claim, proved in proofs/Totals.antt.
-use Rattle.std.specs.Prelude.{◌≡◌, ◌×◌, ℕ, List, Err}
+use Rattle.std.specs.Prelude.{◌≡◌, ℕ, List, Err}
 use Rattle.arc.specs.declared.refusal.Refusal.{Refusal}
 use Rattle.arc.specs.declared.series.Series.{Series}
 use Rattle.card.specs.Read.{card_read, card_read_strict}
