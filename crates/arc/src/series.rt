@@ -54,6 +54,7 @@ pub fn b_constant(scale: u64, factor: u64) -> Result<Pixels, Refusal>
 
 impl Series {
     /// A and B. Refuses the scale, the factor, their product as a scale, then the zone.
+    // Laid in where it is called, and so are the two beside it: reading and writing are faster so.
     #[inline(always)]
     pub fn spacing(self) -> Result<Spacing, Refusal>
         ensures { result ≡ spacing_of self }
@@ -68,6 +69,7 @@ impl Series {
 
     /// The spacing of a card that is to be written, or of a point that is to be aligned. Refuses a town scale right after a number that is
     /// no scale, and the rest as `spacing` does; no town scale is refused as a number that is no scale, so it is judged first.
+    #[inline(always)]
     pub fn spacing_for_writing(self) -> Result<Spacing, Refusal>
         ensures { result ≡ spacing_for_writing self }
     {
