@@ -5,9 +5,7 @@ use mathlib.Core.Bool.{Bool, true, false, cond, ◌&&◌}
 use mathlib.Core.List.{List, [], ◌∷◌}
 use Prim.Native.Nat.{ℕ, suc, ◌+◌, ◌≤◌, ◌<◌}
 use native.Mathlib.Omega.{arith}
-use mathlib.Core.Bool.{false≢true}
-use mir.Val.{bool_byte}
-use borrow.Author.Tests.{eqb-true, eq-eqb, ne_eqb, ltb-true, ltb-false, lt-ltb, le-ltb}
+use borrow.Author.Tests.{eqb-true, ne_eqb, ltb-true, ltb-false, lt-ltb, le-ltb}
 use lib.Dec.{eqb, ltb}
 use lib.ListN.{length, get_or, drop, length-drop}
 use Rattle.text.specs.Text.{is_digit, all, onward, number, blanks, filled}
@@ -45,19 +43,14 @@ pub lead-next : (s : List ℕ) (i : ℕ) → i + 1 < length s → get_or s i 0 �
 lead-next s i h e =
     rw (drop-next s i (omega arith), drop-next s (i + 1) h, e) (omega arith)
 
--- one byte more is looked at
-pub lead_next : (n : ℕ) (blank : Bool) (s : List ℕ) (i : ℕ) → i + 1 < length s
-    → (n + bool_byte (blank && eqb (get_or s i 0) 32)) + cond (blank && eqb (get_or s i 0) 32) (lead (drop (i + 1) s)) 0 ≡ n + cond blank (lead (drop i s)) 0
-lead_next n false s i h = omega arith
-lead_next n true s i h = go (eqb (get_or s i 0) 32) refl
-  where
-    go : (t : Bool) → eqb (get_or s i 0) 32 ≡ t → (n + bool_byte t) + cond t (lead (drop (i + 1) s)) 0 ≡ n + lead (drop i s)
-    go true e = rw (lead-next s i h (eqb-true (get_or s i 0) 32 e)) (omega arith)
-    go false e = rw (lead-stop s i (omega arith) (λ z. absurd (false≢true (sym e ∙ eq-eqb (get_or s i 0) 32 z)))) (omega arith)
+pub lead_stops : (s : List ℕ) (i : ℕ) → i < length s → (get_or s i 0 ≡ 32 → ⊥) → i + lead (drop i s) ≡ i
+lead_stops s i h e = rw (lead-stop s i h e) (omega arith)
 
-pub lead_lasts : (n : ℕ) (blank : Bool) (s : List ℕ) (i : ℕ) → length s ≡ i + 1 → n + cond blank (lead (drop i s)) 0 ≡ n
-lead_lasts n false s i h = omega arith
-lead_lasts n true s i h = rw (lead-last (drop i s) (omega (arith, length-drop i s))) (omega arith)
+pub lead_nexts : (s : List ℕ) (i : ℕ) → i + 1 < length s → get_or s i 0 ≡ 32 → lead (drop i s) ≡ lead (drop (i + 1) s) + 1
+lead_nexts s i h e = lead-next s i h e
+
+pub lead_lasts : (s : List ℕ) (i : ℕ) → length s ≡ i + 1 → lead (drop i s) ≡ 0
+lead_lasts s i h = lead-last (drop i s) (omega (arith, length-drop i s))
 
 -- ---- what is left
 
@@ -73,7 +66,7 @@ lead-below (b ∷ c ∷ bs) h = go (eqb b 32) (lead-below (c ∷ bs) (omega arit
 pub lead_most : (s : List ℕ) → 0 < length s → lead s < length s
 lead_most s h = lead-below s h
 
-pub ruleset scan = (lead_next, lead_lasts, lead_most)
+pub ruleset scan = (lead_stops, lead_nexts, lead_lasts, lead_most)
 
 ltb-suc : (m n : ℕ) → ltb (suc m) (suc n) ≡ ltb m n
 ltb-suc m n = go (ltb m n) refl

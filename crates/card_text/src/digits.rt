@@ -34,20 +34,18 @@ pub fn digits_at(s: &[u8], o: usize, w: usize) -> Option<u64>
 }
 
 /// How many blanks a run starts with, its last byte not among them.
-// Each byte but the last is looked at, and no branch taken: padded cards are read faster so.
 #[tactic(auto, using(crate::proofs::Blanks::scan))]
 fn leading(s: &[u8]) -> usize
     requires { 0 < length s.now }
     ensures { result ≡ lead s.now }
 {
     let last = s.len() - 1;
-    let mut blanks = 0;
-    let mut blank = true;
     for i in 0..last {
-        blank &= s[i] == b' ';
-        blanks += usize::from(blank);
+        if s[i] != b' ' {
+            return i;
+        }
     }
-    blanks
+    last
 }
 
 /// The same of the w bytes from offset o.
