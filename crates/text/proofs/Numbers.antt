@@ -171,14 +171,14 @@ digits-read w s h l e = rw (e, le-leb (length s) 17 (omega arith)) (go (all is_d
           tested = rw q;
           read = λ _. refl;
           below = λ _. number-below w s h q;
-          small = rw d at most
+          small = rw d at most;
         }
     go false q =
         record {
           tested = rw q;
           read = λ d. absurd (false≢true (rw q at d));
           below = λ d. absurd (false≢true (rw q at d));
-          small = most
+          small = most;
         }
 
 pub ruleset reading = (next_sum, next_test, pow_next, pow_bound, too_long, all_read, other_read)

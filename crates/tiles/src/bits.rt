@@ -88,7 +88,8 @@ impl TileIndex for ByBits<'_> {
         number_says(Source::Base, self.count, presence::number(self.words, tile))
     }
 
-    // The stored tiles are those whose bit is set before this one. The last word is passed whole: no bit of it is looked at one by one; with TIF N no bit is asked.
+    // The stored tiles are those whose bit is set before this one. The last word is passed whole: no bit of it is looked at
+    // one by one; with TIF N no bit is asked.
     fn end(&self, card: Card) -> u64 {
         let fields = card.fields();
         if !fields.tif {

@@ -9,5 +9,5 @@ invariant-loop-b l =
     record {
       sofar : summed l.sum (drop l.b-index l.s) ≡ summed 0 l.s;
       tested : (l.digits && all is_digit (drop l.b-index l.s)) ≡ all is_digit l.s;
-      small : l.sum + 29 ≤ 29 * 10 ^ l.b-index
+      small : l.sum + 29 ≤ 29 * 10 ^ l.b-index;
     }
