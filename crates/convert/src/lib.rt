@@ -41,7 +41,7 @@ fn in_order(index: &[u32]) -> bool
 {
     let mut named: u64 = 0;
     for &entry in index {
-        // counted without a branch, which would be foreseen badly where every other tile is missing
+        // counted without a branch, which would be foreseen badly where tiles are missing at random
         named += u64::from(entry != 0);
         if entry != 0 && u64::from(entry) != named {
             return false;

@@ -94,7 +94,7 @@ fn count_wrong(card: Card, count: u64) -> bool
     }
 }
 
-// What a number says, of a store of so many tiles; 0 for a tile not stored. That it is stored is asked first, which is one test: a window is faster so.
+// What a number says, of a store of so many tiles; 0 for a tile not stored. That it is stored is asked first: a window is faster so.
 fn number_says(source: Source, count: u64, number: u64) -> Said
     ensures { result ≡ said source count number }
 {
