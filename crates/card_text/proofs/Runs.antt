@@ -1,25 +1,19 @@
 -- Runs of digits and of letters, byte by byte. Assumes nothing.
-use Rattle.std.proofs.Common.{◌≡◌, ℕ, ◌+◌, ◌<◌, ◌≤◌, true, false, List, length, get_or, drop, refl, arith, drop_of_length-le, le-leb, Some, None}
+use Rattle.std.proofs.Common.{◌≡◌, ℕ, ◌+◌, ◌<◌, ◌≤◌, true, false, List, length, get_or, drop, refl, arith, drop_of_length-le, Some, None}
 use mathlib.Core.Bool.{Bool, ◌&&◌, and-true}
-use Rattle.std.specs.Prelude.{if◌then◌else◌, cond, Ok, Err}
+use Rattle.std.specs.Prelude.{if◌then◌else◌}
 use Rattle.std.specs.Result.{result_ok}
 use Rattle.std.specs.Option.{IfSome}
 use Rattle.text.specs.Text.{all, is_digit, is_name_byte, number}
-use Rattle.text.specs.declared.NotDigits.{NotDigits}
-use Rattle.text.specs.Buffer.{summed, digits_in}
+use Rattle.text.specs.Buffer.{digits_in}
 use Rattle.text.proofs.Bytes.{all-next}
-use Rattle.text.proofs.Numbers.{number-below}
+use Rattle.text.proofs.Numbers.{number-below, digits_read}
 use Rattle.card_text.specs.StepsFields.{digits_run}
 
 -- ---- digits
 
 pub run_is : (s : List ℕ) → length s ≤ 17 → result_ok (digits_in s) ≡ digits_run s
-unfolding digits_in
-run_is s h = rw (le-leb (length s) 17 h) (go (all is_digit s))
-  where
-    go : (t : Bool) → result_ok {E = NotDigits} (cond t (Ok (number s)) (Err (record { sum = summed 0 s }))) ≡ (if t then Some (number s) else None)
-    go true = refl
-    go false = refl
+run_is s h = digits_read s h
 
 pub run_small : (s : List ℕ) → length s ≤ 8 → IfSome (digits_run s) (λ v. v < 100000000)
 run_small s h = go (all is_digit s) refl

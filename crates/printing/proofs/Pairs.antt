@@ -3,11 +3,9 @@ use Rattle.std.proofs.Common.{◌≡◌, ℕ, ◌≤◌, ◌<◌, ◌^◌, Bool,
 use Rattle.std.proofs.Common.{Option, Some, None, nat_le}
 use mathlib.Core.Bool.{and-eq-true_iff}
 use Rattle.text.specs.Text.{all, is_digit, number}
-use Rattle.std.specs.Prelude.{Ok, Err}
 use Rattle.std.specs.Result.{result_ok}
-use Rattle.text.specs.declared.NotDigits.{NotDigits}
-use Rattle.text.specs.Buffer.{summed, digits_in}
-use Rattle.text.proofs.Numbers.{number-below}
+use Rattle.text.specs.Buffer.{digits_in}
+use Rattle.text.proofs.Numbers.{number-below, digits_read}
 use Rattle.printing.specs.Lines.{up_to, after, is_number, short_number, both, numbers_of}
 use Rattle.printing.specs.Steps.{IsUncut}
 use Rattle.printing.specs.declared.parse.TwoNumbers.{TwoNumbers}
@@ -28,12 +26,7 @@ small s {v} e = go (is_number s) refl e
 -- a run of 1 to 9 bytes as it was read
 module _ (s : List ℕ) (least : 1 ≤ length s) (most : length s ≤ 9) where
   in-digits : result_ok (digits_in s) ≡ short_number s
-  unfolding digits_in
-  in-digits = rw (le-leb 1 (length s) least, le-leb (length s) 9 most, le-leb (length s) 17 (omega arith)) (go (all is_digit s))
-    where
-      go : (t : Bool) → result_ok {E = NotDigits} (cond t (Ok (number s)) (Err (record { sum = summed 0 s }))) ≡ cond t (Some (number s)) None
-      go true = refl
-      go false = refl
+  in-digits = rw (le-leb 1 (length s) least, le-leb (length s) 9 most) (digits_read s (omega arith))
 
   pub number_is_read : {r : Option ℕ} → r ≡ result_ok (digits_in s) → r ≡ short_number s
   number_is_read e = e ∙ in-digits

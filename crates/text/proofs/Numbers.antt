@@ -3,9 +3,9 @@
 use Rattle.std.proofs.Common.{◌≡◌, ℕ, zero, suc, ◌+◌, ◌-◌, ◌*◌, ◌/◌, ◌%◌, ◌^◌, ◌<◌, ◌≤◌, Bool, true, false, cond, eqb, leb, List, [], ◌∷◌}
 use Rattle.std.proofs.Common.{length, get_or, refl, ap, ◌∙◌, mul-le-mul_right, mod-lt, mod-eq_of_lt, mul_assoc}
 use Rattle.std.proofs.Common.{div-lt_iff_lt-mul, add-mul, pow-suc, le-div_iff_mul-le, zero-add, zero-mul, mul-one, add-one, arith}
-use Rattle.std.proofs.Common.{ne_eqb, le-leb, leb-false, leb-true, drop, drop_of_length-le, mul-le-mul_left, sym}
-use Rattle.std.specs.Prelude.{Result, Ok, Err, ◌&&◌}
-use Rattle.std.specs.Result.{is_ok}
+use Rattle.std.proofs.Common.{ne_eqb, le-leb, leb-false, leb-true, unwrap_or, drop, drop_of_length-le, mul-le-mul_left, sym}
+use Rattle.std.specs.Prelude.{Some, None, Result, Ok, Err, ◌&&◌}
+use Rattle.std.specs.Result.{is_ok, result_ok}
 use mathlib.Core.Bool.{and-eq-true_iff, false≢true}
 use native.Mathlib.Nat.{pow-succ', mod-one, one-le-pow}
 use native.Mathlib.Nat.{pow-le-pow_right, div-eq_of_lt, div-eq_of_lt-le, add-sub_cancel_left, mul-add-mod_self_right}
@@ -125,6 +125,15 @@ pub too_long : (s : List ℕ) → 17 < length s → digits_in s ≡ Err (record 
 unfolding digits_in
 too_long s h = rw (lt-leb (length s) 17 h)
 
+-- as they are read, what other bytes sum to left aside: the number of digits, none of other bytes
+pub digits_read : (s : List ℕ) → length s ≤ 17 → result_ok (digits_in s) ≡ cond (all is_digit s) (Some (number s)) None
+unfolding digits_in
+digits_read s h = rw (le-leb (length s) 17 h) (go (all is_digit s))
+  where
+    go : (t : Bool) → result_ok {E = NotDigits} (cond t (Ok (number s)) (Err (record { sum = summed 0 s }))) ≡ cond t (Some (number s)) None
+    go true = refl
+    go false = refl
+
 module _ (s : List ℕ) (h : length s ≤ 17) {v : ℕ} {ok : Bool} (i : ℕ) (l : length s ≤ i)
     (e : summed v (drop i s) ≡ summed 0 s) (f : (ok && all is_digit (drop i s)) ≡ all is_digit s) where
   pub all_read : ok ≡ true → digits_in s ≡ Ok v
@@ -144,7 +153,7 @@ module _ (s : List ℕ) (h : length s ≤ 17) {v : ℕ} {ok : Bool} (i : ℕ) (l
       rw (le-leb (length s) 17 h, d, n)
 
 -- what was read, of digits or not
-pub written : Result ℕ NotDigits → ℕ
+abbrev pub written : Result ℕ NotDigits → ℕ
 written (Ok v) = v
 written (Err e) = e.sum
 
@@ -153,10 +162,11 @@ pub record Read (w : ℕ) (s : List ℕ) (r : Result ℕ NotDigits) : Type 0 whe
   pub tested : is_ok r ≡ all is_digit s
   pub read : all is_digit s ≡ true → written r ≡ number s
   pub below : all is_digit s ≡ true → written r < 10 ^ w
+  pub told : unwrap_or (result_ok r) 0 < 10 ^ w
   pub small : written r + 29 ≤ 29 * 10 ^ w
 
 pub digits-read : (w : ℕ) (s : List ℕ) {r : Result ℕ NotDigits} → length s ≤ w → w ≤ 17 → r ≡ digits_in s → Read w s r
-unfolding digits_in written number
+unfolding digits_in number
 digits-read w s h l e = rw (e, le-leb (length s) 17 (omega arith)) (go (all is_digit s) refl)
   where
     most : summed 0 s + 29 ≤ 29 * 10 ^ w
@@ -171,6 +181,7 @@ digits-read w s h l e = rw (e, le-leb (length s) 17 (omega arith)) (go (all is_d
           tested = rw q;
           read = λ _. refl;
           below = λ _. number-below w s h q;
+          told = number-below w s h q;
           small = rw d at most;
         }
     go false q =
@@ -178,6 +189,7 @@ digits-read w s h l e = rw (e, le-leb (length s) 17 (omega arith)) (go (all is_d
           tested = rw q;
           read = λ d. absurd (false≢true (rw q at d));
           below = λ d. absurd (false≢true (rw q at d));
+          told = tens w;
           small = most;
         }
 
