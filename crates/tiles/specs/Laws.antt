@@ -102,24 +102,38 @@ corrected-glance k f g corrections corrected same t h = go (eqb (get_or correcti
     go true = same t h
     go false = refl
 
--- the bits say the same by their count and by where it passes the stated one, the number aside
-pub bits-glance : (k : Fields) (words : List ℕ) (count : ℕ) → IsGlance k (glance_bits k words (bits_end k words count)) (said_bits k words count)
+-- the bits say the same by their count and by how far it is not passed, up to the image's tiles or further, the number aside
+pub within-glance : (k : Fields) (words : List ℕ) (count n : ℕ) → tiles k ≤ n
+    → IsGlance k (glance_bits k words (within words count n)) (said_bits k words count)
 unfolding said_bits glance_bits
-bits-glance k words count t h = go k.tif (ℕ_discrete (present words t) 0) (dec_le (within words count ((tiles k + 63) / 64 * 64)) t)
+within-glance k words count n m t h = go k.tif (ℕ_discrete (present words t) 0) (dec_le (within words count n) t)
   where
     passed : ℕ
-    passed = within words count ((tiles k + 63) / 64 * 64)
+    passed = within words count n
 
     go : (b : Bool) → Dec (present words t ≡ 0) → Dec (passed ≤ t)
-        → kind (cond b (said_before (cond b passed 0) words t) (Said.Stored (in_base 0)))
+        → kind (cond b (said_before passed words t) (Said.Stored (in_base 0)))
         ≡ kind (cond b (said Source.Base count (number_at words t)) (Said.Stored (in_base (t + 1))))
     go false d b = refl
     go true (yes e) b = rw (eq-eqb (present words t) 0 e, number-none words t e)
     go true (no d) (yes l) =
         rw (ne_eqb (present words t) 0 d, le-leb passed t l)
         (sym (ap kind (said-above Source.Base count (number_at words t) (some_number words t d)
-        (omega (arith, number-some words t d, far words count ((tiles k + 63) / 64 * 64) t (omega arith) l)))))
+        (omega (arith, number-some words t d, far words count n t (omega arith) l)))))
     go true (no d) (no l) =
         rw (ne_eqb (present words t) 0 d, lt-leb passed t (lt_of_not-le l))
         (sym (ap kind (said-stored Source.Base count (number_at words t) (some_number words t d)
-        (omega (arith, number-some words t d, near words count ((tiles k + 63) / 64 * 64) t (lt_of_not-le l))))))
+        (omega (arith, number-some words t d, near words count n t (lt_of_not-le l))))))
+
+-- so they do by what `end` answers: up to the last word's end, and 0 where no bit is asked
+pub bits-glance : (k : Fields) (words : List ℕ) (count : ℕ) → IsGlance k (glance_bits k words (bits_end k words count)) (said_bits k words count)
+unfolding said_bits glance_bits
+bits-glance k words count t h = go k.tif (within-glance k words count ((tiles k + 63) / 64 * 64) (omega arith) t h)
+  where
+    passed : ℕ
+    passed = within words count ((tiles k + 63) / 64 * 64)
+
+    go : (b : Bool) {v : Said} → kind (cond b (said_before passed words t) (Said.Stored (in_base 0))) ≡ v
+        → kind (cond b (said_before (cond b passed 0) words t) (Said.Stored (in_base 0))) ≡ v
+    go true e = e
+    go false e = e
