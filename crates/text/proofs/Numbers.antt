@@ -125,7 +125,7 @@ pub too_long : (s : List ℕ) → 17 < length s → digits_in s ≡ Err (record 
 unfolding digits_in
 too_long s h = rw (lt-leb (length s) 17 h)
 
--- as they are read, what other bytes sum to left aside: the number of digits, none of other bytes
+-- what `.ok()` tells of up to 17 bytes: the number of digits, none of others
 pub digits_read : (s : List ℕ) → length s ≤ 17 → result_ok (digits_in s) ≡ cond (all is_digit s) (Some (number s)) None
 unfolding digits_in
 digits_read s h = rw (le-leb (length s) 17 h) (go (all is_digit s))
@@ -162,7 +162,7 @@ pub record Read (w : ℕ) (s : List ℕ) (r : Result ℕ NotDigits) : Type 0 whe
   pub tested : is_ok r ≡ all is_digit s
   pub read : all is_digit s ≡ true → written r ≡ number s
   pub below : all is_digit s ≡ true → written r < 10 ^ w
-  pub told : unwrap_or (result_ok r) 0 < 10 ^ w
+  pub ok_below : unwrap_or (result_ok r) 0 < 10 ^ w
   pub small : written r + 29 ≤ 29 * 10 ^ w
 
 pub digits-read : (w : ℕ) (s : List ℕ) {r : Result ℕ NotDigits} → length s ≤ w → w ≤ 17 → r ≡ digits_in s → Read w s r
@@ -181,7 +181,7 @@ digits-read w s h l e = rw (e, le-leb (length s) 17 (omega arith)) (go (all is_d
           tested = rw q;
           read = λ _. refl;
           below = λ _. number-below w s h q;
-          told = number-below w s h q;
+          ok_below = number-below w s h q;
           small = rw d at most;
         }
     go false q =
@@ -189,7 +189,7 @@ digits-read w s h l e = rw (e, le-leb (length s) 17 (omega arith)) (go (all is_d
           tested = rw q;
           read = λ d. absurd (false≢true (rw q at d));
           below = λ d. absurd (false≢true (rw q at d));
-          told = tens w;
+          ok_below = tens w;
           small = most;
         }
 
